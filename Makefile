@@ -2,7 +2,7 @@
 #
 #   make              the archive, and the shared library made of it, in LIB
 #   make check        links the example and the worked rows by CC, and runs them
-#   make install      header, archive, shared library, rpki.pc, the page rpki(3)
+#   make install      header, archive, shared library, rpki.pc, the page rpki(3) and one for each call
 #                     [PREFIX=/usr/local] [LIBDIR=PREFIX/lib] [MANDIR=PREFIX/share/man] [DESTDIR=]
 #   make uninstall    removes these, by the same variables
 #   make install-program     in a clone: a program and its page [TOOL=rpkicert or rpkivalid, PROGRAM=where it was built,
@@ -37,7 +37,8 @@ endif
 ARCHIVE := $(LIB)/librpki.a
 SHARED := $(LIB)/librpki.so.$(VERSION)
 INSTALLED := $(DESTDIR)$(LIBDIR)
-PAGE := $(if $(wildcard bindings/page),$(BUILD)/rpki.3,man/rpki.3)
+PAGES := $(if $(wildcard bindings/page),$(BUILD)/man,man)
+PAGE := $(PAGES)/rpki.3
 COMPILE := $(CC) -std=c99 -Wall -Wextra -O1 -Iinclude
 WRAPS := -Wl,--wrap=malloc,--wrap=realloc,--wrap=free
 
@@ -53,8 +54,7 @@ endif
 
 ifneq ($(wildcard bindings/page),)
 $(PAGE): include/rpki.h bindings/page
-	mkdir -p $(BUILD)
-	bindings/page > $@
+	bindings/page $(PAGES)
 endif
 
 # Its names are those that the header declares, and no others.
@@ -81,7 +81,7 @@ check: all
 
 install: all
 	install -d $(DESTDIR)$(INCLUDEDIR) $(INSTALLED)/pkgconfig $(DESTDIR)$(MANDIR)/man3
-	install -m 644 $(PAGE) $(DESTDIR)$(MANDIR)/man3/rpki.3
+	install -m 644 $(PAGES)/*.3 $(DESTDIR)$(MANDIR)/man3
 	install -m 644 include/rpki.h $(DESTDIR)$(INCLUDEDIR)/rpki.h
 	install -m 644 $(ARCHIVE) $(INSTALLED)/librpki.a
 	install -m 755 $(SHARED) $(INSTALLED)/librpki.so.$(VERSION)
@@ -93,7 +93,7 @@ install: all
 uninstall:
 	rm -f $(DESTDIR)$(INCLUDEDIR)/rpki.h $(INSTALLED)/pkgconfig/rpki.pc $(INSTALLED)/librpki.a
 	rm -f $(INSTALLED)/librpki.so $(INSTALLED)/librpki.so.$(MAJOR) $(INSTALLED)/librpki.so.$(VERSION)
-	rm -f $(DESTDIR)$(MANDIR)/man3/rpki.3
+	rm -f $(DESTDIR)$(MANDIR)/man3/rpki.3 $(DESTDIR)$(MANDIR)/man3/rpki_*.3
 
 # `rt run` in the program's crate proves and builds it, tests/gate/unproved.py builds it without proof.
 install-program:

@@ -137,118 +137,105 @@ static void write_providers(unsigned count) {
 /* ---- What is timed ---- */
 
 static bool reads_manifest(size_t *count) {
-    struct rpki_manifest_parts parts;
+    struct rpki_manifest_parts parts = {0};
     *count = 0;
     return rpki_manifest(contents[MANIFEST], sizes[MANIFEST], &parts) == RPKI_OK;
 }
 
 static bool reads_files(size_t *count) {
-    struct rpki_manifest_parts parts;
-    struct rpki_manifest_file_parts file;
-    size_t at;
+    struct rpki_manifest_parts parts = {0};
+    struct rpki_manifest_file_parts file = {0};
     if (rpki_manifest(contents[MANIFEST], sizes[MANIFEST], &parts) != RPKI_OK) return false;
-    for (*count = at = 0; at < parts.files.length; at += file.size, ++*count) {
-        if (rpki_manifest_file(contents[MANIFEST] + parts.files.start + at, parts.files.length - at, &file) !=
-            RPKI_OK) {
-            return false;
-        }
+    for (*count = 0; parts.files.size > 0; ++*count) {
+        if (rpki_manifest_file(&parts.files, &file) != RPKI_OK) return false;
     }
     return true;
 }
 
 static bool reads_origin(size_t *count) {
-    struct rpki_roa_parts parts;
+    struct rpki_roa_parts parts = {0};
     *count = 0;
     return rpki_roa(contents[ORIGIN], sizes[ORIGIN], false, &parts) == RPKI_OK;
 }
 
 static bool reads_prefixes(size_t *count) {
-    struct rpki_roa_parts parts;
+    struct rpki_roa_parts parts = {0};
     struct rpki_roa_address_parts prefix;
     uint8_t family;
     if (rpki_roa(contents[ORIGIN], sizes[ORIGIN], false, &parts) != RPKI_OK) return false;
     for (*count = 0, family = RPKI_IPV4; family <= RPKI_IPV6; family += 2) {
-        struct rpki_place place = family == RPKI_IPV4 ? parts.v4 : parts.v6;
-        size_t at;
-        for (at = 0; at < place.length; at += prefix.size, ++*count) {
-            const uint8_t *octets = contents[ORIGIN] + place.start + at;
-            if (rpki_roa_address(octets, place.length - at, family, &prefix) != RPKI_OK) return false;
+        struct rpki_span rest = family == RPKI_IPV4 ? parts.v4 : parts.v6;
+        for (; rest.size > 0; ++*count) {
+            if (rpki_roa_address(&rest, family, &prefix) != RPKI_OK) return false;
         }
     }
     return true;
 }
 
 static bool reads_aspa(size_t *count) {
-    struct rpki_aspa_parts parts;
+    struct rpki_aspa_parts parts = {0};
     *count = 0;
     return rpki_aspa(contents[PROVIDERS], sizes[PROVIDERS], &parts) == RPKI_OK;
 }
 
 static bool reads_providers(size_t *count) {
-    struct rpki_aspa_parts parts;
-    struct rpki_aspa_provider_parts provider;
-    size_t at;
+    struct rpki_aspa_parts parts = {0};
+    uint32_t provider;
     if (rpki_aspa(contents[PROVIDERS], sizes[PROVIDERS], &parts) != RPKI_OK) return false;
-    for (*count = at = 0; at < parts.providers.length; at += provider.size, ++*count) {
-        const uint8_t *octets = contents[PROVIDERS] + parts.providers.start + at;
-        if (rpki_aspa_provider(octets, parts.providers.length - at, &provider) != RPKI_OK) return false;
+    for (*count = 0; parts.providers.size > 0; ++*count) {
+        if (rpki_aspa_provider(&parts.providers, &provider) != RPKI_OK) return false;
     }
     return true;
 }
 
 static bool plain_reads_manifest(size_t *count) {
-    struct rpki_manifest_parts parts;
+    struct rpki_manifest_parts parts = {0};
     *count = 0;
     return plain_manifest(contents[MANIFEST], sizes[MANIFEST], &parts);
 }
 
 static bool plain_reads_files(size_t *count) {
-    struct rpki_manifest_parts parts;
-    struct rpki_manifest_file_parts file;
-    size_t at;
+    struct rpki_manifest_parts parts = {0};
+    struct rpki_manifest_file_parts file = {0};
     if (!plain_manifest(contents[MANIFEST], sizes[MANIFEST], &parts)) return false;
-    for (*count = at = 0; at < parts.files.length; at += file.size, ++*count) {
-        if (!plain_file(contents[MANIFEST] + parts.files.start + at, parts.files.length - at, &file)) return false;
+    for (*count = 0; parts.files.size > 0; ++*count) {
+        if (!plain_file(&parts.files, &file)) return false;
     }
     return true;
 }
 
 static bool plain_reads_origin(size_t *count) {
-    struct rpki_roa_parts parts;
+    struct rpki_roa_parts parts = {0};
     *count = 0;
     return plain_roa(contents[ORIGIN], sizes[ORIGIN], &parts);
 }
 
 static bool plain_reads_prefixes(size_t *count) {
-    struct rpki_roa_parts parts;
+    struct rpki_roa_parts parts = {0};
     struct rpki_roa_address_parts prefix;
     uint8_t family;
     if (!plain_roa(contents[ORIGIN], sizes[ORIGIN], &parts)) return false;
     for (*count = 0, family = RPKI_IPV4; family <= RPKI_IPV6; family += 2) {
-        struct rpki_place place = family == RPKI_IPV4 ? parts.v4 : parts.v6;
-        size_t at;
-        for (at = 0; at < place.length; at += prefix.size, ++*count) {
-            const uint8_t *octets = contents[ORIGIN] + place.start + at;
-            if (!plain_address(octets, place.length - at, family, &prefix)) return false;
+        struct rpki_span rest = family == RPKI_IPV4 ? parts.v4 : parts.v6;
+        for (; rest.size > 0; ++*count) {
+            if (!plain_address(&rest, family, &prefix)) return false;
         }
     }
     return true;
 }
 
 static bool plain_reads_aspa(size_t *count) {
-    struct rpki_aspa_parts parts;
+    struct rpki_aspa_parts parts = {0};
     *count = 0;
     return plain_aspa(contents[PROVIDERS], sizes[PROVIDERS], &parts);
 }
 
 static bool plain_reads_providers(size_t *count) {
-    struct rpki_aspa_parts parts;
-    struct rpki_aspa_provider_parts provider;
-    size_t at;
+    struct rpki_aspa_parts parts = {0};
+    uint32_t provider;
     if (!plain_aspa(contents[PROVIDERS], sizes[PROVIDERS], &parts)) return false;
-    for (*count = at = 0; at < parts.providers.length; at += provider.size, ++*count) {
-        const uint8_t *octets = contents[PROVIDERS] + parts.providers.start + at;
-        if (!plain_provider(octets, parts.providers.length - at, &provider)) return false;
+    for (*count = 0; parts.providers.size > 0; ++*count) {
+        if (!plain_provider(&parts.providers, &provider)) return false;
     }
     return true;
 }

@@ -67,14 +67,14 @@ static size_t time_plainly(const struct input *input) {
 }
 
 static size_t key_plainly(const struct input *input) {
-    struct rpki_key_parts key;
+    struct rpki_key_parts key = {0};
     return plain_key(input->octets, input->size, &key);
 }
 
 static size_t name_plainly(const struct input *input) { return plain_name(input->octets, input->size); }
 
 static size_t extension_plainly(const struct input *input) {
-    struct rpki_extension_parts parts;
+    struct rpki_extension_parts parts = {0};
     return plain_extension(input->octets, input->size, &parts);
 }
 
@@ -101,7 +101,7 @@ static size_t counted(const struct input *input) {
 }
 
 static size_t signed_data(const struct input *input) {
-    struct rpki_signed_parts parts;
+    struct rpki_signed_parts parts = {0};
     return rpki_signed_data(input->octets, input->size, &parts) == RPKI_OK ? input->found : 0;
 }
 
@@ -116,7 +116,7 @@ static size_t moment(const struct input *input) {
 }
 
 static size_t key(const struct input *input) {
-    struct rpki_key_parts out;
+    struct rpki_key_parts out = {0};
     return rpki_public_key(input->octets, input->size, &out) == RPKI_OK;
 }
 
@@ -125,7 +125,7 @@ static size_t name(const struct input *input) {
 }
 
 static size_t extension(const struct input *input) {
-    struct rpki_extension_parts out;
+    struct rpki_extension_parts out = {0};
     return rpki_extension(input->octets, input->size, &out) == RPKI_OK;
 }
 
@@ -175,7 +175,7 @@ static void find_parts(const struct rpki_entry *entries, size_t count, size_t nu
 /* A whole certificate: its signed data, its index, its serial number, both names, validity, key and each extension. */
 static size_t whole(const struct input *input) {
     size_t count, numbers[PARTS], number;
-    struct rpki_signed_parts parts;
+    struct rpki_signed_parts parts = {0};
     struct rpki_period period;
     struct input each;
     if (rpki_signed_data(input->octets, input->size, &parts) != RPKI_OK) return 0;

@@ -31,11 +31,11 @@ static bool reads(void) { return rpki_crl(octets, size, &parts) == RPKI_OK; }
 static bool searches(void) {
     static const uint8_t serial[20] = {0x11};
     bool found;
-    return rpki_crl_contains(octets + parts.revoked_certs.start, parts.revoked_certs.length, serial, &found) == RPKI_OK;
+    return rpki_crl_contains(parts.revoked_certs.data, parts.revoked_certs.size, serial, &found) == RPKI_OK;
 }
 
 static bool reads_plainly(void) {
-    struct rpki_crl_parts found;
+    struct rpki_crl_parts found = {0};
     return plain_list(octets, size, &found);
 }
 
@@ -56,8 +56,9 @@ static const struct {
 
 static size_t entries(void) {
     struct rpki_revoked_certificate entry;
-    size_t at = parts.revoked_certs.start, end = at + parts.revoked_certs.length, count = 0;
-    for (; at < end && rpki_crl_entry(octets + at, end - at, &entry) == RPKI_OK; at += entry.size) count++;
+    struct rpki_span rest = parts.revoked_certs;
+    size_t count = 0;
+    while (rest.size > 0 && rpki_crl_entry(&rest, &entry) == RPKI_OK) count++;
     return count;
 }
 

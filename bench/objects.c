@@ -30,18 +30,17 @@ static double now(void) {
 static bool reads(void) { return rpki_signed_object(octets, size, false, &parts) == RPKI_OK; }
 
 static bool reads_content(void) {
-    struct rpki_manifest_parts manifest;
-    struct rpki_roa_parts roa;
-    const uint8_t *content = octets + parts.content.start;
-    return rpki_manifest(content, parts.content.length, &manifest) == RPKI_OK ||
-           rpki_roa(content, parts.content.length, false, &roa) == RPKI_OK;
+    struct rpki_manifest_parts manifest = {0};
+    struct rpki_roa_parts roa = {0};
+    return rpki_manifest(parts.content.data, parts.content.size, &manifest) == RPKI_OK ||
+           rpki_roa(parts.content.data, parts.content.size, false, &roa) == RPKI_OK;
 }
 
 static bool reads_plainly(void) {
-    struct rpki_signed_object_parts found;
+    struct rpki_signed_object_parts found = {0};
     struct rpki_certificate_parts certificate;
     return plain_object(octets, size, &found) &&
-           rpki_certificate(octets + found.certificate.start, found.certificate.length, &certificate) == RPKI_OK;
+           rpki_certificate(found.certificate.data, found.certificate.size, &certificate) == RPKI_OK;
 }
 
 static bool reads_by_openssl(void) {

@@ -261,8 +261,8 @@ bool plain_key(const uint8_t *octets, size_t size, struct rpki_key_parts *out) {
     if (bits == bits_end ? out->unused != 0 : out->unused > 7 || (bits_end[-1] & ((1u << out->unused) - 1)) != 0) {
         return false;
     }
-    out->bits.start = (size_t)(bits - octets);
-    out->bits.length = (size_t)(bits_end - bits);
+    out->bits.data = bits;
+    out->bits.size = (size_t)(bits_end - bits);
     return true;
 }
 
@@ -270,8 +270,8 @@ bool plain_extension(const uint8_t *octets, size_t size, struct rpki_extension_p
     const uint8_t *at = octets, *past, *name_end, *flag, *flag_end, *value_end;
     if (!enter(&at, octets + size, 0x30, &past) || past != octets + size) return false;
     if (!enter(&at, past, 0x06, &name_end) || !is_identifier(at, name_end)) return false;
-    out->id.start = (size_t)(at - octets);
-    out->id.length = (size_t)(name_end - at);
+    out->id.data = at;
+    out->id.size = (size_t)(name_end - at);
     out->critical = false;
     flag = name_end;
     if (flag < past && *flag == 0x01) {
@@ -280,8 +280,8 @@ bool plain_extension(const uint8_t *octets, size_t size, struct rpki_extension_p
         flag = flag_end;
     }
     if (!enter(&flag, past, 0x04, &value_end) || value_end != past) return false;
-    out->octets.start = (size_t)(flag - octets);
-    out->octets.length = (size_t)(value_end - flag);
+    out->octets.data = flag;
+    out->octets.size = (size_t)(value_end - flag);
     return true;
 }
 

@@ -36,11 +36,11 @@ bool plain_object(const uint8_t *octets, size_t size, struct rpki_signed_object_
 /* What signed objects contain, and an entry of each, as the calls of the same names read them; a route origin not
  * strictly (plain_contents.c). */
 bool plain_manifest(const uint8_t *octets, size_t size, struct rpki_manifest_parts *out);
-bool plain_file(const uint8_t *octets, size_t size, struct rpki_manifest_file_parts *out);
+bool plain_file(struct rpki_span *rest, struct rpki_manifest_file_parts *out);
 bool plain_roa(const uint8_t *octets, size_t size, struct rpki_roa_parts *out);
-bool plain_address(const uint8_t *octets, size_t size, uint8_t family, struct rpki_roa_address_parts *out);
+bool plain_address(struct rpki_span *rest, uint8_t family, struct rpki_roa_address_parts *out);
 bool plain_aspa(const uint8_t *octets, size_t size, struct rpki_aspa_parts *out);
-bool plain_provider(const uint8_t *octets, size_t size, struct rpki_aspa_provider_parts *out);
+bool plain_provider(struct rpki_span *rest, uint32_t *out);
 
 /* An rsync URI: its parts, with the checks of rpki_rsync_parse and no word of which of them fails. */
 bool plain_rsync(const uint8_t *text, size_t size, struct rpki_rsync_parts *out);

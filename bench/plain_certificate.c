@@ -329,13 +329,13 @@ bool plain_certificate(const uint8_t *octets, size_t size, struct rpki_certifica
     if (!only(all, 0x30, &outer)) return false;
     start = outer.at;
     if (!take(&outer, 0x30, &fields)) return false;
-    parts->data = place_of(octets, start, outer.at);
+    parts->data = span_of(start, outer.at);
     if (size_of(outer) < 15 || memcmp(outer.at, algorithm, 15) != 0) return false;
-    parts->algorithm = place_of(octets, outer.at, outer.at + 15);
+    parts->algorithm = span_of(outer.at, outer.at + 15);
     parts->has_parameters = true;
     outer.at += 15;
     if (!only(outer, 0x03, &bits) || bits.at == bits.past || *bits.at != 0) return false;
-    parts->signature = place_of(octets, bits.at + 1, bits.past);
+    parts->signature = span_of(bits.at + 1, bits.past);
     if (size_of(fields) < 5 || memcmp(fields.at, version, 5) != 0) return false;
     start = fields.at += 5;
     if (!take(&fields, 0x02, &number)) return false;
@@ -344,7 +344,7 @@ bool plain_certificate(const uint8_t *octets, size_t size, struct rpki_certifica
     if (positive == 0 || size_of(fields) < 15 || memcmp(fields.at, algorithm, 15) != 0) return false;
     start = fields.at += 15;
     if (!take(&fields, 0x30, &number) || !plain_name(start, (size_t)(fields.at - start))) return false;
-    parts->issuer = place_of(octets, start, fields.at);
+    parts->issuer = span_of(start, fields.at);
     if (!take(&fields, 0x30, &period) || period.at == period.past) return false;
     start = period.at;
     if (!take(&period, *start, &time)) return false;
@@ -353,20 +353,20 @@ bool plain_certificate(const uint8_t *octets, size_t size, struct rpki_certifica
     if (parts->validity.not_before.seconds > parts->validity.not_after.seconds) return false;
     start = fields.at;
     if (!take(&fields, 0x30, &number) || !plain_name(start, (size_t)(fields.at - start))) return false;
-    parts->subject = place_of(octets, start, fields.at);
+    parts->subject = span_of(start, fields.at);
     start = fields.at;
     if (!take(&fields, 0x30, &key) || !plain_key(start, (size_t)(fields.at - start), &key_parts)) return false;
-    parts->public_key = place_of(octets, start, fields.at);
+    parts->public_key = span_of(start, fields.at);
     parts->key_format = key_parts.format;
     parts->key_unused = key_parts.unused;
     if (key_parts.format != RPKI_RSA || key_parts.unused != 0) return false;
-    bits = (struct part){start + key_parts.bits.start, start + key_parts.bits.start + key_parts.bits.length};
+    bits = (struct part){key_parts.bits.data, key_parts.bits.data + key_parts.bits.size};
     if (!only(bits, 0x30, &numbers) || !take(&numbers, 0x02, &number)) return false;
     if (size_of(number) != 257 || number.at[0] != 0 || number.at[1] < 0x80 || !only(numbers, 0x02, &number))
         return false;
     if (!is(number, exponent, 3)) return false;
     if (!only(fields, 0xA3, &outer) || !only(outer, 0x30, &list) || !read_extensions(list, &extensions)) return false;
-    parts->extensions = place_of(octets, list.at, list.past);
+    parts->extensions = span_of(list.at, list.past);
     if (!identifier(&extensions, SUBJECT, subject, 2, known->subject_key)) return false;
     if (!identifier(&extensions, AUTHORITY, authority, 4, known->authority_key)) return false;
     if (!extensions.is_there[POLICY] || !extensions.critical[POLICY]) return false;
@@ -374,9 +374,9 @@ bool plain_certificate(const uint8_t *octets, size_t size, struct rpki_certifica
     known->is_ca = true;
     known->usage = 1;
     for (place = 0; place < KNOWN; place++) {
-        each[place] = (struct rpki_known_extension){{0, 0}, extensions.is_there[place], extensions.critical[place]};
+        each[place] = (struct rpki_known_extension){{NULL, 0}, extensions.is_there[place], extensions.critical[place]};
         if (extensions.is_there[place]) {
-            each[place].octets = place_of(octets, extensions.found[place].at, extensions.found[place].past);
+            each[place].octets = span_of(extensions.found[place].at, extensions.found[place].past);
         }
     }
     return known->policy != 0 && is_authority(&extensions, known->policy);

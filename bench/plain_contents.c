@@ -35,14 +35,14 @@ static bool is_name(struct part name) {
     return true;
 }
 
-bool plain_file(const uint8_t *octets, size_t size, struct rpki_manifest_file_parts *out) {
-    struct part all = {octets, octets + size}, file, name, bits;
+bool plain_file(struct rpki_span *rest, struct rpki_manifest_file_parts *out) {
+    struct part all = {rest->data, rest->data + rest->size}, file, name, bits;
     if (!take(&all, 0x30, &file) || !take(&file, 0x16, &name) || !is_name(name) || !only(file, 0x03, &bits))
         return false;
     if (size_of(bits) != 33 || *bits.at != 0) return false;
-    out->name = place_of(octets, name.at, name.past);
-    out->size = (size_t)(all.at - octets);
+    out->name = span_of(name.at, name.past);
     memcpy(out->digest, bits.at + 1, 32);
+    *rest = span_of(all.at, all.past);
     return true;
 }
 
@@ -56,6 +56,7 @@ bool plain_manifest(const uint8_t *octets, size_t size, struct rpki_manifest_par
     static const uint8_t digest[] = {0x60, 0x86, 0x48, 0x01, 0x65, 0x03, 0x04, 0x02, 0x01};
     struct part all = {octets, octets + size}, fields, number, id, list;
     struct rpki_manifest_file_parts file;
+    struct rpki_span rest;
     const uint8_t *start;
     if (!only(all, 0x30, &fields)) return false;
     start = fields.at;
@@ -64,18 +65,17 @@ bool plain_manifest(const uint8_t *octets, size_t size, struct rpki_manifest_par
     }
     if (!take_generalized(&fields, &out->this_update) || !take_generalized(&fields, &out->next_update)) return false;
     if (!take(&fields, 0x06, &id) || !is(id, digest, sizeof digest) || !only(fields, 0x30, &list)) return false;
-    out->files = place_of(octets, list.at, list.past);
-    for (out->count = 0; list.at < list.past; out->count++) {
-        if (!plain_file(list.at, size_of(list), &file)) return false;
-        list.at += file.size;
+    rest = out->files = span_of(list.at, list.past);
+    for (out->count = 0; rest.size > 0; out->count++) {
+        if (!plain_file(&rest, &file)) return false;
     }
     return out->this_update.seconds < out->next_update.seconds;
 }
 
 /* ---- Route origins ---- */
 
-bool plain_address(const uint8_t *octets, size_t size, uint8_t family, struct rpki_roa_address_parts *out) {
-    struct part all = {octets, octets + size}, address, bits;
+bool plain_address(struct rpki_span *rest, uint8_t family, struct rpki_roa_address_parts *out) {
+    struct part all = {rest->data, rest->data + rest->size}, address, bits;
     unsigned most = family == RPKI_IPV4 ? 32 : 128, unused, count;
     uint32_t number;
     if (!take(&all, 0x30, &address) || !take(&address, 0x03, &bits) || bits.at == bits.past) return false;
@@ -93,16 +93,15 @@ bool plain_address(const uint8_t *octets, size_t size, uint8_t family, struct rp
             return false;
         out->max_length = (uint8_t)number;
     }
-    out->size = (size_t)(all.at - octets);
+    *rest = span_of(all.at, all.past);
     return true;
 }
 
-static bool are_addresses(struct part list, uint8_t family, size_t *count) {
+static bool are_addresses(struct rpki_span rest, uint8_t family, size_t *count) {
     struct rpki_roa_address_parts address;
-    if (list.at == list.past) return false;
-    for (*count = 0; list.at < list.past; ++*count) {
-        if (!plain_address(list.at, size_of(list), family, &address)) return false;
-        list.at += address.size;
+    if (rest.size == 0) return false;
+    for (*count = 0; rest.size > 0; ++*count) {
+        if (!plain_address(&rest, family, &address)) return false;
     }
     return true;
 }
@@ -110,18 +109,18 @@ static bool are_addresses(struct part list, uint8_t family, size_t *count) {
 bool plain_roa(const uint8_t *octets, size_t size, struct rpki_roa_parts *out) {
     struct part all = {octets, octets + size}, fields, blocks, block, family, list;
     if (!only(all, 0x30, &fields) || !take_number(&fields, &out->as_id) || !only(fields, 0x30, &blocks)) return false;
-    out->v4 = out->v6 = place_of(octets, blocks.past, blocks.past);
+    out->v4 = out->v6 = span_of(blocks.past, blocks.past);
     out->v4_count = out->v6_count = 0;
     if (blocks.at == blocks.past) return false;
     while (blocks.at < blocks.past) {
         if (!take(&blocks, 0x30, &block) || !take(&block, 0x04, &family) || !only(block, 0x30, &list)) return false;
         if (size_of(family) != 2 || family.at[0] != 0) return false;
         if (family.at[1] == 1 && out->v4_count == 0) {
-            if (!are_addresses(list, RPKI_IPV4, &out->v4_count)) return false;
-            out->v4 = place_of(octets, list.at, list.past);
+            out->v4 = span_of(list.at, list.past);
+            if (!are_addresses(out->v4, RPKI_IPV4, &out->v4_count)) return false;
         } else if (family.at[1] == 2 && out->v6_count == 0) {
-            if (!are_addresses(list, RPKI_IPV6, &out->v6_count)) return false;
-            out->v6 = place_of(octets, list.at, list.past);
+            out->v6 = span_of(list.at, list.past);
+            if (!are_addresses(out->v6, RPKI_IPV6, &out->v6_count)) return false;
         } else {
             return false;
         }
@@ -131,10 +130,10 @@ bool plain_roa(const uint8_t *octets, size_t size, struct rpki_roa_parts *out) {
 
 /* ---- Providers ---- */
 
-bool plain_provider(const uint8_t *octets, size_t size, struct rpki_aspa_provider_parts *out) {
-    struct part all = {octets, octets + size};
-    if (!take_number(&all, &out->number)) return false;
-    out->size = (size_t)(all.at - octets);
+bool plain_provider(struct rpki_span *rest, uint32_t *out) {
+    struct part all = {rest->data, rest->data + rest->size};
+    if (!take_number(&all, out)) return false;
+    *rest = span_of(all.at, all.past);
     return true;
 }
 
@@ -144,7 +143,7 @@ bool plain_aspa(const uint8_t *octets, size_t size, struct rpki_aspa_parts *out)
     uint32_t number, before = 0;
     if (!only(all, 0x30, &fields) || !take(&fields, 0xA0, &version) || !is(version, one, 3)) return false;
     if (!take_number(&fields, &out->customer) || !only(fields, 0x30, &list) || list.at == list.past) return false;
-    out->providers = place_of(octets, list.at, list.past);
+    out->providers = span_of(list.at, list.past);
     for (out->count = 0; list.at < list.past; out->count++) {
         if (!take_number(&list, &number) || number == out->customer) return false;
         if (out->count > 0 && number <= before) return false;

@@ -77,22 +77,22 @@ bool plain_list(const uint8_t *octets, size_t size, struct rpki_crl_parts *out) 
     if (!only(all, 0x30, &outer)) return false;
     start = outer.at;
     if (!take(&outer, 0x30, &fields)) return false;
-    out->data = place_of(octets, start, outer.at);
+    out->data = span_of(start, outer.at);
     start = outer.at;
     if (!skip(&outer, ALGORITHM, sizeof ALGORITHM)) return false;
-    out->algorithm = place_of(octets, start, outer.at);
+    out->algorithm = span_of(start, outer.at);
     out->has_parameters = true;
     if (!only(outer, 0x03, &bits) || bits.at == bits.past || *bits.at != 0) return false;
-    out->signature = place_of(octets, bits.at + 1, bits.past);
+    out->signature = span_of(bits.at + 1, bits.past);
     if (!skip(&fields, version, 3) || !skip(&fields, ALGORITHM, sizeof ALGORITHM)) return false;
     start = fields.at;
     if (!take(&fields, 0x30, &list) || !plain_name(start, (size_t)(fields.at - start))) return false;
-    out->issuer = place_of(octets, start, fields.at);
+    out->issuer = span_of(start, fields.at);
     if (!take_time(&fields, &out->this_update) || !take_time(&fields, &out->next_update)) return false;
-    out->revoked_certs = place_of(octets, fields.at, fields.at);
+    out->revoked_certs = span_of(fields.at, fields.at);
     if (fields.at < fields.past && *fields.at == 0x30) {
         if (!take(&fields, 0x30, &list) || !are_entries(list)) return false;
-        out->revoked_certs = place_of(octets, list.at, list.past);
+        out->revoked_certs = span_of(list.at, list.past);
     }
     return only(fields, 0xA0, &outer) && only(outer, 0x30, &list) && read_extensions(list, out);
 }
@@ -136,21 +136,21 @@ bool plain_object(const uint8_t *octets, size_t size, struct rpki_signed_object_
     if (!only(data, 0x30, &data) || !skip(&data, three, 3) || !take(&data, 0x31, &set)) return false;
     if (!is(set, digest, sizeof digest) || !take(&data, 0x30, &content) || !take(&content, 0x06, &id)) return false;
     if (!only(content, 0xA0, &wrapped) || !only(wrapped, 0x04, &found)) return false;
-    out->content_type = place_of(octets, id.at, id.past);
-    out->content = place_of(octets, found.at, found.past);
+    out->content_type = span_of(id.at, id.past);
+    out->content = span_of(found.at, found.past);
     if (!take(&data, 0xA0, &found) || size_of(found) == 0) return false;
-    out->certificate = place_of(octets, found.at, found.past);
+    out->certificate = span_of(found.at, found.past);
     if (!only(found, 0x30, &found) || !only(data, 0x31, &signers) || !only(signers, 0x30, &signer)) return false;
     if (!skip(&signer, three, 3) || !take(&signer, 0x80, &found) || size_of(found) != 20) return false;
     memcpy(out->signer_identifier, found.at, 20);
     if (!skip(&signer, digest, sizeof digest)) return false;
     start = signer.at;
     if (!take(&signer, 0xA0, &attributes)) return false;
-    out->signed_attributes = place_of(octets, start, signer.at);
+    out->signed_attributes = span_of(start, signer.at);
     if (!read_attributes(attributes, id, out)) return false;
     if (!skip(&signer, RSA, sizeof RSA) && !skip(&signer, ALGORITHM, sizeof ALGORITHM)) return false;
     out->has_parameters = true;
     if (!only(signer, 0x04, &found)) return false;
-    out->signature = place_of(octets, found.at, found.past);
+    out->signature = span_of(found.at, found.past);
     return true;
 }

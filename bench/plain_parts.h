@@ -42,8 +42,8 @@ static inline bool is(struct part part, const void *octets, size_t size) {
 
 static inline size_t size_of(struct part part) { return (size_t)(part.past - part.at); }
 
-static inline struct rpki_place place_of(const uint8_t *octets, const uint8_t *at, const uint8_t *past) {
-    return (struct rpki_place){(size_t)(at - octets), (size_t)(past - at)};
+static inline struct rpki_span span_of(const uint8_t *at, const uint8_t *past) {
+    return (struct rpki_span){at, (size_t)(past - at)};
 }
 
 #endif

@@ -3,8 +3,10 @@
  *
  * Each call below is proved: its contract stands in crates/rpki_c/src, and docs/PROVED.md lists it. A call reads octets
  * of the caller's, returns a status, and where the status is 0 (RPKI_OK) writes what it found to `out`. Nothing is kept
- * from call to call, nothing has to be freed, and no call writes to its input. Parts of the input are told as places
- * (struct rpki_place): where they start, counted from the first octet that was passed, and how many octets they have.
+ * from call to call, nothing has to be freed, and no call writes to its input. Parts of the input are handed out as
+ * spans (struct rpki_span), a pointer into it and a size; those of URIs, which are passed in again beside the text, as
+ * places (struct rpki_place): where they start, counted from the first octet of the text, and how many octets they
+ * have.
  *
  * Where the status is not 0, `out` is left as it was; only `*count` and `*written` of the calls that say so are written
  * with RPKI_TOO_SMALL too, `*at` of rpki_base64_read with RPKI_INVALID_SYMBOL to RPKI_INVALID_PADDING, and `*error` of
@@ -12,20 +14,24 @@
  *
  * What a call takes of memory it frees before it returns. At the peak rpki_walk, rpki_index, rpki_fault and
  * rpki_signed_data take up to 24 octets for each level of nesting, and 64 more. rpki_signed_data_write and
- * rpki_signed_data_make take that, and once it is freed as many octets as they write. The others that write values, and
- * rpki_base64_read of more than 128 octets, take up to two octets for each that they read or write, and 512 more. All
- * others take none (those on names, certificates and resources, rpki_hex, rpki_base64_write, rpki_serial_decimal, those
- * that count times on, and the calls on URIs too), and so never return RPKI_OUT_OF_MEMORY.
+ * rpki_signed_data_make take that, and once it is freed as many octets as they write. The others that write values take
+ * up to two octets for each that they read or write, and 512 more; rpki_base64_read of more than 128 octets takes up to
+ * three for each that it reads, and 512 more. rpki_ip_settle, rpki_as_settle and rpki_roa_is_within take up to 192
+ * octets for each block and prefix that they read or write, and 1,024 more. All others take none (those on names and
+ * certificates, the others on resources, rpki_hex, rpki_base64_write, rpki_serial_decimal, those that count times on,
+ * and the calls on URIs too), and so never return RPKI_OUT_OF_MEMORY.
  * So bound the size of what strangers send before you hand it in.
  *
  * What the caller owes, which no call can check:
- *  - A pointer and the size after it are octets that may be read, fewer than 2^63, and that nobody writes to during the
- *    call. Only read-only data is needed: they may be in constant memory or in a mapped file. A pointer and the
- *    capacity after it are so many entries or octets that may be written, fewer than 2^63 octets in all, of one object.
+ *  - A pointer and the size after it, as in a span, are octets that may be read, fewer than 2^63, and that nobody
+ *    writes to during the call. Only read-only data is needed: they may be in constant memory or in a mapped file. A
+ *    pointer and the capacity after it are so many entries or octets that may be written, fewer than 2^63 octets in
+ *    all, of one object.
  *  - A pointer may be NULL only where the size or the capacity after it is 0. (The proofs speak of pointers that are
  *    not NULL. With NULL and 0 each compiled call does what it does with another pointer and 0, which is tested.)
  *  - `out`, and each other parameter that is written, is aligned for its type and is inside neither the octets that are
- *    read nor another parameter. It need not be initialised.
+ *    read nor another parameter. It need not be initialised, unless it has spans: then it is zeroed before, or was
+ *    filled by a call.
  *  - malloc, realloc and free are of one allocator, and align a block to each power of two up to 16 that divides its
  *    size. Calls are not made from a signal handler, or between fork and exec of a process with threads.
  *
@@ -118,8 +124,7 @@ enum {
     RPKI_OTHER_ALGORITHM = 13, /* an algorithm identifier, but of none of the algorithms that the call reads */
     RPKI_OTHER_PARTS = 14,     /* the places are not laid out as those of the parts of a text of this size: the first
                                   part begins right after the scheme and the slashes, each other one an octet after the
-                                  one before, or in an https URI right after it, and the last ends with the text; of
-                                  rpki_take: the part is not inside the octets */
+                                  one before, or in an https URI right after it, and the last ends with the text */
     RPKI_TOO_LONG = 15,        /* what is written would have contents of 2^32 octets or more, or numbers have more
                                   octets than a key may have, or an arc more than rpki_oid_text writes */
 
@@ -136,6 +141,19 @@ enum {
     /* Of rpki_verify. */
     RPKI_KEY_NOT_ACCEPTED = 52, /* a public key, but none that signatures are verified by */
     RPKI_BAD_SIGNATURE = 53,    /* the signature is not one of the message by the key */
+
+    /* Of the calls that decide, which name them. */
+    RPKI_OTHER_DIGEST = 54,    /* the digest by SHA-256 is not the one that is said */
+    RPKI_OTHER_TYPE = 55,      /* the type of a content is not the one that is signed (RFC 5652 11.1) */
+    RPKI_OTHER_SIGNER = 56,    /* a certificate's subject key identifier is not that of the signer (RFC 6488 3) */
+    RPKI_OTHER_KEY = 57,       /* a certificate's subject key identifier is not that of its own key (RFC 6487 4.8.2) */
+    RPKI_OTHER_RESOURCES = 58, /* resources that the issuer, or the signer, does not have (RFC 6487 7.2, RFC 9582 5) */
+    RPKI_NOT_INHERITED = 59,   /* a manifest's certificate has resources of its own (RFC 9286 5.1) */
+    RPKI_OTHER_ANCHOR = 60,    /* a certificate's key is not that of the locator (RFC 8630 3) */
+    RPKI_OTHER_KINDS = 61,     /* a signer's certificate lists other kinds of resources than it has to (RFC 9582 5) */
+
+    /* The parts below are tested in the order of their numbers, but where a call says another; a part is also what
+       follows a SEQUENCE that is to be all, or the last. So octets behind the whole come before all that is inside. */
 
     /* Of rpki_certificate, and of rpki_crl, which has none of 70, 73 to 75, 77 and 78: the part that is wrong. */
     RPKI_PART_CERTIFICATE = 64,     /* the SEQUENCE around all: it isn't there, or something follows it */
@@ -288,7 +306,23 @@ typedef uint8_t rpki_status;
 
 /* ---- Structs ---- */
 
-/* A part of the octets that were passed: octets[start] to octets[start + length - 1], all of them inside. */
+/*
+ * A part of the octets that were passed: data[0] to data[size - 1], all of them inside. It lasts as long as those
+ * octets do. Where `size` is 0, `data` is not to be read, and may point elsewhere.
+ *
+ * A call with a parameter `rest` takes the value at the front of that span: `rest` becomes what follows the value,
+ * which is not looked at. Where the status is not RPKI_OK it stays. So all entries of a list are read by
+ *
+ *     for (rest = manifest.files; rest.size > 0;) {
+ *         if (rpki_manifest_file(&rest, &file) != RPKI_OK) ...
+ *     }
+ */
+struct rpki_span {
+    const uint8_t *data;
+    size_t size;
+};
+
+/* A part of the text or of the octets that were passed: text[start] to text[start + length - 1], all of them inside. */
 struct rpki_place {
     size_t start;
     size_t length;
@@ -348,11 +382,11 @@ struct rpki_entry {
 
 /* The parts of signed data (RFC 5280 4.1), as of a certificate or a revocation list. */
 struct rpki_signed_parts {
-    struct rpki_place data;      /* what is signed: one value, its header included */
-    struct rpki_place algorithm; /* the algorithm identifier, its header included */
-    struct rpki_place signature; /* the octets of the signature's bits */
-    uint8_t unused;              /* how many bits of the last of them are unused: 0 to 7, and they are zero */
-    bool has_parameters;         /* whether the algorithm identifier has parameters, a NULL */
+    struct rpki_span data;      /* what is signed: one value, its header included */
+    struct rpki_span algorithm; /* the algorithm identifier, its header included */
+    struct rpki_span signature; /* the octets of the signature's bits */
+    uint8_t unused;             /* how many bits of the last of them are unused: 0 to 7, and they are zero */
+    bool has_parameters;        /* whether the algorithm identifier has parameters, a NULL */
 };
 
 /* Formats of public keys. */
@@ -363,9 +397,9 @@ enum {
 
 /* The parts of a public key (RFC 5280 4.1.2.7). */
 struct rpki_key_parts {
-    uint8_t format;         /* RPKI_RSA or RPKI_ECDSA_P256 */
-    uint8_t unused;         /* how many bits of the last octet are unused: 0 to 7, and they are zero */
-    struct rpki_place bits; /* the octets of the key's bits, without the count of unused bits before them */
+    uint8_t format;        /* RPKI_RSA or RPKI_ECDSA_P256 */
+    uint8_t unused;        /* how many bits of the last octet are unused: 0 to 7, and they are zero */
+    struct rpki_span bits; /* the octets of the key's bits, without the count of unused bits before them */
 };
 
 /* Profiles of names. */
@@ -402,9 +436,9 @@ struct rpki_period {
 
 /* The parts of an extension of a certificate (RFC 5280 4.1). */
 struct rpki_extension_parts {
-    struct rpki_place id;     /* the contents octets of its object identifier */
-    struct rpki_place octets; /* the contents octets of its OCTET STRING */
-    bool critical;            /* false where there is no BOOLEAN */
+    struct rpki_span id;     /* the contents octets of its object identifier */
+    struct rpki_span octets; /* the contents octets of its OCTET STRING */
+    bool critical;           /* false where there is no BOOLEAN */
 };
 
 /* How many extensions of a certificate rpki_certificate compares with one another at most. */
@@ -412,18 +446,18 @@ struct rpki_extension_parts {
 
 /* The parts of a certificate (RFC 5280 4.1). Names and the key have their headers, for the calls that read them. */
 struct rpki_certificate_parts {
-    struct rpki_place data;       /* what is signed: a SEQUENCE, its header included */
-    struct rpki_place algorithm;  /* the algorithm identifier behind it, its header included */
-    struct rpki_place signature;  /* the octets of the signature's bits */
-    struct rpki_place issuer;     /* the issuer's name, its header included */
-    struct rpki_place subject;    /* the subject's name, its header included */
-    struct rpki_place public_key; /* the subject's key, its header included */
-    struct rpki_place extensions; /* the extensions, one after another, each with its header */
-    struct rpki_period validity;  /* the period of validity */
-    uint8_t serial_number[20];    /* the serial number, with zeros in front */
-    uint8_t key_format;           /* RPKI_RSA or RPKI_ECDSA_P256 */
-    uint8_t key_unused;           /* how many bits of the key's last octet are unused: 0 to 7 */
-    bool has_parameters;          /* whether the algorithm identifiers have parameters, a NULL */
+    struct rpki_span data;       /* what is signed: a SEQUENCE, its header included */
+    struct rpki_span algorithm;  /* the algorithm identifier behind it, its header included */
+    struct rpki_span signature;  /* the octets of the signature's bits */
+    struct rpki_span issuer;     /* the issuer's name, its header included */
+    struct rpki_span subject;    /* the subject's name, its header included */
+    struct rpki_span public_key; /* the subject's key, its header included */
+    struct rpki_span extensions; /* the extensions, one after another, each with its header */
+    struct rpki_period validity; /* the period of validity */
+    uint8_t serial_number[20];   /* the serial number, with zeros in front */
+    uint8_t key_format;          /* RPKI_RSA or RPKI_ECDSA_P256 */
+    uint8_t key_unused;          /* how many bits of the key's last octet are unused: 0 to 7 */
+    bool has_parameters;         /* whether the algorithm identifiers have parameters, a NULL */
 };
 
 /* The extensions of certificates of the RPKI (RFC 6487 4.8, RFC 8360 4.2), in the order of rpki_known_extensions. */
@@ -445,9 +479,9 @@ enum {
 
 /* An extension of a certificate, or that there is none. */
 struct rpki_known_extension {
-    struct rpki_place octets; /* the contents octets of its OCTET STRING; of length 0 where it isn't there */
-    bool is_there;            /* whether the extension is there */
-    bool critical;            /* whether it is critical; false where it isn't there */
+    struct rpki_span octets; /* the contents octets of its OCTET STRING; of size 0 where it isn't there */
+    bool is_there;           /* whether the extension is there */
+    bool critical;           /* whether it is critical; false where it isn't there */
 };
 
 /* What a key may be used for (RFC 6487 4.8.4). */
@@ -498,31 +532,29 @@ enum {
 
 /* The parts of an access description (RFC 5280 4.2.2.1). */
 struct rpki_access_parts {
-    struct rpki_place id;  /* the contents octets of the object identifier of its method */
-    struct rpki_place uri; /* the text of the URI that says where; of length 0 where the name is of another form */
-    size_t size;           /* how many octets the description has, its header included */
-    uint8_t method;        /* RPKI_ACCESS_OTHER to RPKI_ACCESS_RPKI_NOTIFY */
-    bool is_uri;           /* whether the name is a URI */
+    struct rpki_span id;  /* the contents octets of the object identifier of its method */
+    struct rpki_span uri; /* the text of the URI that says where; of size 0 where the name is of another form */
+    uint8_t method;       /* RPKI_ACCESS_OTHER to RPKI_ACCESS_RPKI_NOTIFY */
+    bool is_uri;          /* whether the name is a URI */
 };
 
 /* A general name (RFC 5280 4.2.1.6). */
 struct rpki_general_name_parts {
-    struct rpki_place uri; /* the text of the URI; of length 0 where the name is of another form */
-    size_t size;           /* how many octets the name has, its header included */
-    bool is_uri;           /* whether the name is a URI */
+    struct rpki_span uri; /* the text of the URI; of size 0 where the name is of another form */
+    bool is_uri;          /* whether the name is a URI */
 };
 
 /* The parts of a revocation list (RFC 5280 5.1). The name has its header, for the calls that read names. */
 struct rpki_crl_parts {
-    struct rpki_place data;          /* what is signed: a SEQUENCE, its header included */
-    struct rpki_place algorithm;     /* the algorithm identifier behind it, its header included */
-    struct rpki_place signature;     /* the octets of the signature's bits */
-    struct rpki_place issuer;        /* the issuer's name, its header included */
-    struct rpki_place revoked_certs; /* the certificates that are revoked, one after another, each with its header; of
-                                        length 0 where there are none, or the list of them is left out */
-    struct rpki_moment this_update;  /* when the list was issued */
-    struct rpki_moment next_update;  /* when the next list is issued at the latest */
-    uint8_t crl_number[20];          /* the number of the list, with zeros in front (RFC 5280 5.2.3) */
+    struct rpki_span data;          /* what is signed: a SEQUENCE, its header included */
+    struct rpki_span algorithm;     /* the algorithm identifier behind it, its header included */
+    struct rpki_span signature;     /* the octets of the signature's bits */
+    struct rpki_span issuer;        /* the issuer's name, its header included */
+    struct rpki_span revoked_certs; /* the certificates that are revoked, one after another, each with its header; of
+                                       size 0 where there are none, or the list of them is left out */
+    struct rpki_moment this_update; /* when the list was issued */
+    struct rpki_moment next_update; /* when the next list is issued at the latest */
+    uint8_t crl_number[20];         /* the number of the list, with zeros in front (RFC 5280 5.2.3) */
     uint8_t authority_key_identifier[20]; /* the identifier of the key that signed the list (RFC 5280 5.2.1) */
     bool has_parameters;                  /* whether the algorithm identifiers have parameters, a NULL */
 };
@@ -531,22 +563,21 @@ struct rpki_crl_parts {
 struct rpki_revoked_certificate {
     uint8_t serial_number[20];          /* the serial number, with zeros in front */
     struct rpki_moment revocation_date; /* when it was revoked */
-    size_t size;                        /* how many octets the entry has, its header included */
 };
 
 /* The parts of a signed object (RFC 5652 3, 5; RFC 6488 2). */
 struct rpki_signed_object_parts {
-    struct rpki_place content_type;      /* the type of the content: the contents octets of its object identifier */
-    struct rpki_place content;           /* the octets of the content */
-    struct rpki_place certificate;       /* the signer's certificate, its header included */
-    struct rpki_place signed_attributes; /* the signed attributes, their header included: what is signed are these
-                                            octets, but with 0x31 in place of the first (RFC 5652 5.4) */
-    struct rpki_place signature;         /* the octets of the signature */
-    struct rpki_moment signing_time;     /* when the attributes were signed, where has_signing_time; else zeros */
-    uint64_t binary_signing_time;        /* the same in seconds since 1970, where has_binary_signing_time; else 0 */
-    uint8_t message_digest[32];          /* the digest of the content, by SHA-256, that is signed */
-    uint8_t signer_identifier[20];       /* the identifier of the signer's key */
-    bool is_type_signed;                 /* whether the type of the content is the one that is signed */
+    struct rpki_span content_type;      /* the type of the content: the contents octets of its object identifier */
+    struct rpki_span content;           /* the octets of the content */
+    struct rpki_span certificate;       /* the signer's certificate, its header included */
+    struct rpki_span signed_attributes; /* the signed attributes, their header included: what is signed are these
+                                           octets, but with 0x31 in place of the first (RFC 5652 5.4) */
+    struct rpki_span signature;         /* the octets of the signature */
+    struct rpki_moment signing_time;    /* when the attributes were signed, where has_signing_time; else zeros */
+    uint64_t binary_signing_time;       /* the same in seconds since 1970, where has_binary_signing_time; else 0 */
+    uint8_t message_digest[32];         /* the digest of the content, by SHA-256, that is signed */
+    uint8_t signer_identifier[20];      /* the identifier of the signer's key */
+    bool is_type_signed;                /* whether the type of the content is the one that is signed */
     bool has_signing_time;
     bool has_binary_signing_time;
     bool has_parameters; /* whether the algorithm of the signature has parameters, a NULL */
@@ -554,7 +585,7 @@ struct rpki_signed_object_parts {
 
 /* The parts of a manifest (RFC 9286 4.2). */
 struct rpki_manifest_parts {
-    struct rpki_place files;        /* the files, one after another, each with its header; of length 0 if none */
+    struct rpki_span files;         /* the files, one after another, each with its header; of size 0 if none */
     size_t count;                   /* how many files there are */
     struct rpki_moment this_update; /* when the manifest was issued */
     struct rpki_moment next_update; /* when the next manifest is issued at the latest */
@@ -563,24 +594,22 @@ struct rpki_manifest_parts {
 
 /* A file that a manifest lists (RFC 9286 4.2.1). */
 struct rpki_manifest_file_parts {
-    struct rpki_place name; /* the octets of its name, which are ASCII characters */
-    size_t size;            /* how many octets the entry has, its header included */
-    uint8_t digest[32];     /* the digest of the file, by SHA-256 */
+    struct rpki_span name; /* the octets of its name, which are ASCII characters */
+    uint8_t digest[32];    /* the digest of the file, by SHA-256 */
 };
 
 /* The parts of a route origin attestation (RFC 9582 4). */
 struct rpki_roa_parts {
-    struct rpki_place v4; /* the prefixes of IPv4, one after another, each with its header; of length 0 if none */
-    struct rpki_place v6; /* those of IPv6 */
-    size_t v4_count;      /* how many prefixes of IPv4 there are */
-    size_t v6_count;      /* how many prefixes of IPv6 there are */
-    uint32_t as_id;       /* the AS number that may announce them */
+    struct rpki_span v4; /* the prefixes of IPv4, one after another, each with its header; of size 0 if none */
+    struct rpki_span v6; /* those of IPv6 */
+    size_t v4_count;     /* how many prefixes of IPv4 there are */
+    size_t v6_count;     /* how many prefixes of IPv6 there are */
+    uint32_t as_id;      /* the AS number that may announce them */
 };
 
 /* A prefix of a route origin attestation (RFC 9582 4.3.2). */
 struct rpki_roa_address_parts {
     uint8_t address[16]; /* the lowest address; behind the four octets of IPv4 stand zeros */
-    size_t size;         /* how many octets the entry has, its header included */
     uint8_t length;      /* how many bits the prefix has */
     uint8_t max_length;  /* how many bits a prefix in it that is announced may have: `length` unless has_max_length */
     bool has_max_length; /* whether the maximum length is there; it may be `length` all the same */
@@ -588,15 +617,20 @@ struct rpki_roa_address_parts {
 
 /* The parts of an attestation of providers (draft-ietf-sidrops-aspa-profile, version 1). */
 struct rpki_aspa_parts {
-    struct rpki_place providers; /* the providers, one after another, each with its header */
-    size_t count;                /* how many providers there are */
-    uint32_t customer;           /* the AS number of the customer */
+    struct rpki_span providers; /* the providers, one after another, each with its header */
+    size_t count;               /* how many providers there are */
+    uint32_t customer;          /* the AS number of the customer */
 };
 
-/* A provider. */
-struct rpki_aspa_provider_parts {
-    size_t size;     /* how many octets the entry has, its header included */
-    uint32_t number; /* its AS number */
+/* Types of what signed objects contain, by rpki_content_type. */
+enum {
+    RPKI_TYPE_OTHER = 0,            /* none of these */
+    RPKI_TYPE_ROA = 1,              /* route origin attestations (RFC 9582 3) */
+    RPKI_TYPE_MANIFEST = 2,         /* manifests (RFC 9286 4.1) */
+    RPKI_TYPE_ASPA = 3,             /* attestations of providers (draft-ietf-sidrops-aspa-profile) */
+    RPKI_TYPE_GHOSTBUSTERS = 4,     /* contacts (RFC 6493 6) */
+    RPKI_TYPE_CHECKLIST = 5,        /* signed checklists (RFC 9323 3) */
+    RPKI_TYPE_TRUST_ANCHOR_KEYS = 6 /* keys of trust anchors (RFC 9691 4) */
 };
 
 /* Families of addresses, by the version of IP. */
@@ -641,19 +675,31 @@ struct rpki_https_parts {
 rpki_status rpki_header(const uint8_t *octets, size_t size, struct rpki_header_parts *out) RPKI_CHECKED;
 
 /*
- * Takes the value at the front of a part of the octets: a line for each part of a format. `rest` is the place of the
- * part; it becomes the place of what follows the value, and `contents` that of the contents, off which values are taken
- * likewise. To skip a value take it; whether an optional one is there the octet at `rest` tells. All of a part was
- * taken where rest->length is 0. Begin with the place {0, size}. `identifier` is one octet (X.690 8.1.2): the class of
- * the tag in the two highest bits, the form in the next, and the number of the tag, from 0 to 31, in the others. Takes
- * no memory.
+ * Takes the value at the front of `rest`: a line for each part of a format. `contents` becomes the contents of the
+ * value, off which values are taken likewise. To skip a value take it. `identifier` is one octet (X.690 8.1.2): the
+ * class of the tag in the two highest bits, the form in the next, and the number of the tag, from 0 to 31, in the
+ * others. Takes no memory.
+ *
+ *     struct rpki_span rest = {octets, size}, fields = {0}, serial = {0};
+ *     if (rpki_take(&rest, RPKI_SEQUENCE, &fields) == RPKI_OK &&
+ *         rpki_take(&fields, RPKI_INTEGER, &serial) == RPKI_OK && rest.size == 0) ...
  *
  * In this order: RPKI_BAD_TAG: `identifier` is 0x00 or 0x20, of the tag universal 0, which no value has.
- * RPKI_OTHER_PARTS: `rest` is not inside the octets. RPKI_TRUNCATED, RPKI_BAD_TAG, RPKI_BAD_LENGTH: as rpki_header of
- * the part. RPKI_UNEXPECTED: a header of another tag or form begins it. RPKI_TRUNCATED: its contents pass the end.
+ * RPKI_TRUNCATED, RPKI_BAD_TAG, RPKI_BAD_LENGTH: as rpki_header. RPKI_UNEXPECTED: a header of another tag or form
+ * begins `rest`. RPKI_TRUNCATED: its contents pass the end.
  */
-rpki_status rpki_take(const uint8_t *octets, size_t size, uint8_t identifier, struct rpki_place *rest,
-                      struct rpki_place *contents) RPKI_CHECKED;
+rpki_status rpki_take(struct rpki_span *rest, uint8_t identifier, struct rpki_span *contents) RPKI_CHECKED;
+
+/*
+ * Takes the value at the front of `rest` as rpki_take does, where it has the tag that `identifier` names: an element
+ * that may be left out. `*is_there` becomes whether it has. Where it hasn't, or nothing is left, the status is RPKI_OK,
+ * `rest` stays, and `contents` has size 0: the element has its default.
+ *
+ * Where the tag is there the statuses are those of rpki_take: RPKI_UNEXPECTED says that the form is another one. Unless
+ * RPKI_OK, `contents` and `*is_there` are left as they were.
+ */
+rpki_status rpki_take_optional(struct rpki_span *rest, uint8_t identifier, struct rpki_span *contents,
+                               bool *is_there) RPKI_CHECKED;
 
 /*
  * Walks the value at the front of the octets, with all that is nested in it, to any depth. Structure alone counts: the
@@ -777,29 +823,31 @@ rpki_status rpki_extension(const uint8_t *octets, size_t size, struct rpki_exten
 /* ---- Certificates: all of the octets are one ---- */
 
 /*
- * Reads a resource certificate (RFC 5280 4.1, in the form of RFC 6487 4), and says what its parts are and where they
- * stand: signed data of RSA with SHA-256; version 3; each extension's identifier once; and what is signed names the
- * same algorithm. Names have attributes with any values; rpki_name_inspect holds them to a profile. The extensions are
- * read one after another with rpki_header and rpki_extension. Whether they are those of a profile, and whether the
- * signature is that of a key, is not looked at. Takes no memory.
+ * Reads a resource certificate (RFC 5280 4.1, in the form of RFC 6487 4), and says what its parts are: signed data of
+ * RSA with SHA-256; version 3; each extension's identifier once; and what is signed names the same algorithm. Names
+ * have attributes with any values; rpki_name_inspect holds them to a profile. The extensions are read one after another
+ * with rpki_header and rpki_extension. Whether they are those of a profile, and whether the signature is that of a key,
+ * is not looked at. Takes no memory.
  *
  * Where a status is not 0, it is an RPKI_PART_ number: from 64 to 67 the part of the signed data that is wrong, the
  * leftmost (of RPKI_PART_ALGORITHM rpki_signed_data says whether that is another algorithm); else from 68 to 78 the
  * part of what is signed, the leftmost; else 79. RPKI_PART_EXTENSION_COUNT says nothing else of the octets: the
- * certificate may be well-formed. No certificate of the RPKI has so many.
+ * certificate may be well-formed. No certificate of the RPKI has so many. Where there are so many, a malformed one
+ * among them is 76, and two of one identifier are 77.
  */
 rpki_status rpki_certificate(const uint8_t *octets, size_t size, struct rpki_certificate_parts *out) RPKI_CHECKED;
 
 /*
  * What is wrong with the part that is wrong. The status is that of rpki_certificate. Where it is an RPKI_PART_ number,
  * `*error` becomes one of RPKI_TRUNCATED to RPKI_TRAILING, as a reader of that part returns it; RPKI_CONTENT of
- * RPKI_PART_EXTENSION_COUNT, RPKI_PART_EXTENSION_IDENTIFIERS and RPKI_PART_SAME_ALGORITHM. RPKI_OK: the octets are a
+ * RPKI_PART_EXTENSION_COUNT, RPKI_PART_EXTENSION_IDENTIFIERS and RPKI_PART_SAME_ALGORITHM. Of RPKI_PART_SIGNATURE
+ * RPKI_TRAILING, for what follows it, comes before RPKI_CONTENT, for unused bits. RPKI_OK: the octets are a
  * certificate, and `*error` is left as it was. Takes no memory.
  */
 rpki_status rpki_certificate_error(const uint8_t *octets, size_t size, rpki_status *error) RPKI_CHECKED;
 
 /*
- * Reads a resource certificate, as rpki_certificate does, and says where its extensions stand (RFC 6487 4.8), and what
+ * Reads a resource certificate, as rpki_certificate does, and says what its extensions are (RFC 6487 4.8), and what
  * five of them say: basic constraints, both key identifiers, key usage and certificate policies. The others are not
  * looked at, nor is which of them a profile wants. Takes no memory.
  *
@@ -810,7 +858,7 @@ rpki_status rpki_certificate_extensions(const uint8_t *octets, size_t size,
                                         struct rpki_known_extensions *out) RPKI_CHECKED;
 
 /*
- * Reads a resource certificate, as rpki_certificate does, and says where one extension stands, and whether it is
+ * Reads a resource certificate, as rpki_certificate does, and says what one extension is, and whether it is
  * critical: that of this number, an RPKI_EXTENSION_ constant. `is_there` is false where it has none. Neither its octets
  * nor other extensions are looked at, so one that is wrong hides no other. Takes no memory.
  *
@@ -854,11 +902,8 @@ rpki_status rpki_certificate_checked(const uint8_t *octets, size_t size, uint8_t
  * issuer is that of the other's subject, octet for octet, and its authority key identifier is the SHA-1 digest of the
  * other's key. Takes no memory.
  *
- * What is left to ask: whether the other is an authority (rpki_certificate_inspect), whether the first's subject key
- * identifier is that of its own key (RFC 6487 4.8.2, rpki_key_identifier), whether the moment is in both periods
- * (rpki_validity_at), whether the resources are within the other's (rpki_ip_blocks_encompass,
- * rpki_as_blocks_encompass), whether it is revoked (rpki_crl_contains), and whether the other's key has signed the
- * octets of `data` of its parts, with those of `signature` (rpki_verify).
+ * Neither the first's own key nor the signature is looked at: rpki_certificate_signed_by asks all that this call does,
+ * and both.
  *
  * The statuses, in this order: those of rpki_certificate_extensions, of the first; RPKI_NO_ISSUER; RPKI_OTHER_ISSUER;
  * RPKI_OTHER_AUTHORITY.
@@ -869,37 +914,40 @@ rpki_status rpki_certificate_issued_by(const uint8_t *octets, size_t size, const
 /* ---- Where something is, as extensions of a certificate say ---- */
 
 /*
- * The calls below read what is inside the octets of an extension, as rpki_certificate_extensions tells their place, and
- * take no memory. Their statuses are those of the calls that read values; RPKI_CONTENT also for what is no general
- * name, which has a tag from [0] to [8] and contents of its form (RFC 5280 4.2.1.6): IA5String under [1], [2] and [6],
- * a Name under [4], 4 or 16 octets under [7], an object identifier under [8], values under [0], [3] and [5]. Whether a
- * text is a URI of a scheme is for rpki_rsync_parse and rpki_https_parse to say.
+ * The calls below read what is inside the octets of an extension, as of rpki_certificate_extensions, and take no
+ * memory. Their statuses are those of the calls that read values; RPKI_CONTENT also for what is no general name, which
+ * has a tag from [0] to [8] and contents of its form (RFC 5280 4.2.1.6): IA5String under [1], [2] and [6], a Name under
+ * [4], 4 or 16 octets under [7], an object identifier under [8], any values, or none, under [0], [3] and [5]. Of a
+ * general name RPKI_UNEXPECTED is for a constructed [6], and comes first; then RPKI_TRUNCATED, RPKI_BAD_TAG and
+ * RPKI_BAD_LENGTH of its own header; each other fault in it is RPKI_CONTENT, whatever is wrong inside. Whether a text
+ * is a URI of a scheme is for rpki_rsync_parse and rpki_https_parse to say.
  */
 
 /*
- * The access description at the front of the octets (RFC 5280 4.2.2.1): a SEQUENCE of an object identifier and a
- * general name, and nothing else. What follows is not looked at: the next description begins `size` octets on. A
- * subject or authority information access is a SEQUENCE of descriptions, whose header rpki_header reads.
+ * Takes the access description at the front of `rest` (RFC 5280 4.2.2.1): a SEQUENCE of an object identifier and a
+ * general name, and nothing else. A subject or authority information access is a SEQUENCE of descriptions, whose
+ * header rpki_header reads.
  */
-rpki_status rpki_access_description(const uint8_t *octets, size_t size, struct rpki_access_parts *out) RPKI_CHECKED;
+rpki_status rpki_access_description(struct rpki_span *rest, struct rpki_access_parts *out) RPKI_CHECKED;
 
-/* The general name at the front of the octets. What follows is not looked at: the next name begins `size` octets on. */
-rpki_status rpki_general_name(const uint8_t *octets, size_t size, struct rpki_general_name_parts *out) RPKI_CHECKED;
+/* Takes the general name at the front of `rest`. */
+rpki_status rpki_general_name(struct rpki_span *rest, struct rpki_general_name_parts *out) RPKI_CHECKED;
 
 /*
- * Where the general names stand, one after another, in CRL distribution points, which are all of the octets (RFC 5280
- * 4.2.1.13): of exactly one point, which has a full name and nothing else (RFC 6487 4.8.6). The names are not read.
+ * The general names, one after another, of CRL distribution points, which are all of the octets (RFC 5280 4.2.1.13): of
+ * exactly one point, which has a full name and nothing else (RFC 6487 4.8.6). The names are not read; a
+ * full name of no names, which RFC 5280 forbids, is accepted.
  */
-rpki_status rpki_distribution_point(const uint8_t *octets, size_t size, struct rpki_place *out) RPKI_CHECKED;
+rpki_status rpki_distribution_point(const uint8_t *octets, size_t size, struct rpki_span *out) RPKI_CHECKED;
 
 /* ---- Revocation lists ---- */
 
 /*
  * Reads a revocation list, which is all of the octets (RFC 5280 5.1, in the form of RFC 6487 5), and says what its
- * parts are and where they stand: signed data of RSA with SHA-256, no bit of whose signature is unused; version 2;
- * entries without extensions; an authority key identifier of twenty octets and a number, in either order, neither
- * critical, and no other extension; and what is signed names the same algorithm. Whether the signature is that of a
- * key, and whether a later list is due, is not looked at. Takes no memory.
+ * parts are: signed data of RSA with SHA-256, no bit of whose signature is unused; version 2; entries without
+ * extensions; an authority key identifier of twenty octets and a number, in either order, neither critical, and no
+ * other extension; and what is signed names the same algorithm. Whether the signature is that of a key, and whether a
+ * later list is due, is not looked at. Takes no memory.
  *
  * Where a status is not 0, it is an RPKI_PART_ number: from 64 to 67 the part of the signed data that is wrong, the
  * leftmost; else of 68, 69, 71, 72, 120, 121, 122, 76, in this order, the part of what is signed, the leftmost;
@@ -908,15 +956,14 @@ rpki_status rpki_distribution_point(const uint8_t *octets, size_t size, struct r
 rpki_status rpki_crl(const uint8_t *octets, size_t size, struct rpki_crl_parts *out) RPKI_CHECKED;
 
 /*
- * The entry at the front of the octets, as of what rpki_crl tells the place of: a SEQUENCE of a serial number and a
- * time, and nothing else. What follows is not looked at: the next entry begins `size` octets on. Takes no memory. The
- * statuses are those of the calls that read values.
+ * Takes the entry at the front of `rest`, as of revoked_certs: a SEQUENCE of a serial number and a time, and nothing
+ * else. Takes no memory. The statuses are those of the calls that read values.
  */
-rpki_status rpki_crl_entry(const uint8_t *octets, size_t size, struct rpki_revoked_certificate *out) RPKI_CHECKED;
+rpki_status rpki_crl_entry(struct rpki_span *rest, struct rpki_revoked_certificate *out) RPKI_CHECKED;
 
 /*
- * Whether one of these entries, which rpki_crl tells the place of and which are all of the octets, is of the
- * certificate of this serial number. `out` is written where the status is RPKI_OK. All entries are read, in a step
+ * Whether one of these entries, as of revoked_certs, which are all of the octets, is of the certificate of this serial
+ * number. `out` is written where the status is RPKI_OK. All entries are read, in a step
  * each: for many questions keep their serial numbers. Takes no memory. RPKI_CONTENT: the first bit of the serial number
  * is set. Else the status is that of the first that is no entry, a SEQUENCE of a serial number and a time and nothing
  * else, as of the calls that read values.
@@ -927,21 +974,16 @@ rpki_status rpki_crl_contains(const uint8_t *octets, size_t size, const uint8_t 
 
 /*
  * Reads a signed object, which is all of the octets (RFC 5652, in the profile of RFC 6488 2), and says what its parts
- * are and where they stand: version 3; SHA-256 alone; a content with its type; one certificate, of at most
- * RPKI_MOST_EXTENSIONS extensions; no revocation lists; one signer of version 3, named by a key identifier, without
- * unsigned attributes, whose signed attributes are a content type and a message digest, once each, a signing time and a
- * binary signing time, at most once each, and no others. If `strict`, the signing time is there, and the binary signing
- * time is not (RFC 9589 4). Takes no memory.
+ * are: version 3; SHA-256 alone; a content with its type; one certificate, of at most RPKI_MOST_EXTENSIONS extensions;
+ * no revocation lists; one signer of version 3, named by a key identifier, without unsigned attributes, whose signed
+ * attributes are a content type and a message digest, once each, a signing time and a binary signing time, at most once
+ * each, and no others. If `strict`, the signing time is there, and the binary signing time is not (RFC 9589 4). Takes
+ * no memory.
  *
- * Nothing is verified. An object is valid (RFC 6488 3) where, in this order,
- *  1. is_type_signed;
- *  2. SHA-256 of the content is message_digest;
- *  3. rpki_certificate_checked accepts the certificate as that of an end entity, and its subject key identifier is
- *     signer_identifier;
- *  4. the certificate's key has made the signature, by RSA with SHA-256 (RFC 7935 2), of the octet 0x31 and then of the
- *     octets of signed_attributes behind their first (RFC 5652 5.4);
- *  5. the certificate is valid: its issuer has signed it, and so on to a trust anchor; none is revoked; and the
- *     resources that the content speaks of are the certificate's.
+ * Nothing is verified: rpki_object_verify does that, of the object alone. An object is valid (RFC 6488 3) where that
+ * returns RPKI_OK, its certificate is that of an end entity and valid, and the resources that the content speaks of are
+ * the certificate's: "What decides whether something is valid" has the calls. What is signed are the octets of
+ * signed_attributes, with 0x31 for their first (RFC 5652 5.4).
  *
  * Where a status is not 0, it is an RPKI_PART_ number: the leftmost part that is wrong; of the certificate the one that
  * rpki_certificate names, from 64 to 79.
@@ -949,12 +991,12 @@ rpki_status rpki_crl_contains(const uint8_t *octets, size_t size, const uint8_t 
 rpki_status rpki_signed_object(const uint8_t *octets, size_t size, bool strict,
                                struct rpki_signed_object_parts *out) RPKI_CHECKED;
 
-/* ---- What signed objects contain: all of the octets are a content, as rpki_signed_object tells its place ---- */
+/* ---- What signed objects contain: all of the octets are a content, as of rpki_signed_object ---- */
 
 /*
- * Reads a manifest (RFC 9286 4.2), and says what its parts are and where its files stand: version 0, which is left out;
- * a number; two times; SHA-256; and files, each of a name of letters, digits, `-` and `_`, one at least, a dot and
- * three small letters, and of a digest. Whether a later manifest is due is not looked at. Takes no memory.
+ * Reads a manifest (RFC 9286 4.2), and says what its parts are: version 0, which is left out; a number; two times;
+ * SHA-256; and files, each of a name of letters, digits, `-` and `_`, one at least, a dot and three small letters, and
+ * of a digest. Whether a later manifest is due is not looked at. Takes no memory.
  *
  * Whether two files have the same name, which RFC 9286 4.2.1 forbids, is not looked at either: ask rpki_manifest_names.
  *
@@ -963,47 +1005,46 @@ rpki_status rpki_signed_object(const uint8_t *octets, size_t size, bool strict,
 rpki_status rpki_manifest(const uint8_t *octets, size_t size, struct rpki_manifest_parts *out) RPKI_CHECKED;
 
 /*
- * The file at the front of the octets, as of what rpki_manifest tells the place of: a SEQUENCE of a name and a digest,
- * and nothing else. What follows is not looked at: the next file begins `size` octets on. Takes no memory. The statuses
- * are those of the calls that read values; RPKI_CONTENT also for a name of other characters, and for a digest of
- * another size or with bits that are not used.
+ * Takes the file at the front of `rest`, as of `files`: a SEQUENCE of a name and a digest, and nothing else. Takes no
+ * memory. The statuses are those of the calls that read values; RPKI_CONTENT also for a name of other characters, and
+ * for a digest of another size or with bits that are not used.
  */
-rpki_status rpki_manifest_file(const uint8_t *octets, size_t size, struct rpki_manifest_file_parts *out) RPKI_CHECKED;
+rpki_status rpki_manifest_file(struct rpki_span *rest, struct rpki_manifest_file_parts *out) RPKI_CHECKED;
 
 /*
- * Whether no two files have the same name, as RFC 9286 4.2.1 asks of a manifest: of the octets of its files, all that
- * rpki_manifest tells the place of. `room` has a place for each file, `count` of rpki_manifest_parts, and is written
- * over; it may be null where `capacity` is 0. Takes no memory; n files take n log n steps.
+ * Reads a manifest as rpki_manifest does, and says whether no two of its files have the same name, as RFC 9286 4.2.1
+ * asks. `room` has a span for each file, `count` of rpki_manifest_parts; they are zeroed before, and written over; it
+ * may be NULL where `capacity` is 0. Takes no memory; n files take n log n steps.
  *
- * RPKI_TOO_SMALL if there are more files than `capacity`. RPKI_PART_FILE_LIST if the octets are not files. `out` is
- * written at status 0 alone.
+ * The statuses of rpki_manifest; then RPKI_TOO_SMALL: there are more files than `capacity`. `out` is written at status
+ * 0 alone.
  */
-rpki_status rpki_manifest_names(const uint8_t *octets, size_t size, struct rpki_place *room, size_t capacity,
+rpki_status rpki_manifest_names(const uint8_t *octets, size_t size, struct rpki_span *room, size_t capacity,
                                 bool *out) RPKI_CHECKED;
 
 /*
- * Reads a route origin attestation (RFC 9582 4), and says which AS number it is for and where its prefixes stand:
- * version 0, which is left out; the AS number; and one or two families, each at most once, with a prefix at least. If
- * `strict`, IPv4 is in front of IPv6 (RFC 9582 4.3.3). Prefixes in another order, or twice, are accepted. Whether they
- * are resources of the certificate is not looked at. Takes no memory.
+ * Reads a route origin attestation (RFC 9582 4), and says which AS number it is for and what its prefixes are: version
+ * 0, which is left out; the AS number; and one or two families, each at most once, with a prefix at least. If `strict`,
+ * IPv4 is in front of IPv6 (RFC 9582 4.3.3). Prefixes in another order, or twice, are accepted. Whether they are
+ * resources of the certificate is not looked at. Takes no memory.
  *
  * Where a status is not 0, it is an RPKI_PART_ number, from 145 to 147: the leftmost part that is wrong.
  */
 rpki_status rpki_roa(const uint8_t *octets, size_t size, bool strict, struct rpki_roa_parts *out) RPKI_CHECKED;
 
 /*
- * The prefix at the front of the octets, as of what rpki_roa tells the places of, of this family, RPKI_IPV4 or
- * RPKI_IPV6: a SEQUENCE of its bits and of a maximum length, which may be left out, and nothing else. What follows is
- * not looked at: the next prefix begins `size` octets on. Takes no memory. RPKI_CONTENT: the family is another. Else
- * the statuses are those of the calls that read values; RPKI_CONTENT also for more bits than an address has, and for a
- * maximum length below that of the prefix or above that of an address.
+ * Takes the prefix at the front of `rest`, as of `v4` or `v6`, of this family, RPKI_IPV4 or RPKI_IPV6: a SEQUENCE of
+ * its bits and of a maximum length, which may be left out, and nothing else. Takes no memory.
+ *
+ * RPKI_CONTENT: the family is another. Else the statuses are those of the calls that read values; RPKI_CONTENT also for
+ * more bits than an address has, and for a maximum length below that of the prefix or above that of an address. What
+ * follows a maximum length of one octet is told before its range (RPKI_TRAILING); that it has more octets, before that.
  */
-rpki_status rpki_roa_address(const uint8_t *octets, size_t size, uint8_t family,
-                             struct rpki_roa_address_parts *out) RPKI_CHECKED;
+rpki_status rpki_roa_address(struct rpki_span *rest, uint8_t family, struct rpki_roa_address_parts *out) RPKI_CHECKED;
 
 /*
  * Reads an attestation of the providers of an autonomous system (draft-ietf-sidrops-aspa-profile), and says who the
- * customer is and where the providers stand: version 1; the customer; and providers, one at least, each above the one
+ * customer and the providers are: version 1; the customer; and providers, one at least, each above the one
  * before it, none of which is the customer. Takes no memory.
  *
  * Where a status is not 0, it is an RPKI_PART_ number, from 148 to 151: the leftmost part that is wrong.
@@ -1011,24 +1052,24 @@ rpki_status rpki_roa_address(const uint8_t *octets, size_t size, uint8_t family,
 rpki_status rpki_aspa(const uint8_t *octets, size_t size, struct rpki_aspa_parts *out) RPKI_CHECKED;
 
 /*
- * The provider at the front of the octets, as of what rpki_aspa tells the place of: an INTEGER below 2^32. What follows
- * is not looked at: the next provider begins `size` octets on. Takes no memory. The statuses are those of the calls
- * that read values.
+ * Takes the provider at the front of `rest`, as of `providers`, and writes its AS number: an INTEGER below 2^32. Takes
+ * no memory. The statuses are those of the calls that read values.
  */
-rpki_status rpki_aspa_provider(const uint8_t *octets, size_t size, struct rpki_aspa_provider_parts *out) RPKI_CHECKED;
+rpki_status rpki_aspa_provider(struct rpki_span *rest, uint32_t *out) RPKI_CHECKED;
 
 /* ---- Resources: all of the octets are the contents of one extension ---- */
 
 /*
- * The calls below read the contents octets of an extension of resources, as rpki_extension and
- * rpki_certificate_extensions tell their place, in exactly the canonical form (RFC 3779, RFC 6487 4.8.10, 4.8.11). Both
+ * The calls below read the contents octets of an extension of resources, as of rpki_extension and
+ * rpki_certificate_extensions, in exactly the canonical form (RFC 3779, RFC 6487 4.8.10, 4.8.11). Both
  * policies have the same contents (RFC 8360 4.2.2). None takes memory. Which status where:
  *
  * RPKI_TRUNCATED, RPKI_BAD_TAG, RPKI_BAD_LENGTH, RPKI_UNEXPECTED or RPKI_CONTENT: no beginning of the octets is such
- * contents, by the leftmost part that isn't there. RPKI_CONTENT also for a family that is neither IPv4 nor IPv6, or
- * that stands behind IPv6; for no blocks; for a block that is empty, that should be a prefix or a shorter spelling, or
- * that has no number between it and the one before; and for an AS number of 2^32 or more. RPKI_TRAILING: a beginning is
- * such contents, and octets follow it; or octets follow the last part in the contents of a SEQUENCE.
+ * contents, by the leftmost part that isn't there. RPKI_CONTENT also for a first or second family that is neither IPv4
+ * nor IPv6, and for IPv4 twice (the second is read whole before that); for no blocks; for a block that is empty, that
+ * should be a prefix or a shorter spelling, or that has no number between it and the one before; and for an AS number
+ * of 2^32 or more. RPKI_TRUNCATED also for no family. RPKI_TRAILING: a beginning is such contents, and octets follow
+ * it; or octets follow the last part in the contents of a SEQUENCE, as all do that follow IPv6, another family too.
  */
 
 /*
@@ -1063,8 +1104,9 @@ rpki_status rpki_as_blocks_encompass(const uint8_t *outer, size_t outer_size, co
 
 /*
  * Writes the text of a block, of at most 79 octets, to the front of `out`, which has room for `capacity` octets: that
- * of a prefix, as `10.0.0.0/8`, or of a range that is none, as `10.0.0.0-10.0.0.5`; IPv6 as RFC 5952 says; `inherit`
- * where `is_inherited`. `*written` becomes the count of the octets. What is after them in `out` stays.
+ * of a prefix, as `10.0.0.0/8`, or of a range that is none, as `10.0.0.0-10.0.0.5`; IPv6 as RFC 5952 says, in mixed
+ * notation only in ::ffff:0:0/96; `inherit` where `is_inherited`. `*written` becomes the count of the octets. What is
+ * after them in `out` stays.
  *
  * RPKI_TOO_SMALL: there are more than `capacity`. Nothing is written to `out`, and `*written` is the count too.
  * RPKI_CONTENT: the family is another, or the highest address is below the lowest. Of IPv4 only the first four octets
@@ -1076,6 +1118,138 @@ rpki_status rpki_ip_block_text(const struct rpki_ip_block *block, uint8_t *out, 
 /* The same of AS numbers, of at most 25 octets: `AS64496` of one number, `AS1-AS5` of a range. */
 rpki_status rpki_as_block_text(const struct rpki_as_block *block, uint8_t *out, size_t capacity,
                                size_t *written) RPKI_CHECKED;
+
+/* ---- What decides whether something is valid ---- */
+
+/*
+ * Each call below returns RPKI_OK where all holds that it asks, and else the first that does not. An authority is a
+ * certificate, its list, and the blocks that it has. To validate what an authority has issued, in this order:
+ *
+ *     rpki_crl_issued_by(list, .., authority, .., &now)                   once, of its list
+ *     rpki_object_verify(object, .., strict)                              of a signed object, whose certificate is then
+ *     rpki_certificate_checked(certificate, .., PROFILE, true, ..)        its profile: _CA, _EE or _ROUTER
+ *     rpki_certificate_signed_by(certificate, .., authority, ..)          names, keys, signature
+ *     rpki_validity_at(&parts.validity, &now)                             its period
+ *     rpki_crl_contains(revoked_certs, .., parts.serial_number, &is)      not revoked
+ *     rpki_ip_settle(certificate, .., ip_blocks, ..), rpki_as_settle(..)  the blocks that it has
+ *
+ * and of what an object contains, by rpki_content_type:
+ *
+ *     rpki_manifest_inherits(certificate, ..), rpki_manifest_names(content, ..), rpki_manifest(content, ..)
+ *     rpki_validity_at(this update to the next, &now)                     it is current
+ *     rpki_manifest_file_is(file.digest, ..)                              of each file
+ *     rpki_roa_signer(certificate, ..), rpki_roa_is_within(content, .., ip_blocks of the certificate, ..)
+ *     rpki_aspa_signer(certificate, ..), rpki_aspa_is_within(content, .., as_blocks of the certificate, ..)
+ *
+ * A trust anchor is of the profile _TA, rpki_anchor_verify accepts it, and it has the blocks that rpki_ip_blocks and
+ * rpki_as_blocks read in its extensions. examples/validate does this of route origins.
+ */
+
+/*
+ * Whether a certificate is that of the trust anchor with this public key, a SubjectPublicKeyInfo, which its locator has
+ * (RFC 8630 2.2, 3): its key has these octets; its subject key identifier is that of the key (RFC 6487 4.8.2); and the
+ * key has signed it, by RSA with SHA-256. Its profile and its period are not looked at. Takes no memory.
+ *
+ * The statuses, in this order: those of rpki_certificate_extensions; RPKI_OTHER_ANCHOR; RPKI_OTHER_KEY;
+ * RPKI_KEY_NOT_ACCEPTED or RPKI_BAD_SIGNATURE, as of rpki_verify.
+ */
+rpki_status rpki_anchor_verify(const uint8_t *octets, size_t size, const uint8_t *key, size_t key_size) RPKI_CHECKED;
+
+/*
+ * Whether a certificate was issued by another, but for periods, resources, revocation, and the profiles of both (RFC
+ * 5280 6.1.3, RFC 6487 7.2): what rpki_certificate_issued_by asks; its subject key identifier is that of its own key
+ * (RFC 6487 4.8.2); and the other's key has signed it, by RSA with SHA-256. Takes no memory.
+ *
+ * The statuses, in this order: those of rpki_certificate_issued_by; RPKI_OTHER_KEY; RPKI_KEY_NOT_ACCEPTED or
+ * RPKI_BAD_SIGNATURE, as of rpki_verify.
+ */
+rpki_status rpki_certificate_signed_by(const uint8_t *octets, size_t size, const uint8_t *issuer,
+                                       size_t issuer_size) RPKI_CHECKED;
+
+/*
+ * Whether a revocation list was issued by the subject of a certificate (RFC 5280 6.3.3, RFC 6487 5), and is in force at
+ * the moment: it has the subject's name, octet for octet, and the identifier of its key; that key has signed it, by RSA
+ * with SHA-256; and the moment is not before this update nor after the next. Whether the certificate is valid is not
+ * looked at. Of the moment the seconds are not looked at. Takes no memory.
+ *
+ * The statuses, in this order: those of rpki_crl; RPKI_NO_ISSUER; RPKI_OTHER_ISSUER; RPKI_OTHER_AUTHORITY;
+ * RPKI_KEY_NOT_ACCEPTED or RPKI_BAD_SIGNATURE, as of rpki_verify; RPKI_CONTENT: the years 0 to 9999 have no such
+ * moment; RPKI_TOO_NEW; RPKI_TOO_OLD.
+ */
+rpki_status rpki_crl_issued_by(const uint8_t *octets, size_t size, const uint8_t *issuer, size_t issuer_size,
+                               const struct rpki_moment *moment) RPKI_CHECKED;
+
+/*
+ * Whether a signed object was signed by the key of the certificate in it (RFC 6488 3, RFC 5652 5.4, 5.6): the type of
+ * the content and its digest are those that are signed; the signer is named by the certificate's subject key
+ * identifier; and the certificate's key has signed the attributes, by RSA with SHA-256. Whether the certificate is
+ * valid is not looked at. `strict` is as of rpki_signed_object. Takes no memory.
+ *
+ * The statuses, in this order: those of rpki_signed_object; RPKI_OTHER_TYPE; RPKI_OTHER_DIGEST; of the certificate,
+ * those of rpki_certificate_extensions; RPKI_OTHER_SIGNER; RPKI_KEY_NOT_ACCEPTED or RPKI_BAD_SIGNATURE, as of
+ * rpki_verify.
+ */
+rpki_status rpki_object_verify(const uint8_t *octets, size_t size, bool strict) RPKI_CHECKED;
+
+/* The type of a content, an RPKI_TYPE_ constant, by the contents octets of its object identifier. */
+uint8_t rpki_content_type(const uint8_t *octets, size_t size);
+
+/*
+ * The addresses that a certificate has under those of its issuer: of each family none, its issuer's (`inherit`), or
+ * those that it lists. By the policy of RFC 6484 the issuer has to have all that are listed (RFC 6487 7.2); by that of
+ * RFC 8360 those remain that the issuer has (RFC 8360 4.2.4.4). `issuer` are the issuer's blocks, in any order, as this
+ * call and rpki_ip_blocks write them; those of another family are not looked at. `blocks` has room for `capacity`
+ * entries, and none of it is in `issuer`. They are in canonical form, those of IPv4 first, and none is inherited.
+ *
+ * RPKI_OK: `*count` entries were written, and the rest of the array is as it was. RPKI_TOO_SMALL: `*count` is how many
+ * entries there are, and none was written. Else neither is written, and the status is, in this order: RPKI_NO_ANSWER: a
+ * block of the issuer is inherited; those of rpki_certificate_extensions; RPKI_RULE_CERTIFICATE_POLICIES: there are
+ * none; RPKI_RULE_RESOURCE_BLOCKS: the extension is not critical, or not in canonical form; RPKI_OTHER_RESOURCES; or
+ * RPKI_OUT_OF_MEMORY.
+ */
+rpki_status rpki_ip_settle(const uint8_t *octets, size_t size, const struct rpki_ip_block *issuer, size_t issuer_count,
+                           struct rpki_ip_block *blocks, size_t capacity, size_t *count) RPKI_CHECKED;
+
+/* The same of AS numbers. */
+rpki_status rpki_as_settle(const uint8_t *octets, size_t size, const struct rpki_as_block *issuer, size_t issuer_count,
+                           struct rpki_as_block *blocks, size_t capacity, size_t *count) RPKI_CHECKED;
+
+/*
+ * Whether all addresses of a route origin attestation, a content, are among the blocks that its certificate has (RFC
+ * 9582 5): as rpki_ip_settle writes them, in any order. `strict` is as of rpki_roa. n prefixes and blocks take n log n
+ * steps. The statuses, in this order: RPKI_NO_ANSWER: a block is inherited; those of rpki_roa; RPKI_OTHER_RESOURCES; or
+ * RPKI_OUT_OF_MEMORY.
+ */
+rpki_status rpki_roa_is_within(const uint8_t *octets, size_t size, bool strict, const struct rpki_ip_block *blocks,
+                               size_t count) RPKI_CHECKED;
+
+/*
+ * Whether the customer of an attestation of providers, a content, is among the blocks that its certificate has, as
+ * rpki_as_settle writes them, in any order. Takes no memory. The statuses, in this order: RPKI_NO_ANSWER: a block is
+ * inherited; those of rpki_aspa; RPKI_OTHER_RESOURCES.
+ */
+rpki_status rpki_aspa_is_within(const uint8_t *octets, size_t size, const struct rpki_as_block *blocks,
+                                size_t count) RPKI_CHECKED;
+
+/*
+ * Whether a certificate names addresses, none of which are its issuer's (`inherit`), and no AS numbers, as one has to
+ * that signs a route origin attestation (RFC 9582 5). Takes no memory. The statuses, in this order: those of
+ * rpki_certificate; RPKI_OTHER_KINDS, also where the extension of addresses is not critical, or not in canonical form.
+ */
+rpki_status rpki_roa_signer(const uint8_t *octets, size_t size) RPKI_CHECKED;
+
+/* The same of AS numbers, and no addresses: of an attestation of providers (draft-ietf-sidrops-aspa-profile 4). */
+rpki_status rpki_aspa_signer(const uint8_t *octets, size_t size) RPKI_CHECKED;
+
+/*
+ * Whether all resources that a certificate names are its issuer's, as those of a manifest's certificate have to be (RFC
+ * 9286 5.1). Takes no memory. The statuses, in this order: those of rpki_certificate; RPKI_NOT_INHERITED, also where an
+ * extension of resources is not critical, or not in canonical form.
+ */
+rpki_status rpki_manifest_inherits(const uint8_t *octets, size_t size) RPKI_CHECKED;
+
+/* Whether the octets are those of the file that a manifest lists with this digest (RFC 9286 6.5): RPKI_OTHER_DIGEST. */
+rpki_status rpki_manifest_file_is(const uint8_t digest[32], const uint8_t *octets, size_t size) RPKI_CHECKED;
 
 /* ---- URIs ---- */
 
@@ -1379,6 +1553,12 @@ rpki_status rpki_time_seconds_on(const struct rpki_moment *moment, int64_t secon
                                  struct rpki_moment *out) RPKI_CHECKED;
 
 /*
+ * The moment so many seconds after 1970-01-01 00:00:00, every day with 86,400, or before it: of what time() returns.
+ * Takes no memory. RPKI_NO_ANSWER: its year is not of 0 to 9999; then `out` is left as it was.
+ */
+rpki_status rpki_time_of_seconds(int64_t seconds, struct rpki_moment *out) RPKI_CHECKED;
+
+/*
  * The value of a period of validity, of at most 36 octets: a SEQUENCE of two times, each as rpki_time_write writes it.
  * RPKI_CONTENT: the years 0 to 9999 have no such moment as one of the two.
  */
@@ -1406,6 +1586,9 @@ rpki_status rpki_validity_trim(const struct rpki_period *period, const struct rp
 #define RPKI_ASSERT_AT(type, member, at) RPKI_ASSERT(type##_##member, offsetof(struct rpki_##type, member) == (at))
 RPKI_ASSERT(size_t, sizeof(size_t) == 8);
 RPKI_ASSERT(bool, sizeof(bool) == 1);
+RPKI_ASSERT(span, sizeof(struct rpki_span) == 16);
+RPKI_ASSERT_AT(span, data, 0);
+RPKI_ASSERT_AT(span, size, 8);
 RPKI_ASSERT(place, sizeof(struct rpki_place) == 16);
 RPKI_ASSERT_AT(place, start, 0);
 RPKI_ASSERT_AT(place, length, 8);
@@ -1464,16 +1647,14 @@ RPKI_ASSERT_AT(certificate_parts, serial_number, 176);
 RPKI_ASSERT_AT(certificate_parts, key_format, 196);
 RPKI_ASSERT_AT(certificate_parts, key_unused, 197);
 RPKI_ASSERT_AT(certificate_parts, has_parameters, 198);
-RPKI_ASSERT(access_parts, sizeof(struct rpki_access_parts) == 48);
+RPKI_ASSERT(access_parts, sizeof(struct rpki_access_parts) == 40);
 RPKI_ASSERT_AT(access_parts, id, 0);
 RPKI_ASSERT_AT(access_parts, uri, 16);
-RPKI_ASSERT_AT(access_parts, size, 32);
-RPKI_ASSERT_AT(access_parts, method, 40);
-RPKI_ASSERT_AT(access_parts, is_uri, 41);
-RPKI_ASSERT(general_name_parts, sizeof(struct rpki_general_name_parts) == 32);
+RPKI_ASSERT_AT(access_parts, method, 32);
+RPKI_ASSERT_AT(access_parts, is_uri, 33);
+RPKI_ASSERT(general_name_parts, sizeof(struct rpki_general_name_parts) == 24);
 RPKI_ASSERT_AT(general_name_parts, uri, 0);
-RPKI_ASSERT_AT(general_name_parts, size, 16);
-RPKI_ASSERT_AT(general_name_parts, is_uri, 24);
+RPKI_ASSERT_AT(general_name_parts, is_uri, 16);
 RPKI_ASSERT(crl_parts, sizeof(struct rpki_crl_parts) == 192);
 RPKI_ASSERT_AT(crl_parts, data, 0);
 RPKI_ASSERT_AT(crl_parts, algorithm, 16);
@@ -1505,33 +1686,27 @@ RPKI_ASSERT_AT(manifest_parts, count, 16);
 RPKI_ASSERT_AT(manifest_parts, this_update, 24);
 RPKI_ASSERT_AT(manifest_parts, next_update, 56);
 RPKI_ASSERT_AT(manifest_parts, manifest_number, 88);
-RPKI_ASSERT(manifest_file_parts, sizeof(struct rpki_manifest_file_parts) == 56);
+RPKI_ASSERT(manifest_file_parts, sizeof(struct rpki_manifest_file_parts) == 48);
 RPKI_ASSERT_AT(manifest_file_parts, name, 0);
-RPKI_ASSERT_AT(manifest_file_parts, size, 16);
-RPKI_ASSERT_AT(manifest_file_parts, digest, 24);
+RPKI_ASSERT_AT(manifest_file_parts, digest, 16);
 RPKI_ASSERT(roa_parts, sizeof(struct rpki_roa_parts) == 56);
 RPKI_ASSERT_AT(roa_parts, v4, 0);
 RPKI_ASSERT_AT(roa_parts, v6, 16);
 RPKI_ASSERT_AT(roa_parts, v4_count, 32);
 RPKI_ASSERT_AT(roa_parts, v6_count, 40);
 RPKI_ASSERT_AT(roa_parts, as_id, 48);
-RPKI_ASSERT(roa_address_parts, sizeof(struct rpki_roa_address_parts) == 32);
+RPKI_ASSERT(roa_address_parts, sizeof(struct rpki_roa_address_parts) == 19);
 RPKI_ASSERT_AT(roa_address_parts, address, 0);
-RPKI_ASSERT_AT(roa_address_parts, size, 16);
-RPKI_ASSERT_AT(roa_address_parts, length, 24);
-RPKI_ASSERT_AT(roa_address_parts, max_length, 25);
-RPKI_ASSERT_AT(roa_address_parts, has_max_length, 26);
+RPKI_ASSERT_AT(roa_address_parts, length, 16);
+RPKI_ASSERT_AT(roa_address_parts, max_length, 17);
+RPKI_ASSERT_AT(roa_address_parts, has_max_length, 18);
 RPKI_ASSERT(aspa_parts, sizeof(struct rpki_aspa_parts) == 32);
 RPKI_ASSERT_AT(aspa_parts, providers, 0);
 RPKI_ASSERT_AT(aspa_parts, count, 16);
 RPKI_ASSERT_AT(aspa_parts, customer, 24);
-RPKI_ASSERT(aspa_provider_parts, sizeof(struct rpki_aspa_provider_parts) == 16);
-RPKI_ASSERT_AT(aspa_provider_parts, size, 0);
-RPKI_ASSERT_AT(aspa_provider_parts, number, 8);
-RPKI_ASSERT(revoked_certificate, sizeof(struct rpki_revoked_certificate) == 64);
+RPKI_ASSERT(revoked_certificate, sizeof(struct rpki_revoked_certificate) == 56);
 RPKI_ASSERT_AT(revoked_certificate, serial_number, 0);
 RPKI_ASSERT_AT(revoked_certificate, revocation_date, 24);
-RPKI_ASSERT_AT(revoked_certificate, size, 56);
 RPKI_ASSERT(known_extension, sizeof(struct rpki_known_extension) == 24);
 RPKI_ASSERT_AT(known_extension, octets, 0);
 RPKI_ASSERT_AT(known_extension, is_there, 16);
@@ -1609,6 +1784,14 @@ static inline const char *rpki_status_text(rpki_status status) {
         case RPKI_TOO_OLD: return "object has expired";
         case RPKI_KEY_NOT_ACCEPTED: return "public key not accepted";
         case RPKI_BAD_SIGNATURE: return "bad signature";
+        case RPKI_OTHER_DIGEST: return "other digest";
+        case RPKI_OTHER_TYPE: return "content type is not the one that is signed";
+        case RPKI_OTHER_SIGNER: return "subject key identifier is not that of the signer";
+        case RPKI_OTHER_KEY: return "subject key identifier is not that of its own key";
+        case RPKI_OTHER_RESOURCES: return "resources outside of those of the issuer";
+        case RPKI_NOT_INHERITED: return "resources that are not inherited";
+        case RPKI_OTHER_ANCHOR: return "key is not that of the locator";
+        case RPKI_OTHER_KINDS: return "other kinds of resources than the object asks for";
         case RPKI_PART_CERTIFICATE: return "not a certificate";
         case RPKI_PART_SIGNED: return "malformed signed data";
         case RPKI_PART_ALGORITHM: return "signature algorithm is not the RPKI's";
@@ -1717,6 +1900,64 @@ static inline const char *rpki_status_text(rpki_status status) {
         case RPKI_URI_EMPTY_SEGMENTS: return "URI with empty path segments";
         case RPKI_URI_LONG_SEGMENTS: return "one or more segments are longer than 255 characters";
         default: return "unknown status";
+    }
+}
+
+/*
+ * The sections that have the rule which a status names, as "RFC 6487 4.8.1": of RPKI_RULE_ constants and of the calls
+ * that decide, static text. It is empty for any other status.
+ */
+static inline const char *rpki_rule_text(rpki_status status) {
+    switch ((unsigned)status) {
+        case RPKI_RULE_SERIAL_NUMBER: return "RFC 5280 4.1.2.2";
+        case RPKI_RULE_CRITICAL_EXTENSIONS: return "RFC 5280 4.2";
+        case RPKI_RULE_ISSUER: return "RFC 6487 4.4";
+        case RPKI_RULE_SUBJECT: return "RFC 6487 4.5";
+        case RPKI_RULE_ROUTER_SUBJECT:
+        case RPKI_RULE_ROUTER_SERIAL_NUMBER: return "RFC 8209 3.1.1";
+        case RPKI_RULE_RSA_KEY: return "RFC 7935 3";
+        case RPKI_RULE_ROUTER_KEY: return "RFC 8608 3.1";
+        case RPKI_RULE_BASIC_CONSTRAINTS:
+        case RPKI_RULE_NO_BASIC_CONSTRAINTS: return "RFC 6487 4.8.1";
+        case RPKI_RULE_SUBJECT_KEY_IDENTIFIER:
+        case RPKI_OTHER_KEY: return "RFC 6487 4.8.2";
+        case RPKI_RULE_AUTHORITY_KEY_IDENTIFIER:
+        case RPKI_RULE_OWN_AUTHORITY:
+        case RPKI_OTHER_AUTHORITY: return "RFC 6487 4.8.3";
+        case RPKI_RULE_AUTHORITY_USAGE:
+        case RPKI_RULE_END_USAGE: return "RFC 6487 4.8.4";
+        case RPKI_RULE_NO_EXTENDED_KEY_USAGE: return "RFC 6487 4.8.5";
+        case RPKI_RULE_ROUTER_PURPOSE: return "RFC 8209 3.1.3.2";
+        case RPKI_RULE_REVOCATION_LIST:
+        case RPKI_RULE_NO_REVOCATION_LIST: return "RFC 6487 4.8.6";
+        case RPKI_RULE_ISSUER_CERTIFICATE:
+        case RPKI_RULE_NO_ISSUER_CERTIFICATE: return "RFC 6487 4.8.7";
+        case RPKI_RULE_REPOSITORY:
+        case RPKI_RULE_MANIFEST: return "RFC 6487 4.8.8.1";
+        case RPKI_RULE_SIGNED_OBJECT:
+        case RPKI_RULE_OBJECT_ACCESS: return "RFC 6487 4.8.8.2";
+        case RPKI_RULE_NO_SUBJECT_ACCESS: return "RFC 8209 3.1.3.3, RFC 9323 2";
+        case RPKI_RULE_CERTIFICATE_POLICIES: return "RFC 6487 4.8.9";
+        case RPKI_RULE_RESOURCES:
+        case RPKI_RULE_RESOURCE_BLOCKS: return "RFC 6487 4.8.10, 4.8.11";
+        case RPKI_RULE_ROUTER_NUMBERS: return "RFC 8209 3.1.3.4, 3.1.3.5";
+        case RPKI_RULE_VALIDITY: return "RFC 5280 4.1.2.5";
+        case RPKI_RULE_SELF_ISSUED: return "RFC 8630 2.3";
+        case RPKI_RULE_RESOURCE_VERSION: return "RFC 8360 4.2";
+        case RPKI_RULE_OWN_RESOURCES: return "RFC 8630 2.3, RFC 8209 3.1.3.5";
+        case RPKI_RULE_MANIFEST_PLACE: return "RFC 6487 4.8.8.1, RFC 9286 2";
+        case RPKI_RULE_NOTIFICATIONS: return "RFC 8182 3.2";
+        case RPKI_RULE_ISSUER_SIZE:
+        case RPKI_RULE_SUBJECT_SIZE: return "RFC 5280 A.1";
+        case RPKI_OTHER_DIGEST: return "RFC 9286 6.5, RFC 5652 11.2";
+        case RPKI_OTHER_TYPE: return "RFC 5652 11.1";
+        case RPKI_OTHER_SIGNER: return "RFC 6488 3";
+        case RPKI_OTHER_RESOURCES: return "RFC 6487 7.2, RFC 9582 5";
+        case RPKI_NOT_INHERITED: return "RFC 9286 5.1";
+        case RPKI_OTHER_ANCHOR: return "RFC 8630 3";
+        case RPKI_OTHER_KINDS: return "RFC 9582 5";
+        case RPKI_OTHER_ISSUER: return "RFC 5280 6.1.3";
+        default: return "";
     }
 }
 

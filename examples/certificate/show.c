@@ -33,42 +33,41 @@ static void print_moment(const char *name, const struct rpki_moment *at) {
     printf("T%02" PRIu32 ":%02" PRIu32 ":%02" PRIu32 "Z\n", at->hour, at->minute, at->second);
 }
 
-/* Where the contents of the value stand that follows so many others at this place. */
-static struct rpki_place inside(const uint8_t *octets, struct rpki_place place, unsigned others) {
+/* The contents of the value at the front, of which all was read; what follows it becomes the rest. */
+static struct rpki_span take(struct rpki_span *rest) {
     struct rpki_header_parts header;
-    check("value", rpki_header(octets + place.start, place.length, &header));
-    for (; others > 0; others--) {
-        place.start += header.size + header.length;
-        place.length -= header.size + header.length;
-        check("value", rpki_header(octets + place.start, place.length, &header));
-    }
-    place.start += header.size;
-    place.length = header.length;
-    return place;
+    struct rpki_span contents;
+    check("value", rpki_header(rest->data, rest->size, &header));
+    contents.data = rest->data + header.size;
+    contents.size = header.length;
+    rest->data = contents.data + contents.size;
+    rest->size -= header.size + header.length;
+    return contents;
 }
 
-static const char *is_of(const uint8_t *octets, struct rpki_place name, uint8_t profile) {
-    rpki_status status = rpki_name_inspect(octets + name.start, name.length, profile, true);
+static const char *is_of(struct rpki_span name, uint8_t profile) {
+    rpki_status status = rpki_name_inspect(name.data, name.size, profile, true);
     if (status >= RPKI_MISSING_COMMON_NAME && status <= RPKI_ATTRIBUTE_NOT_PERMITTED) return "no";
     check("name", status);
     return "yes";
 }
 
 /* A name's first attribute, and which profiles the name is of. */
-static void print_name(const char *what, const uint8_t *octets, struct rpki_place name) {
-    struct rpki_place attribute = inside(octets, inside(octets, inside(octets, name, 0), 0), 0);
-    struct rpki_place text = inside(octets, attribute, 1);
-    printf("%s: %.*s", what, (int)text.length, (const char *)octets + text.start);
-    printf(" (RPKI %s, router %s)\n", is_of(octets, name, RPKI_PROFILE_RPKI), is_of(octets, name, RPKI_PROFILE_ROUTER));
+static void print_name(const char *what, struct rpki_span name) {
+    struct rpki_span rest = name, names = take(&rest), set = take(&names), attribute = take(&set), text;
+    take(&attribute);
+    text = take(&attribute);
+    printf("%s: %.*s", what, (int)text.size, (const char *)text.data);
+    printf(" (RPKI %s, router %s)\n", is_of(name, RPKI_PROFILE_RPKI), is_of(name, RPKI_PROFILE_ROUTER));
 }
 
 /* The key, and its identifier, which is that of the extension (RFC 6487 4.8.2). */
-static void print_key(const uint8_t *octets, size_t size, const struct rpki_known_extensions *known) {
-    struct rpki_key_parts key;
+static void print_key(struct rpki_span octets, const struct rpki_known_extensions *known) {
+    struct rpki_key_parts key = {0};
     uint8_t identifier[20];
-    check("public key", rpki_public_key(octets, size, &key));
-    check("public key", rpki_key_identifier(octets, size, identifier));
-    printf("public key: %s, %zu octets\n", key.format == RPKI_RSA ? "RSA" : "ECDSA P-256", key.bits.length);
+    check("public key", rpki_public_key(octets.data, octets.size, &key));
+    check("public key", rpki_key_identifier(octets.data, octets.size, identifier));
+    printf("public key: %s, %zu octets\n", key.format == RPKI_RSA ? "RSA" : "ECDSA P-256", key.bits.size);
     print_octets("key identifier", identifier, sizeof identifier);
     if (!known->subject_key_identifier.is_there || memcmp(known->subject_key, identifier, sizeof identifier)) {
         stop("subject key identifier", "not that of the key");
@@ -76,36 +75,35 @@ static void print_key(const uint8_t *octets, size_t size, const struct rpki_know
 }
 
 /* An object identifier in dotted form. */
-static void print_identifier(const uint8_t *contents, size_t size) {
-    size_t room = 4 * size + 3;
+static void print_identifier(struct rpki_span contents) {
+    size_t room = 4 * contents.size + 3;
     char *text = malloc(room);
     if (!text) stop("object identifier", "out of memory");
-    check("object identifier", rpki_oid_text(contents, size, text, room));
+    check("object identifier", rpki_oid_text(contents.data, contents.size, text, room));
     printf("%s", text);
     free(text);
 }
 
-static void print_extensions(const uint8_t *octets, struct rpki_place rest) {
-    struct rpki_extension_parts parts;
-    size_t size;
-    for (; rest.length > 0; rest.start += size, rest.length -= size) {
-        struct rpki_place contents = inside(octets, rest, 0);
-        size = contents.start + contents.length - rest.start;
-        check("extension", rpki_extension(octets + rest.start, size, &parts));
+static void print_extensions(struct rpki_span rest) {
+    struct rpki_extension_parts parts = {0};
+    while (rest.size > 0) {
+        const uint8_t *octets = rest.data;
+        take(&rest);
+        check("extension", rpki_extension(octets, (size_t)(rest.data - octets), &parts));
         printf("extension ");
-        print_identifier(octets + rest.start + parts.id.start, parts.id.length);
-        printf(": %scritical, %zu octets\n", parts.critical ? "" : "not ", parts.octets.length);
+        print_identifier(parts.id);
+        printf(": %scritical, %zu octets\n", parts.critical ? "" : "not ", parts.octets.size);
     }
 }
 
-static void print_place(const char *name, struct rpki_place place) {
-    printf("%s: %zu octets at %zu", name, place.length, place.start);
+static void print_part(const char *name, const uint8_t *octets, struct rpki_span part) {
+    printf("%s: %zu octets at %zu", name, part.size, (size_t)(part.data - octets));
 }
 
 /* What the octets say. */
 static void show(const uint8_t *octets, size_t size) {
-    struct rpki_certificate_parts parts;
-    struct rpki_known_extensions known;
+    struct rpki_certificate_parts parts = {0};
+    struct rpki_known_extensions known = {0};
     struct rpki_walked walked;
     size_t zeros = 0;
     check("certificate", rpki_certificate(octets, size, &parts));
@@ -116,15 +114,15 @@ static void show(const uint8_t *octets, size_t size) {
     print_octets("serial number", parts.serial_number + zeros, 20 - zeros);
     print_moment("not before", &parts.validity.not_before);
     print_moment("not after", &parts.validity.not_after);
-    print_name("issuer", octets, parts.issuer);
-    print_name("subject", octets, parts.subject);
-    print_key(octets + parts.public_key.start, parts.public_key.length, &known);
-    print_extensions(octets, parts.extensions);
+    print_name("issuer", parts.issuer);
+    print_name("subject", parts.subject);
+    print_key(parts.public_key, &known);
+    print_extensions(parts.extensions);
     printf("to verify:\n");
-    print_place("signed", parts.data);
-    print_place("\nalgorithm", parts.algorithm);
-    print_place(parts.has_parameters ? ", with parameters\nsignature" : ", without parameters\nsignature",
-                parts.signature);
+    print_part("signed", octets, parts.data);
+    print_part("\nalgorithm", octets, parts.algorithm);
+    print_part(parts.has_parameters ? ", with parameters\nsignature" : ", without parameters\nsignature", octets,
+               parts.signature);
     printf("\n");
 }
 

@@ -15,7 +15,7 @@ import (
 	"unsafe"
 )
 
-// A certificate, and an entry for each of its headers.
+// A certificate, in memory of C, which a span may point into, and an entry for each of its headers.
 type certificate struct {
 	octets  []byte
 	entries []C.struct_rpki_entry
@@ -26,6 +26,16 @@ func check(what string, status C.rpki_status) {
 		fmt.Fprintf(os.Stderr, "%s: refused %d\n", what, status)
 		os.Exit(1)
 	}
+}
+
+// part is the octets of a span.
+func part(span C.struct_rpki_span) []byte {
+	return unsafe.Slice((*byte)(span.data), int(span.size))
+}
+
+// start is how many octets of the certificate are in front of a span.
+func (it certificate) start(span C.struct_rpki_span) uintptr {
+	return uintptr(unsafe.Pointer(span.data)) - uintptr(unsafe.Pointer(&it.octets[0]))
 }
 
 // front is a pointer to octets, of which there have to be some, and how many there are.
@@ -97,7 +107,7 @@ func printKey(octets []byte) {
 	check("public key", C.rpki_public_key(at, size, &key))
 	check("public key", C.rpki_key_identifier(at, size, &identifier[0]))
 	format := map[C.uint8_t]string{C.RPKI_RSA: "RSA", C.RPKI_ECDSA_P256: "ECDSA P-256"}[key.format]
-	fmt.Printf("public key: %s, %d octets\nkey identifier: %X\n", format, key.bits.length, identifier)
+	fmt.Printf("public key: %s, %d octets\nkey identifier: %X\n", format, key.bits.size, identifier)
 }
 
 // dotted is an object identifier in dotted form (X.690 8.19); arcs here are below 2^64.
@@ -130,8 +140,7 @@ func printExtension(octets []byte) {
 	var parts C.struct_rpki_extension_parts
 	check("extension", C.rpki_extension(at, size, &parts))
 	critical := map[bool]string{true: "critical", false: "not critical"}[bool(parts.critical)]
-	identifier := dotted(octets[parts.id.start : parts.id.start+parts.id.length])
-	fmt.Printf("extension %s: %s, %d octets\n", identifier, critical, parts.octets.length)
+	fmt.Printf("extension %s: %s, %d octets\n", dotted(part(parts.id)), critical, parts.octets.size)
 }
 
 // printSigned prints the parts of what is signed (RFC 5280 4.1), in order.
@@ -173,14 +182,15 @@ func main() {
 		fmt.Fprintln(os.Stderr, "usage: certificate FILE")
 		os.Exit(2)
 	}
-	octets, err := os.ReadFile(os.Args[1])
+	read, err := os.ReadFile(os.Args[1])
 	if err != nil {
 		fmt.Fprintln(os.Stderr, err)
 		os.Exit(1)
 	}
-	if len(octets) == 0 {
+	if len(read) == 0 {
 		check("certificate", C.RPKI_TRUNCATED)
 	}
+	octets := unsafe.Slice((*byte)(C.CBytes(read)), len(read))
 	var parts C.struct_rpki_signed_parts
 	at, size := front(octets)
 	check("certificate", C.rpki_signed_data(at, size, &parts))
@@ -189,7 +199,7 @@ func main() {
 	it.printSigned(it.children(0)[0])
 	with := map[bool]string{true: "with", false: "without"}[bool(parts.has_parameters)]
 	fmt.Println("to verify:")
-	fmt.Printf("signed: %d octets at %d\n", parts.data.length, parts.data.start)
-	fmt.Printf("algorithm: %d octets at %d, %s parameters\n", parts.algorithm.length, parts.algorithm.start, with)
-	fmt.Printf("signature: %d octets at %d\n", parts.signature.length, parts.signature.start)
+	fmt.Printf("signed: %d octets at %d\n", parts.data.size, it.start(parts.data))
+	fmt.Printf("algorithm: %d octets at %d, %s parameters\n", parts.algorithm.size, it.start(parts.algorithm), with)
+	fmt.Printf("signature: %d octets at %d\n", parts.signature.size, it.start(parts.signature))
 }

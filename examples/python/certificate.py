@@ -4,7 +4,7 @@ usage: certificate.py FILE      (LD_LIBRARY_PATH names the folder of librpki.so.
 """
 import ctypes
 import sys
-from ctypes import POINTER, Structure, byref, c_bool, c_char_p, c_int32, c_int64, c_size_t, c_uint8, c_uint32
+from ctypes import POINTER, Structure, byref, c_bool, c_char_p, c_int32, c_int64, c_size_t, c_uint8, c_uint32, c_void_p
 
 RPKI = ctypes.CDLL("librpki.so.0")
 TOO_SMALL, CONTEXT, NO_PARENT = 9, 2, ctypes.c_size_t(-1).value
@@ -16,15 +16,15 @@ def struct(name, **members):
     return type(name, (Structure,), {"_fields_": list(members.items())})
 
 
-Place = struct("Place", start=c_size_t, length=c_size_t)
+Span = struct("Span", data=c_void_p, size=c_size_t)  # a pointer into the octets, which have to be kept
 Entry = struct("Entry", start=c_size_t, contents=c_size_t, end=c_size_t, parent=c_size_t, number=c_uint32,
                tag_class=c_uint8, constructed=c_bool)
-Signed = struct("Signed", data=Place, algorithm=Place, signature=Place, unused=c_uint8, has_parameters=c_bool)
-Key = struct("Key", format=c_uint8, unused=c_uint8, bits=Place)
+Signed = struct("Signed", data=Span, algorithm=Span, signature=Span, unused=c_uint8, has_parameters=c_bool)
+Key = struct("Key", format=c_uint8, unused=c_uint8, bits=Span)
 Moment = struct("Moment", seconds=c_int64, year=c_int32, month=c_uint32, day=c_uint32, hour=c_uint32, minute=c_uint32,
                 second=c_uint32)
 Period = struct("Period", not_before=Moment, not_after=Moment)
-Extension = struct("Extension", id=Place, octets=Place, critical=c_bool)
+Extension = struct("Extension", id=Span, octets=Span, critical=c_bool)
 Octets20 = c_uint8 * 20
 
 
@@ -110,19 +110,21 @@ def main(path):
     show_name("issuer", issuer)
     show_name("subject", subject)
     parts = call("public_key", value(key), Key)
-    print(f"public key: {['RSA', 'ECDSA P-256'][parts.format]}, {parts.bits.length} octets")
+    print(f"public key: {['RSA', 'ECDSA P-256'][parts.format]}, {parts.bits.size} octets")
     print("key identifier:", bytes(call("key_identifier", value(key), Octets20)).hex().upper())
     for around in more:
         for number in children[children[around][0]] if is_context(around, 3) else []:
-            found, octets_of = call("extension", value(number), Extension), value(number)
+            extension = value(number)
+            found = call("extension", extension, Extension)
             critical = "critical" if found.critical else "not critical"
-            identifier = dotted(octets_of[found.id.start : found.id.start + found.id.length])
-            print(f"extension {identifier}: {critical}, {found.octets.length} octets")
+            identifier = dotted(ctypes.string_at(found.id.data, found.id.size))
+            print(f"extension {identifier}: {critical}, {found.octets.size} octets")
+    start = ctypes.cast(octets, c_void_p).value
     print("to verify:")
-    print(f"signed: {signed.data.length} octets at {signed.data.start}")
+    print(f"signed: {signed.data.size} octets at {signed.data.data - start}")
     parameters = "with" if signed.has_parameters else "without"
-    print(f"algorithm: {signed.algorithm.length} octets at {signed.algorithm.start}, {parameters} parameters")
-    print(f"signature: {signed.signature.length} octets at {signed.signature.start}")
+    print(f"algorithm: {signed.algorithm.size} octets at {signed.algorithm.data - start}, {parameters} parameters")
+    print(f"signature: {signed.signature.size} octets at {signed.signature.data - start}")
 
 
 if __name__ == "__main__":

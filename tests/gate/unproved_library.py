@@ -18,7 +18,7 @@ import unproved
 from toolchain import TOP, kit
 
 CRATE = "rpki_c"
-CALL = re.compile(r'#\[unsafe\(no_mangle\)\]\s*pub extern "C" fn (\w+)\(([^)]*)\)')
+CALL = re.compile(r'#\[unsafe\(no_mangle\)\]\s*pub extern "C" fn (\w+)(?:<[^>]*>)?\(([^)]*)\)')
 # A value of any type, which no run has.
 ANY = "\nfn any<T>() -> T {\n    any()\n}\n"
 

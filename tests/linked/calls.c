@@ -110,6 +110,12 @@ static void tell_place(const char *name, const struct octets *given, struct rpki
     show_octets(shown, given->at + place.start, place.length);
 }
 
+/* The same of a span. */
+static void tell_span(const char *name, const struct octets *given, struct rpki_span span, struct shown *shown) {
+    struct rpki_place place = {(size_t)((uintptr_t)span.data - (uintptr_t)given->at), span.size};
+    tell_place(name, given, place, shown);
+}
+
 static rpki_status header(const struct octets *given, void *out) { return rpki_header(given->at, given->size, out); }
 
 static void tell_header(const struct octets *given, const void *out, struct shown *shown) {
@@ -216,9 +222,9 @@ static rpki_status signed_data(const struct octets *given, void *out) {
 
 static void tell_signed(const struct octets *given, const void *out, struct shown *shown) {
     const struct rpki_signed_parts *parts = out;
-    tell_place("data", given, parts->data, shown);
-    tell_place("algorithm", given, parts->algorithm, shown);
-    tell_place("signature", given, parts->signature, shown);
+    tell_span("data", given, parts->data, shown);
+    tell_span("algorithm", given, parts->algorithm, shown);
+    tell_span("signature", given, parts->signature, shown);
     show(shown, " | unused %u | has_parameters %s", parts->unused, yes(parts->has_parameters));
 }
 
@@ -229,7 +235,7 @@ static rpki_status public_key(const struct octets *given, void *out) {
 static void tell_key(const struct octets *given, const void *out, struct shown *shown) {
     const struct rpki_key_parts *parts = out;
     show(shown, " | format %u | unused %u", parts->format, parts->unused);
-    tell_place("bits", given, parts->bits, shown);
+    tell_span("bits", given, parts->bits, shown);
 }
 
 static rpki_status key_identifier(const struct octets *given, void *out) {
@@ -307,9 +313,9 @@ static rpki_status extension(const struct octets *given, void *out) {
 
 static void tell_extension(const struct octets *given, const void *out, struct shown *shown) {
     const struct rpki_extension_parts *parts = out;
-    tell_place("id", given, parts->id, shown);
+    tell_span("id", given, parts->id, shown);
     show(shown, " | critical %s", yes(parts->critical));
-    tell_place("octets", given, parts->octets, shown);
+    tell_span("octets", given, parts->octets, shown);
 }
 
 static rpki_status rsync_parse(const struct octets *given, void *out) {
@@ -764,7 +770,7 @@ static bool keys_take_none(void) {
     bool well;
     memcpy(octets.at, before, sizeof before);
     count_allocations(NONE_REFUSED);
-    well = rpki_public_key(octets.at, octets.size, &key) == RPKI_OK && key.bits.length == 16360;
+    well = rpki_public_key(octets.at, octets.size, &key) == RPKI_OK && key.bits.size == 16360;
     well = takes_none() && well;
     count_allocations(NONE_REFUSED);
     well = rpki_key_identifier(octets.at, octets.size, identifier) == RPKI_OK && well;

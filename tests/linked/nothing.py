@@ -16,17 +16,24 @@ static unsigned char one[4096], other[4096];
 
 static void fill(unsigned char *room) { memset(room, 0, sizeof one); }
 
+static struct rpki_span *rest_of_none(const uint8_t *octets) {
+    static struct rpki_span rest;
+    rest.data = octets;
+    rest.size = 0;
+    return &rest;
+}
+
 """
 MAIN = """\
 int main(void) {
-    static const uint8_t nothing[1];
+    static const uint32_t nothing[1];
     unsigned passed = 0, failed = 0;
     size_t at;
     for (at = 0; at < sizeof calls / sizeof *calls; at++) {
         bool well;
         fill(one);
         fill(other);
-        well = calls[at].make(NULL, NULL, one) == calls[at].make(nothing, (uint8_t *)nothing, other);
+        well = calls[at].make(NULL, NULL, one) == calls[at].make((const uint8_t *)nothing, (uint8_t *)nothing, other);
         well = well && !memcmp(one, other, sizeof one);
         passed += well;
         failed += !well;
@@ -48,6 +55,10 @@ def arguments(parameters):
             yield "0"
         elif kind == "const uint8_t *" and after.startswith("size_t"):
             yield "octets"
+        elif kind.startswith("const struct") and re.fullmatch(r"size_t \w*count", after):
+            yield "(const void *)octets"
+        elif name == "rest":
+            yield "rest_of_none(octets)"
         elif "*" in kind and after == "size_t capacity":
             yield f"({kind.strip()})(void *)room_of_none"
         elif "*" in kind or "[" in text:
@@ -64,7 +75,7 @@ def main():
     print(HEAD, end="")
     for name, told in re.findall(r"^rpki_status (rpki_\w+)\(([^)]*)\)", text, re.M):
         passed = list(arguments([" ".join(one.split()) for one in told.split(",")]))
-        if "octets" in passed or any("room_of_none" in one for one in passed):
+        if any("octets" in one or "room_of_none" in one for one in passed):
             calls.append(name)
             takes = "const uint8_t *octets, uint8_t *room_of_none, unsigned char *room"
             print(f"static rpki_status make_{name}({takes}) {{\n    (void)octets, (void)room_of_none, (void)room;\n"

@@ -24,7 +24,7 @@ def asked(text):
             yield f"constant {name}: %llu", [name]
     for name, body in re.findall(r"^struct (rpki_\w+) \{(.*?)^\};", text, re.S | re.M):
         yield f"struct {name}: %llu octets", [f"sizeof(struct {name})"]
-        for kind, member, many in re.findall(r"^\s*([\w ]+?) (\w+)((?:\[\w+\])?);", body, re.M):
+        for kind, member, many in re.findall(r"^\s*([\w ]+?\*?) ?\b(\w+)((?:\[\w+\])?);", body, re.M):
             where, size = f"offsetof(struct {name}, {member})", f"sizeof(((struct {name} *)0)->{member})"
             yield f"member {name}.{member}: {kind}{many} of %llu at %llu", [size, where]
 

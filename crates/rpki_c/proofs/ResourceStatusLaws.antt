@@ -41,7 +41,7 @@ first-filled {E} es old new told size h =
     }
 
 -- and others behind them
-two-filled : {E : Type 0} (es fs old mid new : List E) (n told : ℕ) → n ≡ length es → told ≡ n + length fs
+pub two-filled : {E : Type 0} (es fs old mid new : List E) (n told : ℕ) → n ≡ length es → told ≡ n + length fs
     → IsFilledAt 0 es old mid → IsFilledAt n fs mid new → told ≤ length old → AreFilled (es ++ fs) old new told
 two-filled {E} es fs old mid new n told is size h k room =
     let both : length (es ++ fs) ≡ length es + length fs = length-append es fs in

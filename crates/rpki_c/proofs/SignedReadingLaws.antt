@@ -1,5 +1,7 @@
 -- Reading the parts of signed data in place.
-use Rattle.std.proofs.Common.{◌≡◌, ℕ, Bool, true, false, List, refl, subst}
+use Rattle.std.proofs.Common.{◌≡◌, ◌∙◌, ◌-◌, ◌++◌, ℕ, Bool, true, false, List, [], length, take, refl, sym, ap, subst}
+use Rattle.std.proofs.Common.{arith, append-nil, append_assoc, length-append}
+use Rattle.std.proofs.Math.Seq.{take-append_seam}
 use Rattle.rpki_der.specs.declared.error.DecodeError.{DecodeError}
 use Rattle.rpki_der.specs.declared.error.DecodeError.TheVariants.{Truncated, BadTag, BadLength, Unexpected, Content}
 use Rattle.rpki_der.specs.declared.error.DecodeError.TheVariants.{Trailing, OutOfMemory}
@@ -12,8 +14,10 @@ use Rattle.rpki_der.specs.FirstFault.FirstFault.{AtPart, Later}
 use Rattle.rpki_der.proofs.ComposedLaws.{outer-refused, inner-refused}
 use Rattle.rpki.specs.Oids.{sha256_with_rsa_encryption}
 use Rattle.rpki.specs.Algorithm.{SpellsAlgorithm}
-use Rattle.rpki.specs.SignedData.{SignedParts, SpellsSignature, IsSignedContents}
-use Rattle.rpki_c.specs.Signed.{SpellsRpki, IsAllPartsFault, IsSignedFault}
+use Rattle.rpki.specs.SignedData.{SignedParts, parts_of, SpellsSignature, IsSignedContents}
+use Rattle.rpki_der.specs.Members.{SpellsValue}
+use Rattle.rpki_c.specs.declared.signed.SignedView.{SignedView}
+use Rattle.rpki_c.specs.Signed.{SpellsRpki, IsAllPartsFault, IsSignedFault, AreInContents, AreInSigned}
 
 -- ---- errors that are not allocation failure
 
@@ -64,3 +68,49 @@ pub parts-refused : (s c q : List ℕ) (e : DecodeError) → Accepts (SpellsCont
 parts-refused s c q e a h =
     let k = inner-refused sequence true AreParts s c q s e refl a h.0 in
     record { unchanged = refl; refuses = k.refuses; kind = Later c q a h.1 }
+
+-- ---- what was read
+
+-- the octets in front of the rest
+pub front-of : (w b f q : List ℕ) → w ≡ f ++ q → b ≡ q → take (length w - length b) w ≡ f
+front-of w b f q e i =
+    rw (i, e) (
+    let n : length (f ++ q) - length q ≡ length f = omega (arith, length-append f q) in rw n (take-append_seam f q)
+    )
+
+-- the parts were read one after another, and nothing is left
+pub in-contents : (s d m q r : List ℕ) (a : Bool) (v : List ℕ) → Accepts SpellsValue s d m
+    → (two : Accepts (SpellsAlgorithm sha256_with_rsa_encryption) m a q) → (three : Spells SpellsSignature q v r)
+    → r ≡ []
+    → (h : AreParts (parts_of d a v) s) × (h.text ≡ two.spells.front) × (h.signature.unused ≡ three.spelled.unused)
+in-contents s d m q r a v one two three e = (
+  record {
+    text = two.spells.front;
+    bits = three.front;
+    parts =
+        one.spells.parts ∙ ap (λ (p : List ℕ). p ++ m) one.spells.spelled.same
+        ∙ ap (λ (p : List ℕ). d ++ p) (two.spells.parts
+        ∙ ap (λ (p : List ℕ). two.spells.front ++ p) (three.parts
+        ∙ ap (λ (p : List ℕ). three.front ++ p) e ∙ append-nil three.front))
+        ∙ sym (append_assoc d two.spells.front three.front);
+    one = one.spells.spelled.value;
+    named = two.spells.spelled;
+    signature = three.spelled;
+  },
+  refl,
+  refl,
+)
+
+-- the same in a SEQUENCE
+pub in-signed : (s c q : List ℕ) (v : SignedView) → Spells (SpellsContents sequence true) s c q → q ≡ []
+    → AreInContents c v → AreInSigned s v
+in-signed s c q v h e k = record {
+  spelled = record {
+    contents = c;
+    value = subst (SpellsContents sequence true c)
+        (sym (h.parts ∙ ap (λ (p : List ℕ). h.front ++ p) e ∙ append-nil h.front)) h.spelled;
+    spelled = k.spelled;
+  };
+  algorithm = k.algorithm;
+  unused = k.unused;
+}

@@ -1,5 +1,5 @@
 -- What the status of a signature says where it is not 0.
-use Rattle.std.proofs.Common.{◌≡◌, ℕ, List, Bool, false, Err, inl, inr, refl, sym, subst, ◌∙◌}
+use Rattle.std.proofs.Common.{◌≡◌, ℕ, List, Bool, true, false, Err, inl, inr, refl, sym, subst, ◌∙◌, arith}
 use Rattle.std.specs.Prelude.{◌↔◌, IsTrue}
 use Rattle.std.proofs.lemmas.Bool.{false≢true}
 use Rattle.sha2.specs.Sha256.{sha256}
@@ -12,7 +12,7 @@ use Rattle.rpki_rsa.specs.Key.{SpellsKey as SpellsRsaKey, IsKeyOf, IsSignature}
 use Rattle.rpki_rsa.specs.RsaKey.{RsaKey}
 use Rattle.rpki_rsa.proofs.KeyLemmas.{one-key, no-key}
 use Rattle.rpki_c.specs.Key.{IsWholeKeyFault, IsKeyStatus}
-use Rattle.rpki_c.specs.Verified.{IsVerified, IsVerifiedBy}
+use Rattle.rpki_c.specs.Verified.{IsVerified, IsVerifiedBy, HasSigned}
 
 pub bad-signature : (k : KeyParts) (message signature : List ℕ) (key : RsaKey) (b : Bool) → k.format ≡ Rsa
     → SpellsRsaKey key k.bits.octets → (IsTrue b ↔ IsSignature key (sha256 message) signature) → b ≡ false
@@ -26,6 +26,12 @@ bad-signature k message signature key b format spelled is wrong =
           false≢true (sym wrong ∙ yes),
     ))
 
+pub good-signature : (k : KeyParts) (message signature : List ℕ) (key : RsaKey) (b : Bool) → k.format ≡ Rsa
+    → SpellsRsaKey key k.bits.octets → (IsTrue b ↔ IsSignature key (sha256 message) signature) → b ≡ true
+    → IsVerifiedBy k message signature 0
+good-signature k message signature key b format spelled is right =
+    inl (refl, record { format = format; signed = record { key = key; spelled = spelled; signed = is.0 right } })
+
 pub not-accepted : (k : KeyParts) (message signature : List ℕ) (e : KeyError) → IsKeyOf k.bits.octets (Err e)
     → IsVerifiedBy k message signature 52
 not-accepted k message signature e h = inr (inl (refl, λ a. no-key k.bits.octets e a.key h a.spelled))
@@ -37,3 +43,10 @@ pub verification-refused : (s message signature : List ℕ) (e : DecodeError) (s
 verification-refused s message signature e status k (inl h) = inr (inl (h.0, h.1))
 verification-refused s message signature e status k (inr h) =
     inr (inr (h.1, record { error = e; number = h.0; nothing = k.0; kind = k.1 }))
+
+-- status 0: the key has signed the message
+pub verified-signed : (k : KeyParts) (message signature : List ℕ) → IsVerifiedBy k message signature 0
+    → HasSigned k message signature
+verified-signed k message signature (inl h) = h.1
+verified-signed k message signature (inr (inl h)) = absurd (omega (arith, h.0))
+verified-signed k message signature (inr (inr h)) = absurd (omega (arith, h.0))

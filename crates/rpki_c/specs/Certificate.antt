@@ -1,5 +1,5 @@
 -- What a status says of the octets of a certificate.
-use Rattle.std.specs.Prelude.{◌≡◌, ◌⊎◌, ◌++◌, ℕ, List, []}
+use Rattle.std.specs.Prelude.{◌≡◌, ◌⊎◌, ℕ, List}
 use Rattle.rpki_der.specs.Error.{error_number}
 use Rattle.rpki_der.specs.Number.{number_of}
 use Rattle.rpki_cert.specs.declared.read.cert_error.CertError.{CertError}
@@ -12,9 +12,9 @@ use Rattle.rpki_cert.specs.declared.read.cert_part.CertPart.TheVariants.{SameAlg
 use Rattle.rpki_cert.specs.Cert.{TbsParts, CertParts, SpellsCert}
 use Rattle.rpki_cert.specs.View.{AreNamed, IsCertError, IsCertWrong}
 use Rattle.rpki_c.specs.declared.certificate.CertificateParts.{CertificateParts as Parts}
-use Rattle.rpki_c.specs.Place.{StandsBefore}
 use Rattle.rpki_c.specs.Key.{format_number}
 use Rattle.rpki_c.specs.Time.{IsMoment}
+use Rattle.rpki_c.specs.Whole.{IsRead}
 
 -- the status of octets of which this part is wrong
 abbrev pub part_number : CertPart → ℕ
@@ -35,39 +35,32 @@ part_number ExtensionCount = 77
 part_number ExtensionIdentifiers = 78
 part_number SameAlgorithm = 79
 
--- what follows what is signed of a certificate: the algorithm and the signature
-abbrev pub behind_signed : (x : CertParts) (s : List ℕ) → SpellsCert x s → List ℕ
-behind_signed x s h = h.signed.spelled.text ++ h.signed.spelled.bits
+-- the names, the key, and the extensions, one after another; h says which octets are which
+pub record HasNamed (t : TbsParts) (d : List ℕ) (h : AreNamed t d) (p : Parts) : Type 0 where
+  pub issuer : p.issuer.octets.now ≡ t.issuer
+  pub subject : p.subject.octets.now ≡ t.subject
+  pub key : p.public_key.octets.now ≡ h.two.two.two.first
+  pub extensions : p.extensions.octets.now ≡ h.two.two.two.two.spelled.contents
 
--- the names and the key stand at these places, and the extensions, one after another; h says which octets spell which
-pub record HasNamed (t : TbsParts) (d : List ℕ) (h : AreNamed t d) (s behind : List ℕ) (p : Parts) : Type 0 where
-  pub issuer : StandsBefore s p.issuer t.issuer (h.second ++ behind)
-  pub subject : StandsBefore s p.subject t.subject (h.two.two.second ++ behind)
-  pub key : StandsBefore s p.public_key h.two.two.two.first (h.two.two.two.second ++ behind)
-  pub extensions : StandsBefore s p.extensions h.two.two.two.two.spelled.contents behind
-
--- the octets are a certificate, whose parts stand at these places, as the grammar divides the octets
+-- the octets are a certificate, whose parts these are, as the grammar divides the octets
 pub record HasCertificate (s : List ℕ) (p : Parts) : Type 0 where
   pub cert : CertParts
   pub spelled : SpellsCert cert s
-  pub signed : StandsBefore s p.«data» cert.signed.signed (behind_signed cert s spelled)
-  pub algorithm : StandsBefore s p.algorithm spelled.signed.spelled.text spelled.signed.spelled.bits
+  pub signed : p.«data».octets.now ≡ cert.signed.signed
+  pub algorithm : p.algorithm.octets.now ≡ spelled.signed.spelled.text
   pub parameters : p.has_parameters ≡ cert.signed.algorithm
-  pub signature : StandsBefore s p.signature cert.signed.value []
+  pub signature : p.signature.octets.now ≡ cert.signed.value
   pub serial : number_of p.serial_number ≡ cert.tbs.serial
   pub not_before : IsMoment cert.tbs.validity.not_before p.validity.not_before
   pub not_after : IsMoment cert.tbs.validity.not_after p.validity.not_after
-  pub named : HasNamed cert.tbs spelled.tbs.spelled.two.two.second spelled.tbs.spelled.two.two.two s
-      (behind_signed cert s spelled) p
+  pub named : HasNamed cert.tbs spelled.tbs.spelled.two.two.second spelled.tbs.spelled.two.two.two p
   pub format : p.key_format ≡ format_number cert.tbs.key.format
   pub unused : p.key_unused ≡ cert.tbs.key.bits.unused
 
 -- Status 0: the octets are a certificate of these parts. Else the number of the part that is wrong, and nothing is
 -- written.
 abbrev pub IsCertificateRead : List ℕ → ℕ → Parts → Parts → Type 0
-IsCertificateRead s status old new =
-    ((status ≡ 0) × HasCertificate s new)
-    ⊎ ((q : CertPart) × (status ≡ part_number q) × IsCertWrong s q × (new ≡ old))
+IsCertificateRead s = IsRead (HasCertificate s) part_number (IsCertWrong s)
 
 -- Status 0: the octets are a certificate, and nothing is written. Else the number of the part that is wrong, and the
 -- number of the error, as a reader of that part returns it, is written.

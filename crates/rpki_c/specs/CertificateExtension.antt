@@ -1,14 +1,14 @@
 -- What a status says of one extension of a certificate, whichever others there are.
 use Rattle.std.specs.Prelude.{◌≡◌, ◌⊎◌, ◌<◌, ℕ, List}
-use Rattle.rpki_cert.specs.declared.read.cert_part.CertPart.{CertPart}
 use Rattle.rpki_cert.specs.declared.extension.kind.ExtensionKind.{ExtensionKind}
 use Rattle.rpki_cert.specs.Cert.{CertParts, SpellsCert}
 use Rattle.rpki_cert.specs.ExtensionTable.{identifier_of}
 use Rattle.rpki_cert.specs.View.{IsCertWrong}
 use Rattle.rpki_c.specs.declared.certificate_extensions.KnownExtension.{KnownExtension}
 use Rattle.rpki_c.specs.Certificate.{part_number}
-use Rattle.rpki_c.specs.CertificateExtensions.{IsFoundAt}
+use Rattle.rpki_c.specs.CertificateExtensions.{IsFoundAs}
 use Rattle.rpki_c.specs.Status.{no_answer}
+use Rattle.rpki_c.specs.Whole.{IsRead}
 
 -- how an extension is passed
 abbrev pub kind_number : ExtensionKind → ℕ
@@ -26,18 +26,16 @@ kind_number ExtensionKind.IpResourcesV2 = 10
 kind_number ExtensionKind.AsResources = 11
 kind_number ExtensionKind.AsResourcesV2 = 12
 
--- the octets are a certificate, and its extension of this kind stands at the place, or there is none
+-- the octets are a certificate, and this is its extension of this kind, or that there is none
 pub record HasExtension (s : List ℕ) (kind : ExtensionKind) (p : KnownExtension) : Type 0 where
   pub cert : CertParts
   pub spelled : SpellsCert cert s
-  pub found : IsFoundAt cert s spelled (identifier_of kind) p
+  pub found : IsFoundAs cert (identifier_of kind) p
 
 -- Status 0: the octets are a certificate, and this is what it has of this kind. Else the number of the part that is
 -- wrong. Nothing is written where the status is not 0.
 abbrev pub IsExtensionReadOf : List ℕ → ExtensionKind → ℕ → KnownExtension → KnownExtension → Type 0
-IsExtensionReadOf s kind status old new =
-    ((status ≡ 0) × HasExtension s kind new)
-    ⊎ ((q : CertPart) × (status ≡ part_number q) × IsCertWrong s q × (new ≡ old))
+IsExtensionReadOf s kind = IsRead (HasExtension s kind) part_number (IsCertWrong s)
 
 -- the same of the kind of this number; status 10: no kind has it
 abbrev pub IsExtensionFound : List ℕ → ℕ → ℕ → KnownExtension → KnownExtension → Type 0

@@ -1,7 +1,6 @@
 -- What a status says of the extensions of a certificate.
-use Rattle.std.specs.Prelude.{◌≡◌, ◌⊎◌, ◌++◌, ℕ, true, false, List, Option, Some, None, replicate}
-use Rattle.rpki_der.specs.Each.{SpellsEach}
-use Rattle.rpki.specs.ExtensionValue.{ExtensionParts, SpellsExtension}
+use Rattle.std.specs.Prelude.{◌≡◌, ◌⊎◌, ℕ, true, false, List, [], Option, Some, None, replicate}
+use Rattle.rpki.specs.ExtensionValue.{ExtensionParts}
 use Rattle.rpki_cert.specs.declared.read.cert_part.CertPart.{CertPart}
 use Rattle.rpki_cert.specs.declared.extension.known_part.KnownPart.{KnownPart}
 use Rattle.rpki_cert.specs.declared.extension.known_part.KnownPart.TheVariants.{BasicConstraints, SubjectKeyIdentifier}
@@ -18,11 +17,10 @@ use Rattle.rpki_cert.specs.Known.{certificate_policies, authority_key_identifier
 use Rattle.rpki_cert.specs.Known.{authority_info_access, subject_info_access, ip_addr_blocks, ip_addr_blocks_v2}
 use Rattle.rpki_cert.specs.Known.{autonomous_sys_ids, autonomous_sys_ids_v2}
 use Rattle.rpki_cert.specs.KnownView.{AreKnown, IsFirstWrong}
-use Rattle.rpki_cert.specs.View.{behind_first, IsCertWrong}
+use Rattle.rpki_cert.specs.View.{IsCertWrong}
 use Rattle.rpki_c.specs.declared.certificate_extensions.KnownExtension.{KnownExtension}
 use Rattle.rpki_c.specs.declared.certificate_extensions.KnownExtensions.{KnownExtensions as Extensions}
-use Rattle.rpki_c.specs.Certificate.{part_number, behind_signed}
-use Rattle.rpki_c.specs.Place.{StandsBefore}
+use Rattle.rpki_c.specs.Certificate.{part_number}
 
 -- the status of a certificate that has this extension, which is malformed, or not as critical as it has to be
 abbrev pub known_number : KnownPart → ℕ
@@ -49,43 +47,32 @@ abbrev pub IsIdentifierOf : Option (List ℕ) → List ℕ → Type 0
 IsIdentifierOf None octets = octets ≡ replicate 20 0
 IsIdentifierOf (Some k) octets = octets ≡ k
 
--- the extension's octets stand at the place in s, and these follow them; or there is none
-abbrev pub IsExtensionAt : List ℕ → Option ExtensionParts → List ℕ → KnownExtension → Type 0
-IsExtensionAt s None behind p =
-    (p.is_there ≡ false) × (p.critical ≡ false) × (p.octets.start ≡ 0) × (p.octets.length ≡ 0)
-IsExtensionAt s (Some x) behind p =
-    (p.is_there ≡ true) × (p.critical ≡ x.critical) × StandsBefore s p.octets x.content behind
+-- this is what is written of the extension, or that there is none
+abbrev pub IsKnownAs : Option ExtensionParts → KnownExtension → Type 0
+IsKnownAs None p = (p.is_there ≡ false) × (p.critical ≡ false) × (p.octets.octets.now ≡ [])
+IsKnownAs (Some x) p = (p.is_there ≡ true) × (p.critical ≡ x.critical) × (p.octets.octets.now ≡ x.content)
 
--- the list of the extensions of a certificate, as the grammar divides its octets
-abbrev pub list_in : (x : CertParts) (s : List ℕ) → SpellsCert x s
-    → (contents : List ℕ) × SpellsEach SpellsExtension x.tbs.extensions contents
-list_in x s h =
-    let list = h.tbs.spelled.two.two.two.two.two.two.two.spelled in (list.contents, list.spelled.some.each)
+-- the same of the certificate's first extension of this identifier
+abbrev pub IsFoundAs : CertParts → List ℕ → KnownExtension → Type 0
+IsFoundAs x id p = IsKnownAs (find id x.tbs.extensions) p
 
--- the first extension of this identifier stands at the place in the certificate, or there is none
-abbrev pub IsFoundAt : (x : CertParts) (s : List ℕ) → SpellsCert x s → List ℕ → KnownExtension → Type 0
-IsFoundAt x s h id p =
-    let (contents, each) = list_in x s h in
-    let behind = behind_first id x.tbs.extensions contents each ++ behind_signed x s h in
-    IsExtensionAt s (find id x.tbs.extensions) behind p
-
--- the octets are a certificate, and these are its extensions: where they stand, and what those say that are read
+-- the octets are a certificate, and these are its extensions, and what those say that are read
 pub record HasExtensions (s : List ℕ) (p : Extensions) : Type 0 where
   pub cert : CertParts
   pub spelled : SpellsCert cert s
-  pub constraints : IsFoundAt cert s spelled basic_constraints p.basic_constraints
-  pub subject : IsFoundAt cert s spelled subject_key_identifier p.subject_key_identifier
-  pub authority : IsFoundAt cert s spelled authority_key_identifier p.authority_key_identifier
-  pub usage : IsFoundAt cert s spelled key_usage p.key_usage
-  pub purposes : IsFoundAt cert s spelled extended_key_usage p.extended_key_usage
-  pub points : IsFoundAt cert s spelled crl_distribution_points p.crl_distribution_points
-  pub issuer_access : IsFoundAt cert s spelled authority_info_access p.authority_info_access
-  pub subject_access : IsFoundAt cert s spelled subject_info_access p.subject_info_access
-  pub policies : IsFoundAt cert s spelled certificate_policies p.certificate_policies
-  pub addresses : IsFoundAt cert s spelled ip_addr_blocks p.ip_resources
-  pub addresses_v2 : IsFoundAt cert s spelled ip_addr_blocks_v2 p.ip_resources_v2
-  pub numbers : IsFoundAt cert s spelled autonomous_sys_ids p.as_resources
-  pub numbers_v2 : IsFoundAt cert s spelled autonomous_sys_ids_v2 p.as_resources_v2
+  pub constraints : IsFoundAs cert basic_constraints p.basic_constraints
+  pub subject : IsFoundAs cert subject_key_identifier p.subject_key_identifier
+  pub authority : IsFoundAs cert authority_key_identifier p.authority_key_identifier
+  pub usage : IsFoundAs cert key_usage p.key_usage
+  pub purposes : IsFoundAs cert extended_key_usage p.extended_key_usage
+  pub points : IsFoundAs cert crl_distribution_points p.crl_distribution_points
+  pub issuer_access : IsFoundAs cert authority_info_access p.authority_info_access
+  pub subject_access : IsFoundAs cert subject_info_access p.subject_info_access
+  pub policies : IsFoundAs cert certificate_policies p.certificate_policies
+  pub addresses : IsFoundAs cert ip_addr_blocks p.ip_resources
+  pub addresses_v2 : IsFoundAs cert ip_addr_blocks_v2 p.ip_resources_v2
+  pub numbers : IsFoundAs cert autonomous_sys_ids p.as_resources
+  pub numbers_v2 : IsFoundAs cert autonomous_sys_ids_v2 p.as_resources_v2
   pub said : KnownView
   pub known : AreKnown cert.tbs.extensions said
   pub ca : p.is_ca ≡ said.ca

@@ -1,5 +1,5 @@
 -- What a status says of the octets of a public key.
-use Rattle.std.specs.Prelude.{◌≡◌, ◌⊎◌, ◌+◌, ℕ, List, length}
+use Rattle.std.specs.Prelude.{◌≡◌, ◌⊎◌, ℕ, List}
 use Rattle.sha1.specs.Sha1.{sha1}
 use Rattle.rpki_der.specs.declared.error.DecodeError.{DecodeError}
 use Rattle.rpki_der.specs.Error.{error_number}
@@ -10,7 +10,6 @@ use Rattle.rpki.specs.KeyFault.{key, key_view}
 use Rattle.rpki.specs.declared.crypto.keys.PublicKeyFormat.{PublicKeyFormat}
 use Rattle.rpki.specs.declared.crypto.keys.PublicKeyFormat.TheVariants.{Rsa, EcdsaP256}
 use Rattle.rpki_c.specs.declared.keys.KeyParts.{KeyParts as Parts}
-use Rattle.rpki_c.specs.Place.{IsPlace}
 use Rattle.rpki_c.specs.Status.{other_algorithm}
 use Rattle.rpki_c.specs.Identifier.{IsOther, HoldsFirst}
 use Rattle.rpki_c.specs.Whole.{IsRefused, NeverMemory}
@@ -37,14 +36,13 @@ abbrev pub format_number : PublicKeyFormat → ℕ
 format_number Rsa = 0
 format_number EcdsaP256 = 1
 
--- the octets are a public key: its format, how many bits are unused, and where its bits stand, the last octets
+-- the octets are a public key: its format, its bits, and how many of them are unused
 pub record HasKey (s : List ℕ) (p : Parts) : Type 0 where
   pub key : KeyParts
   pub spelled : SpellsKey key s
   pub format : p.format ≡ format_number key.format
   pub unused : p.unused ≡ key.bits.unused
-  pub bits : IsPlace s p.bits key.bits.octets
-  pub last : p.bits.start + p.bits.length ≡ length s
+  pub bits : p.bits.octets.now ≡ key.bits.octets
 
 -- Status 0: the octets are a public key of these parts. 13: the identifier of its algorithm is another one. Else the
 -- number of the error. Only with 0 is anything written.

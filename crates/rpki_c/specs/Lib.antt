@@ -5,6 +5,7 @@ pub mod Uri
 pub mod Stored
 pub mod RsyncPlaces
 pub mod Whole
+pub mod Span
 pub mod Identifier
 pub mod Key
 pub mod Serial
@@ -47,3 +48,15 @@ pub mod Aspa
 pub mod Access
 pub mod Taking
 pub mod Verified
+pub mod FileDigest
+pub mod SignedBy
+pub mod ListIssued
+pub mod ObjectVerified
+pub mod Held
+pub mod Settling
+pub mod CertificateResources
+pub mod Within
+pub mod Seconds
+pub mod ContentType
+pub mod Anchor
+pub mod SignerResources

@@ -1,5 +1,5 @@
 -- What a status says of the octets of signed data.
-use Rattle.std.specs.Prelude.{◌≡◌, ◌⊎◌, ◌+◌, ℕ, Bool, List, drop, length}
+use Rattle.std.specs.Prelude.{◌≡◌, ◌⊎◌, ℕ, Bool, List}
 use Rattle.rpki_der.specs.declared.error.DecodeError.{DecodeError}
 use Rattle.rpki_der.specs.Reading.{OrMemoryWhere, IsWholeFault}
 use Rattle.rpki_der.specs.Members.{SpellsValue}
@@ -10,10 +10,10 @@ use Rattle.rpki_der.specs.LeafFormats.{bits_value}
 use Rattle.rpki.specs.Oids.{sha256_with_rsa_encryption}
 use Rattle.rpki.specs.Algorithm.{SpellsAlgorithm}
 use Rattle.rpki.specs.AlgorithmFault.{algorithm}
-use Rattle.rpki.specs.SignedData.{SignedParts, IsSignedContents, SpellsSigned}
+use Rattle.rpki.specs.SignedData.{SignedParts, parts_of, IsSignedContents, SpellsSigned}
 use Rattle.rpki.specs.SignedFault.{three, around_three}
 use Rattle.rpki_c.specs.declared.signed.SignedParts.{SignedParts as Parts}
-use Rattle.rpki_c.specs.Place.{IsPlace}
+use Rattle.rpki_c.specs.declared.signed.SignedView.{SignedView}
 use Rattle.rpki_c.specs.Status.{other_algorithm}
 use Rattle.rpki_c.specs.Identifier.{IsOther, HoldsFirst, FollowsValue}
 use Rattle.rpki_c.specs.Whole.{IsRefusedElse}
@@ -52,20 +52,33 @@ AreOtherParts = FollowsValue (IsOther (SpellsAlgorithm sha256_with_rsa_encryptio
 abbrev pub IsOtherSigned : List ℕ → Type 0
 IsOtherSigned = HoldsFirst AreOtherParts
 
--- the octets are signed data: its parts stand at these places, one after another, the signature's octets last
+-- the parts of a view
+abbrev pub signed_in : SignedView → SignedParts Bool
+signed_in v = parts_of v.«data».now v.has_parameters v.signature.now
+
+-- The contents are these parts; the algorithm's octets, and the count of unused bits, are those of the view.
+pub record AreInContents (c : List ℕ) (v : SignedView) : Type 0 where
+  pub spelled : AreRpkiParts (signed_in v) c
+  pub algorithm : v.algorithm.now ≡ spelled.text
+  pub unused : v.unused ≡ spelled.signature.unused
+
+-- the same of the SEQUENCE around them
+pub record AreInSigned (s : List ℕ) (v : SignedView) : Type 0 where
+  pub spelled : SpellsRpki (signed_in v) s
+  pub algorithm : v.algorithm.now ≡ spelled.spelled.text
+  pub unused : v.unused ≡ spelled.spelled.signature.unused
+
+-- the octets are signed data, whose parts these are
 pub record HasSigned (s : List ℕ) (p : Parts) : Type 0 where
   pub parts : SignedParts Bool
   pub spelled : SpellsRpki parts s
-  pub signed : IsPlace s p.«data» parts.signed
-  pub algorithm : IsPlace s p.algorithm spelled.spelled.text
-  pub signature : IsPlace s p.signature parts.value
-  pub first : drop p.«data».start s ≡ spelled.contents
-  pub next : p.algorithm.start ≡ p.«data».start + p.«data».length
-  pub last : p.signature.start + p.signature.length ≡ length s
+  pub signed : p.«data».octets.now ≡ parts.signed
+  pub algorithm : p.algorithm.octets.now ≡ spelled.spelled.text
+  pub signature : p.signature.octets.now ≡ parts.value
   pub unused : p.unused ≡ spelled.spelled.signature.unused
   pub parameters : p.has_parameters ≡ parts.algorithm
 
--- Status 0: the octets are signed data with its parts at these places. 13: the identifier of its algorithm is another
+-- Status 0: the octets are signed data of these parts. 13: the identifier of its algorithm is another
 -- one. Else the number of the error. Only with 0 is anything written.
 abbrev pub IsSignedRead : List ℕ → ℕ → Parts → Parts → Type 0
 IsSignedRead s status old new =

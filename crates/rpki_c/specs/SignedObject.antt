@@ -1,19 +1,18 @@
 -- What a status says of the octets of a signed object.
-use Rattle.std.specs.Prelude.{◌≡◌, ◌⊎◌, ◌++◌, ◌↔◌, ◌<◌, ℕ, Bool, true, false, List, [], Option, None, Some, IsTrue}
-use Rattle.std.specs.Prelude.{length}
+use Rattle.std.specs.Prelude.{◌≡◌, ◌↔◌, ◌<◌, ℕ, Bool, true, false, List, Option, None, Some, IsTrue, length}
 use Rattle.jiff.specs.Types.{DateTime}
 use Rattle.rpki_cert.specs.View.{most_extensions}
 use Rattle.rpki_objects.specs.declared.object_part.ObjectPart.{ObjectPart}
 use Rattle.rpki_objects.specs.declared.object_part.ObjectPart.TheVariants as P
-use Rattle.rpki_objects.specs.SignedAttributes.{AttributeValues}
+use Rattle.rpki_objects.specs.SignedAttributes.{AttributeValues, message_of}
 use Rattle.rpki_objects.specs.SignedObject.{SignerParts, signer_fields_of, signer_fields, ObjectParts, data_fields_of}
 use Rattle.rpki_objects.specs.SignedObject.{data_fields, object_fields_of, signed_object}
 use Rattle.rpki_objects.specs.SignedObjectView.{IsObjectWrong}
 use Rattle.rpki_c.specs.declared.signed_object.SignedObjectParts.{SignedObjectParts as Parts}
 use Rattle.rpki_c.specs.declared.times.Moment.{Moment}
 use Rattle.rpki_c.specs.Certificate.{part_number}
-use Rattle.rpki_c.specs.Place.{StandsBefore}
 use Rattle.rpki_c.specs.Time.{IsMoment}
+use Rattle.rpki_c.specs.Whole.{IsRead}
 
 -- the status of octets of which this part is wrong
 abbrev pub object_part_number : ObjectPart → ℕ
@@ -50,32 +49,32 @@ pub record HasValues (v : AttributeValues) (p : Parts) : Type 0 where
   pub signing_time : IsMomentIf v.signing_time p.has_signing_time p.signing_time
   pub binary_signing_time : IsNumberIf v.binary_signing_time p.has_binary_signing_time p.binary_signing_time
 
--- the parts of a signer stand at these places; h says which octets spell which
+-- the parts of a signer; h says which octets spell which. What is signed is made of the signed attributes (RFC 5652
+-- 5.4).
 pub record HasSigner (strict : Bool) (x : SignerParts) (d : List ℕ)
-    (h : (signer_fields strict).spells (signer_fields_of x) d) (s : List ℕ) (p : Parts) : Type 0 where
-  pub signed_attributes : StandsBefore s p.signed_attributes h.two.two.two.first h.two.two.two.second
-  pub signature : StandsBefore s p.signature x.signature.value []
+    (h : (signer_fields strict).spells (signer_fields_of x) d) (p : Parts) : Type 0 where
+  pub signed_attributes : p.signed_attributes.octets.now ≡ h.two.two.two.first
+  pub message : x.attributes.message ≡ message_of p.signed_attributes.octets.now
+  pub signature : p.signature.octets.now ≡ x.signature.value
   pub identifier : p.signer_identifier ≡ x.identifier
   pub parameters : p.has_parameters ≡ x.signature.algorithm
   pub values : HasValues x.attributes.values p
 
 -- the same of the parts of signed data
 pub record HasData (strict : Bool) (x : ObjectParts) (d : List ℕ)
-    (h : (data_fields strict).spells (data_fields_of x) d) (s : List ℕ) (p : Parts) : Type 0 where
-  pub content_type : StandsBefore s p.content_type x.content.content_type
-      (h.two.two.one.spelled.second ++ h.two.two.second)
-  pub content : StandsBefore s p.content x.content.content h.two.two.second
-  pub certificate : StandsBefore s p.certificate h.two.two.two.one.contents h.two.two.two.second
-  pub signer : HasSigner strict x.signer h.two.two.two.two.spelled.contents h.two.two.two.two.spelled.spelled s p
+    (h : (data_fields strict).spells (data_fields_of x) d) (p : Parts) : Type 0 where
+  pub content_type : p.content_type.octets.now ≡ x.content.content_type
+  pub content : p.content.octets.now ≡ x.content.content
+  pub certificate : p.certificate.octets.now ≡ h.two.two.two.one.contents
+  pub signer : HasSigner strict x.signer h.two.two.two.two.spelled.contents h.two.two.two.two.spelled.spelled p
   pub is_type_signed : IsTrue p.is_type_signed
       ↔ (x.content.content_type ≡ x.signer.attributes.values.content_type)
 
--- The octets are a signed object, whose parts stand at these places, as the grammar divides the octets. What is signed,
--- `object.signer.attributes.message`, is `message_of` what stands at `signed_attributes` (RFC 5652 5.4).
+-- the octets are a signed object, whose parts these are, as the grammar divides the octets
 pub record HasObject (strict : Bool) (s : List ℕ) (p : Parts) : Type 0 where
   pub object : ObjectParts
   pub spelled : (signed_object strict).spells (object_fields_of object) s
-  pub parts : HasData strict object spelled.spelled.two.spelled.contents spelled.spelled.two.spelled.spelled s p
+  pub parts : HasData strict object spelled.spelled.two.spelled.contents spelled.spelled.two.spelled.spelled p
 
 -- the octets are no signed object, but for one whose certificate has more extensions than are compared
 abbrev pub IsNoObject : Bool → List ℕ → Type 0
@@ -86,7 +85,5 @@ IsNoObject strict s =
 -- Status 0: the octets are a signed object of these parts. Else the number of the part that is wrong, and nothing is
 -- written.
 abbrev pub IsObjectRead : Bool → List ℕ → ℕ → Parts → Parts → Type 0
-IsObjectRead strict s status old new =
-    ((status ≡ 0) × HasObject strict s new)
-    ⊎ ((q : ObjectPart) × (status ≡ object_part_number q) × IsObjectWrong strict s q × IsNoObject strict s
-    × (new ≡ old))
+IsObjectRead strict s =
+    IsRead (HasObject strict s) object_part_number (λ q. IsObjectWrong strict s q × IsNoObject strict s)

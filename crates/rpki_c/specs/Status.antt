@@ -86,3 +86,43 @@ key_not_accepted = 52
 -- a signature is not one of the message by the key
 abbrev pub bad_signature : ℕ
 bad_signature = 53
+
+-- the digest of octets is not the one that is said
+abbrev pub other_digest : ℕ
+other_digest = 54
+
+-- the type of a content is not the one that is signed
+abbrev pub other_type : ℕ
+other_type = 55
+
+-- the subject key identifier of a certificate isn't there, or isn't that of the signer
+abbrev pub other_signer : ℕ
+other_signer = 56
+
+-- the subject key identifier of a certificate isn't there, or isn't that of its own key
+abbrev pub other_key : ℕ
+other_key = 57
+
+-- resources are not within those of the issuer
+abbrev pub other_resources : ℕ
+other_resources = 58
+
+-- a certificate has no policies: the number of that rule
+abbrev pub no_policies : ℕ
+no_policies = 108
+
+-- the resources of a certificate are not critical, or not in canonical form: the number of that rule
+abbrev pub wrong_resources : ℕ
+wrong_resources = 116
+
+-- the resources of a manifest's certificate are not those of its issuer
+abbrev pub not_inherited : ℕ
+not_inherited = 59
+
+-- the key of a certificate is not that of the locator
+abbrev pub other_anchor : ℕ
+other_anchor = 60
+
+-- a certificate lists other kinds of resources than one that signs an object of a type has to
+abbrev pub other_kinds : ℕ
+other_kinds = 61

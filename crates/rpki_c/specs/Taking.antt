@@ -1,12 +1,11 @@
--- What a status says of a value that is taken off a part of the octets.
-use Rattle.std.specs.Prelude.{◌≡◌, ◌≤◌, ◌<◌, ◌⊎◌, ◌+◌, ℕ, Bool, List, length}
-use Rattle.rpki_der.specs.Prelude.{Accepts, TakesNoMemory, SpellsContents, IsContentsFault, TagName}
+-- What a status says of a value that is taken off a span.
+use Rattle.std.specs.Prelude.{◌≡◌, ◌<◌, ◌⊎◌, ℕ, Bool, true, false, List, []}
+use Rattle.rpki_der.specs.Prelude.{Format, SpellsContents, IsContentsFault, HasTag, TagName}
 use Rattle.rpki_der.specs.TagName.{IsTag}
 use Rattle.rpki_der.specs.Header.{lead}
-use Rattle.rpki_c.specs.declared.place.Place.{Place}
-use Rattle.rpki_c.specs.Place.{IsPlace}
-use Rattle.rpki_c.specs.Status.{bad_tag, other_parts}
-use Rattle.rpki_c.specs.Whole.{IsFrontRefused}
+use Rattle.rpki_c.specs.declared.span.Span.{Span}
+use Rattle.rpki_c.specs.Span.{IsTakenOff}
+use Rattle.rpki_c.specs.Status.{bad_tag}
 
 -- the identifier octet is that of the tag, whose number is below 32, and of the form (X.690 8.1.2.2 to 8.1.2.5)
 pub record IsNamedBy (identifier : ℕ) (t : TagName) (constructed : Bool) : Type 0 where
@@ -18,36 +17,39 @@ pub record IsNamedBy (identifier : ℕ) (t : TagName) (constructed : Bool) : Typ
 abbrev pub IsOfNoTag : ℕ → Type 0
 IsOfNoTag identifier = (identifier ≡ 0) ⊎ (identifier ≡ 32)
 
--- the place is inside the octets
-abbrev pub IsInside : List ℕ → Place → Type 0
-IsInside s p = p.start + p.length ≤ length s
+-- values of this tag and form, by their contents
+abbrev pub value_of : TagName → Bool → Format (List ℕ)
+value_of t constructed = record {
+  spells = SpellsContents t constructed;
+  fault = IsContentsFault t constructed;
+}
 
--- A value of this tag and form begins the part that stands at the place `before`; what follows it stands at the place
--- `after`, which ends where the part ends, and its contents stand right before that.
-pub record IsTakenAt (s : List ℕ) (t : TagName) (constructed : Bool) (before after at : Place) : Type 0 where
-  pub part : List ℕ
-  pub contents : List ℕ
-  pub rest : List ℕ
-  pub whole : IsPlace s before part
-  pub accepted : Accepts (SpellsContents t constructed) part contents rest
-  pub contents_at : IsPlace s at contents
-  pub rest_at : IsPlace s after rest
-  pub next : at.start + at.length ≡ after.start
-  pub last : after.start + after.length ≡ before.start + before.length
+-- a value of this tag and form is taken off the span, and its contents are handed out
+abbrev pub IsTakenBy : TagName → Bool → ℕ → Span → Span → Span → Span → Type 0
+IsTakenBy t constructed = IsTakenOff (value_of t constructed) (λ contents p. p.octets.now ≡ contents)
 
--- what the status says of a tag and a form
-abbrev pub IsTakenBy : List ℕ → TagName → Bool → ℕ → Place → Place → Place → Place → Type 0
-IsTakenBy s t f status before after was is =
-    ((status ≡ other_parts) × (IsInside s before → ⊥) × (after ≡ before) × (is ≡ was))
-    ⊎ ((status ≡ 0) × IsTakenAt s t f before after is)
-    ⊎ ((part : List ℕ) × IsPlace s before part
-    × IsFrontRefused (SpellsContents t f) (TakesNoMemory (IsContentsFault t f)) part status
-    × (after ≡ before) × (is ≡ was))
-
--- Status 2: the identifier is of no tag. 14: it is of one, and the part isn't inside the octets. 0: a value of this
--- identifier begins the part, and these are the places. Else the number of the error. Unless the status is 0, nothing
--- is written.
-abbrev pub IsTaken : List ℕ → ℕ → ℕ → Place → Place → Place → Place → Type 0
-IsTaken s identifier status before after was is =
+-- Status 2: the identifier is of no tag, and nothing is written. Else a value of the tag and form that it names is
+-- taken.
+abbrev pub IsTaken : ℕ → ℕ → Span → Span → Span → Span → Type 0
+IsTaken identifier status before after was is =
     ((status ≡ bad_tag) × IsOfNoTag identifier × (after ≡ before) × (is ≡ was))
-    ⊎ ((t : TagName) × (f : Bool) × IsNamedBy identifier t f × IsTakenBy s t f status before after was is)
+    ⊎ ((t : TagName) × (f : Bool) × IsNamedBy identifier t f × IsTakenBy t f status before after was is)
+
+-- contents, and whether they are there
+abbrev pub Found : Type 0
+Found = Span × Bool
+
+-- The tag doesn't begin the span: nothing is taken, and there are no contents. Or it does, and a value of this form is
+-- taken.
+abbrev pub IsOptionTakenBy : TagName → Bool → ℕ → Span → Span → Found → Found → Type 0
+IsOptionTakenBy t constructed status before after was is =
+    ((HasTag t before.octets.now → ⊥) × (status ≡ 0) × (after ≡ before) × (is.0.octets.now ≡ []) × (is.1 ≡ false))
+    ⊎ (HasTag t before.octets.now
+    × IsTakenOff (value_of t constructed) (λ contents p. (p.0.octets.now ≡ contents) × (p.1 ≡ true)) status before after
+    was is)
+
+-- the same of the tag and form that the identifier names; status 2: it is of no tag
+abbrev pub IsOptionTaken : ℕ → ℕ → Span → Span → Found → Found → Type 0
+IsOptionTaken identifier status before after was is =
+    ((status ≡ bad_tag) × IsOfNoTag identifier × (after ≡ before) × (is ≡ was))
+    ⊎ ((t : TagName) × (f : Bool) × IsNamedBy identifier t f × IsOptionTakenBy t f status before after was is)

@@ -1,5 +1,5 @@
 -- What a status says of octets that were rejected.
-use Rattle.std.specs.Prelude.{◌≡◌, ℕ, List, Result, Ok, Err, Option, Some, None}
+use Rattle.std.specs.Prelude.{◌≡◌, ◌⊎◌, ℕ, List, Result, Ok, Err, Option, Some, None}
 use Rattle.rpki_der.specs.declared.error.DecodeError.{DecodeError}
 use Rattle.rpki_der.specs.Error.{error_number}
 use Rattle.rpki_der.specs.Reading.{SpellsNothing, UnlessMemory, Refusal}
@@ -33,3 +33,9 @@ pub record IsFrontRefused {V : Type 0} (G : V → List ℕ → Type 0) (K : List
   pub error : DecodeError
   pub number : status ≡ error_number error
   pub refusal : Refusal G K s s error
+
+-- Status 0: the octets were read, and this is said of what is written. Else the number of the part that is wrong, and
+-- nothing is written.
+abbrev pub IsRead : {O Q : Type 0} → (O → Type 0) → (Q → ℕ) → (Q → Type 0) → ℕ → O → O → Type 0
+IsRead {O} {Q} has number wrong status old new =
+    ((status ≡ 0) × has new) ⊎ ((q : Q) × (status ≡ number q) × wrong q × (new ≡ old))

@@ -1,12 +1,11 @@
 //! Where something is, as an extension of a certificate says.
 
-ghost use Rattle.std.specs.Prelude.{◌≡◌, ◌-◌, ℕ, List, length, is_some, IfSome, IfNone};
+ghost use Rattle.std.specs.Prelude.{◌≡◌, is_some};
 ghost use Rattle.std.specs.Option.{option_copied};
-ghost use Rattle.rpki_der.specs.Prelude.{Accepts};
-ghost use Rattle.rpki_cert.specs.AccessDescription.{description_of, description};
-ghost use Rattle.rpki_c.specs.Access.{method_number, HasAccess, IsAccessRead, IsNameRead, IsPointRead};
+ghost use Rattle.rpki_cert.specs.AccessDescription.{description_of};
+ghost use Rattle.rpki_c.specs.Access.{method_number, IsTextOf, HasAccess, IsAccessTaken, IsNameTaken, IsPointRead};
 
-use crate::place::Place;
+use crate::span::Span;
 use rpki::der::Oid;
 use rpki::oid;
 use rpki_cert::{AccessDescription, point_names, take_general_name};
@@ -15,13 +14,11 @@ use rpki_der::Constructed;
 /// The parts of an access description.
 #[repr(C)]
 #[derive(Clone, Copy)]
-pub struct AccessParts {
+pub struct AccessParts<'a> {
     /// The contents octets of the identifier of the method.
-    pub id: Place,
-    /// The text of the URI; of length 0 where the name is of another form.
-    pub uri: Place,
-    /// How many octets the description has.
-    pub size: usize,
+    pub id: Span<'a>,
+    /// The text of the URI; no octets where the name is of another form.
+    pub uri: Span<'a>,
     /// The number of the method.
     pub method: u8,
     /// Whether the name is a URI.
@@ -31,11 +28,9 @@ pub struct AccessParts {
 /// A general name.
 #[repr(C)]
 #[derive(Clone, Copy)]
-pub struct GeneralNameParts {
-    /// The text of the URI; of length 0 where the name is of another form.
-    pub uri: Place,
-    /// How many octets the name has.
-    pub size: usize,
+pub struct GeneralNameParts<'a> {
+    /// The text of the URI; no octets where the name is of another form.
+    pub uri: Span<'a>,
     /// Whether the name is a URI.
     pub is_uri: bool,
 }
@@ -59,21 +54,13 @@ fn method_number(method: Oid<&[u8]>) -> u8
     }
 }
 
-/// Where a URI stands whose last octet is this one, counted from 1; of length 0 where there is none.
-fn uri_to(end: usize, text: Option<&[u8]>) -> Place
-    ensures some { IfSome (option_copied text.entry) (λ t. (result.start ≡ end - length t)
-        × (result.length ≡ length t)) }
-    ensures none { IfNone (option_copied text.entry) ((result.start ≡ 0) × (result.length ≡ 0)) }
+/// The text of a name that is a URI; no octets where there is none.
+fn text_of(text: Option<&[u8]>) -> Span<'_>
+    ensures { IsTextOf (option_copied text.entry) result }
 {
     match text {
-        Some(text) => Place {
-            start: end.saturating_sub(text.len()),
-            length: text.len(),
-        },
-        None => Place {
-            start: 0,
-            length: 0,
-        },
+        Some(text) => Span::of(text),
+        None => Span::of(&[]),
     }
 }
 
@@ -84,60 +71,51 @@ fn is_uri(text: Option<&[u8]>) -> bool
     text.is_some()
 }
 
-/// Where the parts of the access description stand at the front of the octets, behind which so many octets follow.
-fn access_of(octets: &[u8], following: usize, found: &AccessDescription<'_>) -> AccessParts
-    requires { (r : List ℕ) × Accepts description.spells octets.now (description_of found.now) r
-        × (following ≡ length r) }
-    ensures { HasAccess octets.now result }
+/// The parts of an access description.
+fn access_of<'a>(found: &AccessDescription<'a>) -> AccessParts<'a>
+    ensures { HasAccess (description_of found.now) result }
 {
-    let outer = Place::of_contents(octets);
-    let inner = Place::of_contents(&octets[outer.start..]);
-    let size = octets.len() - following;
     AccessParts {
-        id: Place {
-            start: outer.start + inner.start,
-            length: inner.length,
-        },
-        uri: uri_to(size, found.location),
-        size,
+        id: Span::of(found.method.0),
+        uri: text_of(found.location),
         method: method_number(found.method),
         is_uri: is_uri(found.location),
     }
 }
 
-/// Reads the access description at the front of the octets (RFC 5280 4.2.2.1), and says what its parts are and where
-/// they stand. What follows is not looked at.
+/// Takes the access description at the front of the span (RFC 5280 4.2.2.1), and says what its parts are. `rest`
+/// becomes what follows, which is not looked at.
 ///
-/// The status is 0, or the number of the error; then `out` is unchanged. Nothing is allocated.
+/// The status is 0, or the number of the error; then nothing is written. Nothing is allocated.
 #[unsafe(no_mangle)]
-pub extern "C" fn rpki_access_description(octets: &[u8], out: &mut AccessParts) -> u8
-    ensures { IsAccessRead octets.now result out.old out.new }
+pub extern "C" fn rpki_access_description<'a>(rest: &mut Span<'a>, out: &mut AccessParts<'a>) -> u8
+    ensures { IsAccessTaken result rest.old rest.new out.old out.new }
 {
-    let mut rest = Constructed::from_slice(octets);
-    match AccessDescription::take_from(&mut rest) {
+    let mut cursor = Constructed::from_slice(rest.octets);
+    match AccessDescription::take_from(&mut cursor) {
         Ok(found) => {
-            *out = access_of(octets, rest.rest().len(), &found);
+            *rest = Span::of(cursor.rest());
+            *out = access_of(&found);
             0
         }
         Err(e) => e.number(),
     }
 }
 
-/// Reads the general name at the front of the octets (RFC 5280 4.2.1.6), and says where its text stands if it is a URI.
-/// What follows is not looked at.
+/// Takes the general name at the front of the span (RFC 5280 4.2.1.6), and says what its text is if it is a URI. `rest`
+/// becomes what follows, which is not looked at.
 ///
-/// The status is 0, or the number of the error; then `out` is unchanged. Nothing is allocated.
+/// The status is 0, or the number of the error; then nothing is written. Nothing is allocated.
 #[unsafe(no_mangle)]
-pub extern "C" fn rpki_general_name(octets: &[u8], out: &mut GeneralNameParts) -> u8
-    ensures { IsNameRead octets.now result out.old out.new }
+pub extern "C" fn rpki_general_name<'a>(rest: &mut Span<'a>, out: &mut GeneralNameParts<'a>) -> u8
+    ensures { IsNameTaken result rest.old rest.new out.old out.new }
 {
-    let mut rest = Constructed::from_slice(octets);
-    match take_general_name(&mut rest) {
+    let mut cursor = Constructed::from_slice(rest.octets);
+    match take_general_name(&mut cursor) {
         Ok(found) => {
-            let size = octets.len() - rest.rest().len();
+            *rest = Span::of(cursor.rest());
             *out = GeneralNameParts {
-                uri: uri_to(size, found),
-                size,
+                uri: text_of(found),
                 is_uri: is_uri(found),
             };
             0
@@ -147,19 +125,16 @@ pub extern "C" fn rpki_general_name(octets: &[u8], out: &mut GeneralNameParts) -
 }
 
 /// Reads CRL distribution points, which all of the octets are, of one point that has a full name and nothing else (RFC
-/// 5280 4.2.1.13, RFC 6487 4.8.6), and says where its general names stand, one after another. They are not read.
+/// 5280 4.2.1.13, RFC 6487 4.8.6), and says what its general names are, one after another. They are not read.
 ///
 /// The status is 0, or the number of the error; then `out` is unchanged. Nothing is allocated.
 #[unsafe(no_mangle)]
-pub extern "C" fn rpki_distribution_point(octets: &[u8], out: &mut Place) -> u8
+pub extern "C" fn rpki_distribution_point<'a>(octets: &'a [u8], out: &mut Span<'a>) -> u8
     ensures { IsPointRead octets.now result out.old out.new }
 {
     match point_names(octets) {
         Ok(names) => {
-            *out = Place {
-                start: octets.len() - names.len(),
-                length: names.len(),
-            };
+            *out = Span::of(names);
             0
         }
         Err(e) => e.number(),

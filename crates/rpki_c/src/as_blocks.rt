@@ -25,7 +25,7 @@ pub struct AsEntry {
 }
 
 /// How a block is passed.
-fn entry_of(block: Block) -> AsEntry
+pub(crate) fn entry_of(block: Block) -> AsEntry
     requires { IsBlockOf AsNumbers block }
     ensures { result ≡ as_entry block }
 {

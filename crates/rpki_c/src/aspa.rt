@@ -3,19 +3,19 @@
 ghost use Rattle.std.specs.Prelude.{◌≡◌};
 ghost use Rattle.rpki_contents.specs.Aspa.{AspaParts as Attestation};
 ghost use Rattle.rpki_contents.specs.AspaView.{IsAspaAt};
-ghost use Rattle.rpki_c.specs.Aspa.{aspa_part_number, HasAspa, IsAspaRead, IsProviderRead};
+ghost use Rattle.rpki_c.specs.Aspa.{aspa_part_number, HasAspa, IsAspaRead, IsProviderTaken};
 
-use crate::place::Place;
+use crate::span::Span;
 use rpki_contents::{AspaPart, AspaView};
-use rpki_der::{Constructed, Section};
+use rpki_der::Constructed;
 use rpki_resources::take_as_number;
 
 /// The parts of an attestation of providers.
 #[repr(C)]
 #[derive(Clone, Copy)]
-pub struct AspaParts {
+pub struct AspaParts<'a> {
     /// The providers, one after another.
-    pub providers: Place,
+    pub providers: Span<'a>,
     /// How many providers there are.
     pub count: usize,
     /// The customer.
@@ -23,7 +23,7 @@ pub struct AspaParts {
 }
 
 /// How a part that is wrong is passed.
-fn aspa_part_number(part: AspaPart) -> u8
+pub(crate) fn aspa_part_number(part: AspaPart) -> u8
     ensures { result ≡ aspa_part_number part }
 {
     match part {
@@ -35,28 +35,24 @@ fn aspa_part_number(part: AspaPart) -> u8
 }
 
 /// The parts of the attestation that the octets are.
-fn aspa_of(octets: &[u8], found: AspaView<'_>) -> AspaParts
+fn aspa_of<'a>(octets: &'a [u8], found: AspaView<'a>) -> AspaParts<'a>
     requires { (x : Attestation) × IsAspaAt octets.now found x }
     ensures { HasAspa octets.now result }
 {
-    let providers = Section {
-        octets: found.providers,
-        following: 0,
-    };
     AspaParts {
-        providers: Place::of_section(octets.len(), 0, providers),
+        providers: Span::of(found.providers),
         count: found.count,
         customer: found.customer,
     }
 }
 
 /// Reads an attestation of the providers of an autonomous system (draft-ietf-sidrops-aspa-profile, version 1), and says
-/// who the customer is and where the providers stand.
+/// who the customer and the providers are.
 ///
 /// The status is 0. Else it is the number of the leftmost part that is wrong, and `out` is unchanged. Nothing is
 /// allocated.
 #[unsafe(no_mangle)]
-pub extern "C" fn rpki_aspa(octets: &[u8], out: &mut AspaParts) -> u8
+pub extern "C" fn rpki_aspa<'a>(octets: &'a [u8], out: &mut AspaParts<'a>) -> u8
     ensures { IsAspaRead octets.now result out.old out.new }
 {
     match AspaView::read(octets) {
@@ -68,31 +64,19 @@ pub extern "C" fn rpki_aspa(octets: &[u8], out: &mut AspaParts) -> u8
     }
 }
 
-/// A provider.
-#[repr(C)]
-#[derive(Clone, Copy)]
-pub struct AspaProvider {
-    /// How many octets its entry has.
-    pub size: usize,
-    /// Its number.
-    pub number: u32,
-}
-
-/// Reads the provider at the front of the octets, as of the providers of an attestation: an INTEGER below 2^32. What
-/// follows is not looked at.
+/// Takes the provider at the front of the span, as of the providers of an attestation: an INTEGER below 2^32. `rest`
+/// becomes what follows, which is not looked at.
 ///
-/// The status is 0, or the number of the error; then `out` is unchanged. Nothing is allocated.
+/// The status is 0, or the number of the error; then nothing is written. Nothing is allocated.
 #[unsafe(no_mangle)]
-pub extern "C" fn rpki_aspa_provider(octets: &[u8], out: &mut AspaProvider) -> u8
-    ensures { IsProviderRead octets.now result out.old out.new }
+pub extern "C" fn rpki_aspa_provider(rest: &mut Span<'_>, out: &mut u32) -> u8
+    ensures { IsProviderTaken result rest.old rest.new out.old out.new }
 {
-    let mut rest = Constructed::from_slice(octets);
-    match take_as_number(&mut rest) {
+    let mut cursor = Constructed::from_slice(rest.octets);
+    match take_as_number(&mut cursor) {
         Ok(number) => {
-            *out = AspaProvider {
-                size: octets.len() - rest.rest().len(),
-                number,
-            };
+            *rest = Span::of(cursor.rest());
+            *out = number;
             0
         }
         Err(e) => e.number(),

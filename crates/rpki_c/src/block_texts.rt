@@ -31,7 +31,7 @@ pub(crate) fn family_of(number: u8) -> Option<AddressFamily>
 }
 
 /// The number of an address.
-fn number_of(family: AddressFamily, octets: [u8; 16]) -> u128
+pub(crate) fn number_of(family: AddressFamily, octets: [u8; 16]) -> u128
     ensures value { result ≡ address_number family octets }
     ensures below { result < 2 ^ width family }
 {

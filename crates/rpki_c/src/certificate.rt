@@ -6,30 +6,29 @@ ghost use Rattle.rpki_cert.specs.View.{IsCertAt};
 ghost use Rattle.rpki_c.specs.Certificate.{part_number, HasCertificate, IsCertificateRead, IsCertificateErrorRead};
 
 use crate::keys::format_number;
-use crate::place::Place;
+use crate::span::Span;
 use crate::times::{Period, moment_of};
 use rpki::crypto::RpkiSignatureAlgorithm;
 use rpki_cert::{CertPart, CertView};
-use rpki_der::Section;
 
 /// The parts of a certificate.
 #[repr(C)]
 #[derive(Clone, Copy)]
-pub struct CertificateParts {
+pub struct CertificateParts<'a> {
     /// What is signed, a SEQUENCE, with its header.
-    pub data: Place,
+    pub data: Span<'a>,
     /// The algorithm identifier, with its header.
-    pub algorithm: Place,
+    pub algorithm: Span<'a>,
     /// The octets of the signature.
-    pub signature: Place,
+    pub signature: Span<'a>,
     /// The issuer, a name, with its header.
-    pub issuer: Place,
+    pub issuer: Span<'a>,
     /// The subject, a name, with its header.
-    pub subject: Place,
+    pub subject: Span<'a>,
     /// The subject's key, with its header.
-    pub public_key: Place,
+    pub public_key: Span<'a>,
     /// The extensions, one after another.
-    pub extensions: Place,
+    pub extensions: Span<'a>,
     /// The period of validity.
     pub validity: Period,
     /// The serial number, with zeros in front.
@@ -67,25 +66,19 @@ pub(crate) fn part_number(part: CertPart) -> u8
 }
 
 /// The parts of the certificate that the octets are.
-pub(crate) fn parts_of(octets: &[u8], found: &CertView<'_>) -> CertificateParts
+pub(crate) fn parts_of<'a>(octets: &'a [u8], found: &CertView<'a>) -> CertificateParts<'a>
     requires { (x : CertParts) × IsCertAt octets.now found.now x }
     ensures { HasCertificate octets.now result }
 {
-    let total = octets.len();
-    let behind = found.parts.data.following;
     let named = &found.tbs.named;
-    let extensions = Section {
-        octets: named.keyed.extensions.octets(),
-        following: 0,
-    };
     CertificateParts {
-        data: Place::of_section(total, 0, found.parts.data),
-        algorithm: Place::of_section(total, 0, found.parts.algorithm),
-        signature: Place::of_section(total, 0, found.parts.signature),
-        issuer: Place::of_section(total, behind, named.issuer),
-        subject: Place::of_section(total, behind, named.subject),
-        public_key: Place::of_section(total, behind, named.keyed.octets),
-        extensions: Place::of_section(total, behind, extensions),
+        data: Span::of(found.parts.data.octets),
+        algorithm: Span::of(found.parts.algorithm.octets),
+        signature: Span::of(found.parts.signature.octets),
+        issuer: Span::of(named.issuer.octets),
+        subject: Span::of(named.subject.octets),
+        public_key: Span::of(named.keyed.octets.octets),
+        extensions: Span::of(named.keyed.extensions.octets()),
         validity: Period {
             not_before: moment_of(named.validity.not_before()),
             not_after: moment_of(named.validity.not_after()),
@@ -97,13 +90,13 @@ pub(crate) fn parts_of(octets: &[u8], found: &CertView<'_>) -> CertificateParts
     }
 }
 
-/// Reads a resource certificate (RFC 5280 4.1, RFC 6487 4), and says what its parts are and where they stand.
+/// Reads a resource certificate (RFC 5280 4.1, RFC 6487 4), and says what its parts are.
 ///
 /// The status is 0. Else it is the number of the part that is wrong, 64 to 79, and `out` is unchanged: of the signed
 /// data the leftmost; then of what is signed the leftmost; then that both algorithm identifiers are the same. More than
 /// 64 extensions are rejected by a status of their own. Nothing is allocated.
 #[unsafe(no_mangle)]
-pub extern "C" fn rpki_certificate(octets: &[u8], out: &mut CertificateParts) -> u8
+pub extern "C" fn rpki_certificate<'a>(octets: &'a [u8], out: &mut CertificateParts<'a>) -> u8
     ensures { IsCertificateRead octets.now result out.old out.new }
 {
     match CertView::read(octets) {

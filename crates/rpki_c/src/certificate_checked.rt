@@ -20,12 +20,12 @@ fn check_number(error: CheckError) -> u8
 }
 
 /// Reads a resource certificate, and tests it by the profile; returns the status.
-fn check(
-    octets: &[u8],
+fn check<'a>(
+    octets: &'a [u8],
     profile: Profile,
     strict: bool,
-    parts: &mut CertificateParts,
-    extensions: &mut KnownExtensions,
+    parts: &mut CertificateParts<'a>,
+    extensions: &mut KnownExtensions<'a>,
 ) -> u8
     ensures { IsCheckedAs octets.now profile strict result parts.old parts.new extensions.old extensions.new }
 {
@@ -50,12 +50,12 @@ fn check(
 /// The status is 0. Else it is the first that these three calls have, in this order, but that 12, for another number of
 /// a profile, comes before the octets are looked at; and `parts` and `extensions` are unchanged. Nothing is allocated.
 #[unsafe(no_mangle)]
-pub extern "C" fn rpki_certificate_checked(
-    octets: &[u8],
+pub extern "C" fn rpki_certificate_checked<'a>(
+    octets: &'a [u8],
     profile: u8,
     strict: bool,
-    parts: &mut CertificateParts,
-    extensions: &mut KnownExtensions,
+    parts: &mut CertificateParts<'a>,
+    extensions: &mut KnownExtensions<'a>,
 ) -> u8
     ensures { IsCertificateChecked octets.now profile strict result parts.old parts.new extensions.old extensions.new }
 {

@@ -4,7 +4,7 @@ ghost use Rattle.std.specs.Prelude.{◌≡◌, ◌<◌, IfSome, IfNone};
 ghost use Rattle.rpki_c.specs.CertificateExtension.{kind_number, IsExtensionReadOf, IsExtensionFound};
 
 use crate::certificate::part_number;
-use crate::certificate_extensions::{KnownExtension, extension_at};
+use crate::certificate_extensions::{KnownExtension, extension_of};
 use crate::status::NO_ANSWER;
 use rpki_cert::{CertView, ExtensionKind};
 
@@ -31,29 +31,29 @@ fn kind_of(number: u8) -> Option<ExtensionKind>
     }
 }
 
-/// Reads a resource certificate, and says where its extension of this kind stands; returns the status.
-fn find(octets: &[u8], kind: ExtensionKind, out: &mut KnownExtension) -> u8
+/// Reads a resource certificate, and says what its extension of this kind is; returns the status.
+fn find<'a>(octets: &'a [u8], kind: ExtensionKind, out: &mut KnownExtension<'a>) -> u8
     ensures { IsExtensionReadOf octets.now kind result out.old out.new }
 {
     match CertView::read(octets) {
         Ok(found) => {
-            *out = extension_at(octets, &found, kind);
+            *out = extension_of(&found, kind);
             0
         }
         Err(wrong) => part_number(wrong.part),
     }
 }
 
-/// Reads a resource certificate, as `rpki_certificate` does, and says where its extension of this number stands, and
+/// Reads a resource certificate, as `rpki_certificate` does, and says what its extension of this number is, and
 /// whether it is critical (RFC 6487 4.8). Neither its octets nor other extensions are looked at.
 ///
 /// The status is 0; `NO_ANSWER` where no extension has the number, before the octets are looked at; else it is the
 /// number of the part that is wrong. Unless it is 0, `out` is unchanged. Nothing is allocated.
 #[unsafe(no_mangle)]
-pub extern "C" fn rpki_certificate_extension(
-    octets: &[u8],
+pub extern "C" fn rpki_certificate_extension<'a>(
+    octets: &'a [u8],
     number: u8,
-    out: &mut KnownExtension,
+    out: &mut KnownExtension<'a>,
 ) -> u8
     ensures { IsExtensionFound octets.now number result out.old out.new }
 {

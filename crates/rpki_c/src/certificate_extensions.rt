@@ -1,24 +1,24 @@
 //! The extensions of certificates.
 
-ghost use Rattle.std.specs.Prelude.{◌≡◌};
+ghost use Rattle.std.specs.Prelude.{◌≡◌, ℕ, List};
 ghost use Rattle.rpki_cert.specs.ExtensionTable.{identifier_of};
 ghost use Rattle.rpki_cert.specs.Cert.{CertParts};
 ghost use Rattle.rpki_cert.specs.View.{IsCertAt};
 ghost use Rattle.rpki_cert.specs.KnownView.{AreKnown};
 ghost use Rattle.rpki_c.specs.CertificateExtensions.{known_number, usage_number, policy_number, IsIdentifierOf};
-ghost use Rattle.rpki_c.specs.CertificateExtensions.{IsFoundAt, HasExtensions, AreExtensionsRead};
+ghost use Rattle.rpki_c.specs.CertificateExtensions.{IsFoundAs, HasExtensions, AreExtensionsRead};
 
 use crate::certificate::part_number;
-use crate::place::Place;
+use crate::span::Span;
 use rpki::crypto::KeyIdentifier;
 use rpki_cert::{CertView, ExtensionKind, KeyUsage, KnownPart, KnownView, Overclaim};
 
 /// An extension of a certificate, or that there is none.
 #[repr(C)]
 #[derive(Clone, Copy)]
-pub struct KnownExtension {
+pub struct KnownExtension<'a> {
     /// The octets of its OCTET STRING; none where the extension isn't there.
-    pub octets: Place,
+    pub octets: Span<'a>,
     /// Whether the extension is there.
     pub is_there: bool,
     /// Whether the extension is critical; false where it isn't there.
@@ -28,33 +28,33 @@ pub struct KnownExtension {
 /// The extensions of a certificate.
 #[repr(C)]
 #[derive(Clone, Copy)]
-pub struct KnownExtensions {
+pub struct KnownExtensions<'a> {
     /// The basic constraints (RFC 6487 4.8.1).
-    pub basic_constraints: KnownExtension,
+    pub basic_constraints: KnownExtension<'a>,
     /// The subject key identifier (RFC 6487 4.8.2).
-    pub subject_key_identifier: KnownExtension,
+    pub subject_key_identifier: KnownExtension<'a>,
     /// The authority key identifier (RFC 6487 4.8.3).
-    pub authority_key_identifier: KnownExtension,
+    pub authority_key_identifier: KnownExtension<'a>,
     /// The key usage (RFC 6487 4.8.4).
-    pub key_usage: KnownExtension,
+    pub key_usage: KnownExtension<'a>,
     /// The extended key usage (RFC 6487 4.8.5, RFC 8209 3.1.3.2).
-    pub extended_key_usage: KnownExtension,
+    pub extended_key_usage: KnownExtension<'a>,
     /// The CRL distribution points (RFC 6487 4.8.6).
-    pub crl_distribution_points: KnownExtension,
+    pub crl_distribution_points: KnownExtension<'a>,
     /// The authority information access (RFC 6487 4.8.7).
-    pub authority_info_access: KnownExtension,
+    pub authority_info_access: KnownExtension<'a>,
     /// The subject information access (RFC 6487 4.8.8).
-    pub subject_info_access: KnownExtension,
+    pub subject_info_access: KnownExtension<'a>,
     /// The certificate policies (RFC 6487 4.8.9).
-    pub certificate_policies: KnownExtension,
+    pub certificate_policies: KnownExtension<'a>,
     /// The IP resources (RFC 6487 4.8.10).
-    pub ip_resources: KnownExtension,
+    pub ip_resources: KnownExtension<'a>,
     /// The IP resources with validation reconsidered (RFC 8360 4.2.2.1).
-    pub ip_resources_v2: KnownExtension,
+    pub ip_resources_v2: KnownExtension<'a>,
     /// The AS resources (RFC 6487 4.8.11).
-    pub as_resources: KnownExtension,
+    pub as_resources: KnownExtension<'a>,
     /// The AS resources with validation reconsidered (RFC 8360 4.2.2.3).
-    pub as_resources_v2: KnownExtension,
+    pub as_resources_v2: KnownExtension<'a>,
     /// The subject key identifier; zeros where it isn't there.
     pub subject_key: [u8; 20],
     /// The authority key identifier; zeros where it isn't there.
@@ -114,27 +114,18 @@ fn octets_of(identifier: Option<KeyIdentifier>) -> [u8; 20]
     }
 }
 
-/// The extension of this kind in the certificate that the octets are.
-pub(crate) fn extension_at(
-    octets: &[u8],
-    found: &CertView<'_>,
-    kind: ExtensionKind,
-) -> KnownExtension
-    ensures { (x : CertParts) (h : IsCertAt octets.now found.now x)
-        → IsFoundAt x octets.now h.spelled (identifier_of kind) result }
+/// The extension of this kind in a certificate.
+pub(crate) fn extension_of<'a>(found: &CertView<'a>, kind: ExtensionKind) -> KnownExtension<'a>
+    ensures { (s : List ℕ) (x : CertParts) → IsCertAt s found.now x → IsFoundAs x (identifier_of kind) result }
 {
-    let end = octets.len().saturating_sub(found.parts.data.following);
     match found.tbs.named.keyed.extensions.listed(kind) {
         Some(listed) => KnownExtension {
-            octets: Place::of_section(end, 0, listed.contents),
+            octets: Span::of(listed.contents.octets),
             is_there: true,
             critical: listed.critical,
         },
         None => KnownExtension {
-            octets: Place {
-                start: 0,
-                length: 0,
-            },
+            octets: Span::of(&[]),
             is_there: false,
             critical: false,
         },
@@ -142,32 +133,28 @@ pub(crate) fn extension_at(
 }
 
 /// The extensions of the certificate that the octets are, which say this.
-pub(crate) fn extensions_of(
-    octets: &[u8],
-    found: &CertView<'_>,
+pub(crate) fn extensions_of<'a>(
+    octets: &'a [u8],
+    found: &CertView<'a>,
     known: KnownView,
-) -> KnownExtensions
+) -> KnownExtensions<'a>
     requires { (x : CertParts) × IsCertAt octets.now found.now x × AreKnown x.tbs.extensions known }
     ensures { HasExtensions octets.now result }
 {
     KnownExtensions {
-        basic_constraints: extension_at(octets, found, ExtensionKind::BasicConstraints),
-        subject_key_identifier: extension_at(octets, found, ExtensionKind::SubjectKeyIdentifier),
-        authority_key_identifier: extension_at(
-            octets,
-            found,
-            ExtensionKind::AuthorityKeyIdentifier,
-        ),
-        key_usage: extension_at(octets, found, ExtensionKind::KeyUsage),
-        extended_key_usage: extension_at(octets, found, ExtensionKind::ExtendedKeyUsage),
-        crl_distribution_points: extension_at(octets, found, ExtensionKind::CrlDistributionPoints),
-        authority_info_access: extension_at(octets, found, ExtensionKind::AuthorityInfoAccess),
-        subject_info_access: extension_at(octets, found, ExtensionKind::SubjectInfoAccess),
-        certificate_policies: extension_at(octets, found, ExtensionKind::CertificatePolicies),
-        ip_resources: extension_at(octets, found, ExtensionKind::IpResources),
-        ip_resources_v2: extension_at(octets, found, ExtensionKind::IpResourcesV2),
-        as_resources: extension_at(octets, found, ExtensionKind::AsResources),
-        as_resources_v2: extension_at(octets, found, ExtensionKind::AsResourcesV2),
+        basic_constraints: extension_of(found, ExtensionKind::BasicConstraints),
+        subject_key_identifier: extension_of(found, ExtensionKind::SubjectKeyIdentifier),
+        authority_key_identifier: extension_of(found, ExtensionKind::AuthorityKeyIdentifier),
+        key_usage: extension_of(found, ExtensionKind::KeyUsage),
+        extended_key_usage: extension_of(found, ExtensionKind::ExtendedKeyUsage),
+        crl_distribution_points: extension_of(found, ExtensionKind::CrlDistributionPoints),
+        authority_info_access: extension_of(found, ExtensionKind::AuthorityInfoAccess),
+        subject_info_access: extension_of(found, ExtensionKind::SubjectInfoAccess),
+        certificate_policies: extension_of(found, ExtensionKind::CertificatePolicies),
+        ip_resources: extension_of(found, ExtensionKind::IpResources),
+        ip_resources_v2: extension_of(found, ExtensionKind::IpResourcesV2),
+        as_resources: extension_of(found, ExtensionKind::AsResources),
+        as_resources_v2: extension_of(found, ExtensionKind::AsResourcesV2),
         subject_key: octets_of(known.subject_key_identifier),
         authority_key: octets_of(known.authority_key_identifier),
         is_ca: known.ca,
@@ -176,14 +163,17 @@ pub(crate) fn extensions_of(
     }
 }
 
-/// Reads a resource certificate, as `rpki_certificate` does, and says where its extensions stand (RFC 6487 4.8), and
+/// Reads a resource certificate, as `rpki_certificate` does, and says what its extensions are (RFC 6487 4.8), and
 /// what the basic constraints, both key identifiers, the key usage and the certificate policies say.
 ///
 /// The status is 0. It is 80 to 84 where one of these five is there, but malformed, or not as critical as it has to be:
 /// the first of them. Else it is the number of the part that is wrong, as that of `rpki_certificate`. `out` is
 /// unchanged where the status is not 0. Nothing is allocated.
 #[unsafe(no_mangle)]
-pub extern "C" fn rpki_certificate_extensions(octets: &[u8], out: &mut KnownExtensions) -> u8
+pub extern "C" fn rpki_certificate_extensions<'a>(
+    octets: &'a [u8],
+    out: &mut KnownExtensions<'a>,
+) -> u8
     ensures { AreExtensionsRead octets.now result out.old out.new }
 {
     let found = match CertView::read(octets) {

@@ -3,9 +3,9 @@
 ghost use Rattle.std.specs.Prelude.{◌≡◌};
 ghost use Rattle.rpki_objects.specs.Crl.{CrlParts};
 ghost use Rattle.rpki_objects.specs.CrlView.{IsCrlAt};
-ghost use Rattle.rpki_c.specs.Crl.{crl_part_number, HasCrl, IsCrlRead, IsCrlSearched, IsEntryRead};
+ghost use Rattle.rpki_c.specs.Crl.{crl_part_number, HasCrl, IsCrlRead, IsCrlSearched, IsEntryTaken};
 
-use crate::place::Place;
+use crate::span::Span;
 use crate::status::CONTENT;
 use crate::times::{Moment, moment_of};
 use rpki::crypto::SignatureAlgorithm;
@@ -16,17 +16,17 @@ use rpki_time::Serial;
 /// The parts of a revocation list.
 #[repr(C)]
 #[derive(Clone, Copy)]
-pub struct RevocationList {
+pub struct RevocationList<'a> {
     /// What is signed, a SEQUENCE, with its header.
-    pub data: Place,
+    pub data: Span<'a>,
     /// The algorithm identifier, with its header.
-    pub algorithm: Place,
+    pub algorithm: Span<'a>,
     /// The octets of the signature.
-    pub signature: Place,
+    pub signature: Span<'a>,
     /// The issuer, a name, with its header.
-    pub issuer: Place,
-    /// The entries, one after another; of length 0 where the list of them is left out.
-    pub revoked_certs: Place,
+    pub issuer: Span<'a>,
+    /// The entries, one after another; no octets where the list of them is left out.
+    pub revoked_certs: Span<'a>,
     /// When the list was issued.
     pub this_update: Moment,
     /// When the next list is issued at the latest.
@@ -40,7 +40,7 @@ pub struct RevocationList {
 }
 
 /// How a part that is wrong is passed.
-fn crl_part_number(part: CrlPart) -> u8
+pub(crate) fn crl_part_number(part: CrlPart) -> u8
     ensures { result ≡ crl_part_number part }
 {
     match part {
@@ -61,19 +61,17 @@ fn crl_part_number(part: CrlPart) -> u8
 }
 
 /// The parts of the revocation list that the octets are.
-fn list_of(octets: &[u8], found: &CrlView<'_>) -> RevocationList
+fn list_of<'a>(octets: &'a [u8], found: &CrlView<'a>) -> RevocationList<'a>
     requires { (x : CrlParts) × IsCrlAt octets.now found.now x }
     ensures { HasCrl octets.now result }
 {
-    let total = octets.len();
-    let behind = found.data.following;
     let tbs = &found.tbs;
     RevocationList {
-        data: Place::of_section(total, 0, found.data),
-        algorithm: Place::of_section(total, 0, found.algorithm),
-        signature: Place::of_section(total, 0, found.signature),
-        issuer: Place::of_section(total, behind, tbs.issuer),
-        revoked_certs: Place::of_section(total, behind, tbs.revoked_certs),
+        data: Span::of(found.data.octets),
+        algorithm: Span::of(found.algorithm.octets),
+        signature: Span::of(found.signature.octets),
+        issuer: Span::of(tbs.issuer.octets),
+        revoked_certs: Span::of(tbs.revoked_certs.octets),
         this_update: moment_of(tbs.this_update),
         next_update: moment_of(tbs.next_update),
         crl_number: tbs.extensions.crl_number.into_array(),
@@ -82,13 +80,13 @@ fn list_of(octets: &[u8], found: &CrlView<'_>) -> RevocationList
     }
 }
 
-/// Reads a revocation list (RFC 5280 5.1, RFC 6487 5), and says what its parts are and where they stand.
+/// Reads a revocation list (RFC 5280 5.1, RFC 6487 5), and says what its parts are.
 ///
 /// The status is 0. Else it is the number of the part that is wrong, and `out` is unchanged: of the signed data the
 /// leftmost; then of what is signed the leftmost; then that both algorithm identifiers are the same. Nothing is
 /// allocated.
 #[unsafe(no_mangle)]
-pub extern "C" fn rpki_crl(octets: &[u8], out: &mut RevocationList) -> u8
+pub extern "C" fn rpki_crl<'a>(octets: &'a [u8], out: &mut RevocationList<'a>) -> u8
     ensures { IsCrlRead octets.now result out.old out.new }
 {
     match CrlView::read(octets) {
@@ -130,25 +128,23 @@ pub struct RevokedCertificate {
     pub serial_number: [u8; 20],
     /// When it was revoked.
     pub revocation_date: Moment,
-    /// How many octets the entry has.
-    pub size: usize,
 }
 
-/// Reads the entry of a revocation list at the front of the octets, a SEQUENCE of a serial number and a time and
-/// nothing else (RFC 5280 5.1.2.6, RFC 6487 5). What follows is not looked at.
+/// Takes the entry of a revocation list at the front of the span, a SEQUENCE of a serial number and a time and nothing
+/// else (RFC 5280 5.1.2.6, RFC 6487 5). `rest` becomes what follows, which is not looked at.
 ///
-/// The status is 0, or the number of the error; then `out` is unchanged. Nothing is allocated.
+/// The status is 0, or the number of the error; then nothing is written. Nothing is allocated.
 #[unsafe(no_mangle)]
-pub extern "C" fn rpki_crl_entry(octets: &[u8], out: &mut RevokedCertificate) -> u8
-    ensures { IsEntryRead octets.now result out.old out.new }
+pub extern "C" fn rpki_crl_entry(rest: &mut Span<'_>, out: &mut RevokedCertificate) -> u8
+    ensures { IsEntryTaken result rest.old rest.new out.old out.new }
 {
-    let mut rest = Constructed::from_slice(octets);
-    match CrlEntry::take_from(&mut rest) {
+    let mut cursor = Constructed::from_slice(rest.octets);
+    match CrlEntry::take_from(&mut cursor) {
         Ok(entry) => {
+            *rest = Span::of(cursor.rest());
             *out = RevokedCertificate {
                 serial_number: entry.user_certificate.into_array(),
                 revocation_date: moment_of(entry.revocation_date),
-                size: octets.len() - rest.rest().len(),
             };
             0
         }

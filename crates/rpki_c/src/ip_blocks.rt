@@ -28,7 +28,7 @@ pub struct IpEntry {
 }
 
 /// How a family is passed.
-fn family_number(family: AddressFamily) -> u8
+pub(crate) fn family_number(family: AddressFamily) -> u8
     ensures { result ≡ family_number family }
 {
     match family {
@@ -52,7 +52,7 @@ pub(crate) fn octets_of(family: AddressFamily, number: u128) -> [u8; 16]
 }
 
 /// How a block is passed.
-fn entry_of(family: AddressFamily, block: Block) -> IpEntry
+pub(crate) fn entry_of(family: AddressFamily, block: Block) -> IpEntry
     ensures { result ≡ ip_entry family block }
 {
     IpEntry {

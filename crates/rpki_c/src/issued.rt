@@ -15,7 +15,7 @@ use rpki_cert::CertView;
 use rpki_digests::Digests;
 
 /// Whether the key identifier is there and is this one.
-fn is_identifier(found: Option<KeyIdentifier>, wanted: KeyIdentifier) -> bool
+pub(crate) fn is_identifier(found: Option<KeyIdentifier>, wanted: KeyIdentifier) -> bool
     ensures { IsTrue result ↔ (found ≡ Option.Some wanted) }
 {
     match found {
@@ -25,7 +25,7 @@ fn is_identifier(found: Option<KeyIdentifier>, wanted: KeyIdentifier) -> bool
 }
 
 /// Whether the issuer of the one has the name of the other's subject, octet for octet.
-fn is_named(found: &CertView<'_>, issuer: &CertView<'_>) -> bool
+pub(crate) fn is_named(found: &CertView<'_>, issuer: &CertView<'_>) -> bool
     ensures { (s t : List ℕ) (x y : CertParts) → IsCertAt s found.now x → IsCertAt t issuer.now y
         → IsTrue result ↔ (x.tbs.issuer ≡ y.tbs.subject) }
 {
@@ -33,7 +33,7 @@ fn is_named(found: &CertView<'_>, issuer: &CertView<'_>) -> bool
 }
 
 /// The identifier of the certificate's key: the SHA-1 digest of its bits (RFC 6487 4.8.2).
-fn key_of(issuer: &CertView<'_>) -> KeyIdentifier
+pub(crate) fn key_of(issuer: &CertView<'_>) -> KeyIdentifier
     ensures { (t : List ℕ) (y : CertParts) → IsCertAt t issuer.now y → result ≡ sha1 y.tbs.key.bits.octets }
 {
     issuer.tbs.named.keyed.key.key_identifier(&Digests)

@@ -1,6 +1,6 @@
 //! Public keys.
 
-ghost use Rattle.std.specs.Prelude.{◌≡◌, ◌↔◌, ◌≤◌, ◌<◌, ◌-◌, IsTrue, length};
+ghost use Rattle.std.specs.Prelude.{◌≡◌, ◌↔◌, IsTrue};
 ghost use Rattle.rpki_der.specs.Reading.{Decodes};
 ghost use Rattle.rpki.specs.PublicKey.{SpellsKey};
 ghost use Rattle.rpki.specs.KeyFormat.{SpellsFormat};
@@ -9,7 +9,7 @@ ghost use Rattle.rpki_c.specs.Key.{IsWholeKeyFault, IsOtherKey, IsKeyStatus, for
 ghost use Rattle.rpki_c.specs.Key.{HasIdentifier, IsIdentified};
 
 use crate::identifiers::begins_with_identifier;
-use crate::place::Place;
+use crate::span::Span;
 use crate::status::OTHER_ALGORITHM;
 use rpki::crypto::{PublicKeyFormat, PublicKeyView};
 use rpki_der::{Constructed, DecodeError};
@@ -18,13 +18,13 @@ use rpki_digests::Digests;
 /// The parts of a public key.
 #[repr(C)]
 #[derive(Clone, Copy)]
-pub struct KeyParts {
+pub struct KeyParts<'a> {
     /// The format: 0 for RSA, 1 for a point on the curve P-256.
     pub format: u8,
     /// How many bits of the last octet are unused.
     pub unused: u8,
-    /// Where the octets of the bits stand.
-    pub bits: Place,
+    /// The octets of the bits.
+    pub bits: Span<'a>,
 }
 
 /// How a format is passed.
@@ -81,34 +81,29 @@ pub(crate) fn key_status(octets: &[u8], e: DecodeError) -> u8
 }
 
 /// The parts of the key that the octets are.
-fn places_of(octets: &[u8], key: &PublicKeyView<'_>) -> KeyParts
+fn parts_of<'a>(octets: &'a [u8], key: &PublicKeyView<'a>) -> KeyParts<'a>
     requires { SpellsKey key.now octets.now }
     ensures { HasKey octets.now result }
 {
-    let bits = key.bits();
-    let start = octets.len() - bits.len();
     KeyParts {
         format: format_number(key.algorithm()),
         unused: key.unused(),
-        bits: Place {
-            start,
-            length: bits.len(),
-        },
+        bits: Span::of(key.bits()),
     }
 }
 
-/// Reads a public key (SubjectPublicKeyInfo, RFC 5280 4.1), and says what its parts are and where its bits stand.
+/// Reads a public key (SubjectPublicKeyInfo, RFC 5280 4.1), and says what its parts are.
 ///
 /// The status is 0. It is 13 where the algorithm identifier is another one, whatever follows it: a SEQUENCE of an
 /// object identifier and perhaps one value, that of neither format. Else it is the number of the error. `out` is
 /// unchanged where the status is not 0. Nothing is allocated.
 #[unsafe(no_mangle)]
-pub extern "C" fn rpki_public_key(octets: &[u8], out: &mut KeyParts) -> u8
+pub extern "C" fn rpki_public_key<'a>(octets: &'a [u8], out: &mut KeyParts<'a>) -> u8
     ensures { IsKeyRead octets.now result out.old out.new }
 {
     match read_key(octets) {
         Ok(key) => {
-            *out = places_of(octets, &key);
+            *out = parts_of(octets, &key);
             0
         }
         Err(e) => key_status(octets, e),

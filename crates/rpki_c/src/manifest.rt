@@ -3,19 +3,19 @@
 ghost use Rattle.std.specs.Prelude.{◌≡◌, List};
 ghost use Rattle.rpki_contents.specs.ListedFile.{ListedFile};
 ghost use Rattle.rpki_contents.specs.ManifestView.{IsManifestAt};
-ghost use Rattle.rpki_c.specs.Manifest.{manifest_part_number, HasManifest, IsManifestRead, IsFileRead};
+ghost use Rattle.rpki_c.specs.Manifest.{manifest_part_number, HasManifest, IsManifestRead, IsFileTaken};
 
-use crate::place::Place;
+use crate::span::Span;
 use crate::times::{Moment, moment_of};
 use rpki_contents::{FileView, ManifestPart, ManifestView};
-use rpki_der::{Constructed, Section};
+use rpki_der::Constructed;
 
 /// The parts of a manifest.
 #[repr(C)]
 #[derive(Clone, Copy)]
-pub struct ManifestParts {
+pub struct ManifestParts<'a> {
     /// The files, one after another.
-    pub files: Place,
+    pub files: Span<'a>,
     /// How many files there are.
     pub count: usize,
     /// When the manifest was issued.
@@ -42,16 +42,12 @@ pub(crate) fn manifest_part_number(part: ManifestPart) -> u8
 }
 
 /// The parts of the manifest that the octets are.
-fn manifest_of(octets: &[u8], found: &ManifestView<'_>) -> ManifestParts
+fn manifest_of<'a>(octets: &'a [u8], found: &ManifestView<'a>) -> ManifestParts<'a>
     requires { (xs : List ListedFile) × IsManifestAt octets.now found.now xs }
     ensures { HasManifest octets.now result }
 {
-    let files = Section {
-        octets: found.files.octets(),
-        following: 0,
-    };
     ManifestParts {
-        files: Place::of_section(octets.len(), 0, files),
+        files: Span::of(found.files.octets()),
         count: found.files.count(),
         this_update: moment_of(found.this_update),
         next_update: moment_of(found.next_update),
@@ -59,13 +55,13 @@ fn manifest_of(octets: &[u8], found: &ManifestView<'_>) -> ManifestParts
     }
 }
 
-/// Reads a manifest (RFC 9286 4.2), and says what its parts are and where its files stand. Some may have the same name,
-/// which a manifest doesn't allow.
+/// Reads a manifest (RFC 9286 4.2), and says what its parts are. Some files may have the same name, which a manifest
+/// doesn't allow.
 ///
 /// The status is 0. Else it is the number of the part that is wrong, and `out` is unchanged: the leftmost; then that
 /// the next update is after this update. Nothing is allocated.
 #[unsafe(no_mangle)]
-pub extern "C" fn rpki_manifest(octets: &[u8], out: &mut ManifestParts) -> u8
+pub extern "C" fn rpki_manifest<'a>(octets: &'a [u8], out: &mut ManifestParts<'a>) -> u8
     ensures { IsManifestRead octets.now result out.old out.new }
 {
     match ManifestView::read(octets) {
@@ -80,37 +76,27 @@ pub extern "C" fn rpki_manifest(octets: &[u8], out: &mut ManifestParts) -> u8
 /// A file that a manifest lists.
 #[repr(C)]
 #[derive(Clone, Copy)]
-pub struct ManifestFile {
+pub struct ManifestFile<'a> {
     /// The octets of its name.
-    pub name: Place,
-    /// How many octets the file's entry has.
-    pub size: usize,
+    pub name: Span<'a>,
     /// The digest of the file.
     pub digest: [u8; 32],
 }
 
-/// How many octets the digest of a file has, a BIT STRING: its header, the count of unused bits, and thirty-two.
-pub(crate) const DIGEST_SIZE: usize = 35;
-
-/// Reads the file at the front of the octets, as of the files of a manifest: a SEQUENCE of its name and its digest and
-/// nothing else (RFC 9286 4.2.1). What follows is not looked at.
+/// Takes the file at the front of the span, as of the files of a manifest: a SEQUENCE of its name and its digest and
+/// nothing else (RFC 9286 4.2.1). `rest` becomes what follows, which is not looked at.
 ///
-/// The status is 0, or the number of the error; then `out` is unchanged. Nothing is allocated.
+/// The status is 0, or the number of the error; then nothing is written. Nothing is allocated.
 #[unsafe(no_mangle)]
-pub extern "C" fn rpki_manifest_file(octets: &[u8], out: &mut ManifestFile) -> u8
-    ensures { IsFileRead octets.now result out.old out.new }
+pub extern "C" fn rpki_manifest_file<'a>(rest: &mut Span<'a>, out: &mut ManifestFile<'a>) -> u8
+    ensures { IsFileTaken result rest.old rest.new out.old out.new }
 {
-    let mut rest = Constructed::from_slice(octets);
-    match FileView::take_from(&mut rest) {
+    let mut cursor = Constructed::from_slice(rest.octets);
+    match FileView::take_from(&mut cursor) {
         Ok(file) => {
-            let following = rest.rest().len();
-            let name = Section {
-                octets: file.name,
-                following,
-            };
+            *rest = Span::of(cursor.rest());
             *out = ManifestFile {
-                name: Place::of_section(octets.len(), DIGEST_SIZE, name),
-                size: octets.len() - following,
+                name: Span::of(file.name),
                 digest: file.hash.into_array(),
             };
             0

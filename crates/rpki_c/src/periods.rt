@@ -1,13 +1,13 @@
 //! Periods of validity: written, asked, and trimmed.
 
 ghost use Rattle.std.specs.Prelude.{◌↔◌, IsSome, IfSome};
-ghost use Rattle.rpki_c.specs.Periods.{ArePossible, IsPeriodOf, IsValidityWritten, IsHeldAt, IsTrimmedTo};
+ghost use Rattle.rpki_c.specs.Periods.{ArePossible, IsPeriodOf, IsValidityWritten, IsToldOf, IsHeldAt, IsTrimmedTo};
 
 use crate::status::{CONTENT, TOO_NEW, TOO_OLD};
 use crate::stored::store_values;
 use crate::time_writing::time_of;
 use crate::times::{Moment, Period, moment_of};
-use rpki_time::{Validity, ValidityPeriodError};
+use rpki_time::{Time, Validity, ValidityPeriodError};
 use std::alloc::Global;
 
 /// The period of two moments; `None` where there is no such time as one of them. Their seconds since 1970 are not
@@ -42,6 +42,17 @@ pub extern "C" fn rpki_validity_write(
     }
 }
 
+/// Whether the period holds at the time: 0, `TOO_NEW` or `TOO_OLD`.
+pub(crate) fn told_of(period: Validity, time: Time) -> u8
+    ensures { IsToldOf period time result }
+{
+    match period.verify_at(time) {
+        Ok(()) => 0,
+        Err(ValidityPeriodError::TooNew) => TOO_NEW,
+        Err(ValidityPeriodError::TooOld) => TOO_OLD,
+    }
+}
+
 /// Tells whether the period holds at the moment; it does at both of its ends (RFC 5280 4.1.2.5). Seconds since 1970 are
 /// not looked at.
 ///
@@ -57,11 +68,7 @@ pub extern "C" fn rpki_validity_at(period: &Period, moment: &Moment) -> u8
     let Some(time) = time_of(moment) else {
         return CONTENT;
     };
-    match validity.verify_at(time) {
-        Ok(()) => 0,
-        Err(ValidityPeriodError::TooNew) => TOO_NEW,
-        Err(ValidityPeriodError::TooOld) => TOO_OLD,
-    }
+    told_of(validity, time)
 }
 
 /// Finds the period that holds exactly where both do: from the later start to the earlier end. Seconds since 1970 are

@@ -2,12 +2,12 @@
 
 ghost use Rattle.std.specs.Prelude.{◌≡◌};
 ghost use Rattle.rpki_contents.specs.Roa.{AttestationParts};
-ghost use Rattle.rpki_contents.specs.RoaView.{IsRoaAt, PrefixesStand};
-ghost use Rattle.rpki_c.specs.Roa.{roa_part_number, HasRoa, IsRoaRead, IsAddressRead};
+ghost use Rattle.rpki_contents.specs.RoaView.{IsRoaAt};
+ghost use Rattle.rpki_c.specs.Roa.{roa_part_number, HasRoa, IsRoaRead, IsAddressTaken};
 
 use crate::block_texts::family_of;
 use crate::ip_blocks::octets_of;
-use crate::place::Place;
+use crate::span::Span;
 use crate::status::CONTENT;
 use rpki_contents::{RoaIpAddress, RoaPart, RoaView};
 use rpki_der::Constructed;
@@ -15,11 +15,11 @@ use rpki_der::Constructed;
 /// The parts of a route origin attestation.
 #[repr(C)]
 #[derive(Clone, Copy)]
-pub struct RoaParts {
-    /// The prefixes of IP version 4, one after another; of length 0 where the family isn't there.
-    pub v4: Place,
-    /// The prefixes of IP version 6, one after another; of length 0 where the family isn't there.
-    pub v6: Place,
+pub struct RoaParts<'a> {
+    /// The prefixes of IP version 4, one after another; no octets where the family isn't there.
+    pub v4: Span<'a>,
+    /// The prefixes of IP version 6, one after another; no octets where the family isn't there.
+    pub v6: Span<'a>,
     /// How many prefixes of IP version 4 there are.
     pub v4_count: usize,
     /// How many prefixes of IP version 6 there are.
@@ -29,7 +29,7 @@ pub struct RoaParts {
 }
 
 /// How a part that is wrong is passed.
-fn roa_part_number(part: RoaPart) -> u8
+pub(crate) fn roa_part_number(part: RoaPart) -> u8
     ensures { result ≡ roa_part_number part }
 {
     match part {
@@ -40,28 +40,26 @@ fn roa_part_number(part: RoaPart) -> u8
 }
 
 /// The parts of the attestation that the octets are.
-fn roa_of(octets: &[u8], strict: bool, found: RoaView<'_>) -> RoaParts
-    requires attestation { (x : AttestationParts) × IsRoaAt strict octets.now found x }
-    requires stand { PrefixesStand octets.now found }
+fn roa_of<'a>(octets: &'a [u8], strict: bool, found: RoaView<'a>) -> RoaParts<'a>
+    requires { (x : AttestationParts) × IsRoaAt strict octets.now found x }
     ensures { HasRoa strict octets.now result }
 {
-    let total = octets.len();
     RoaParts {
-        v4: Place::of_section(total, 0, found.v4),
-        v6: Place::of_section(total, 0, found.v6),
+        v4: Span::of(found.v4.octets),
+        v6: Span::of(found.v6.octets),
         v4_count: found.v4_count,
         v6_count: found.v6_count,
         as_id: found.as_id,
     }
 }
 
-/// Reads a route origin attestation (RFC 9582 4), and says which AS number it is for and where its prefixes stand. If
+/// Reads a route origin attestation (RFC 9582 4), and says which AS number it is for and what its prefixes are. If
 /// `strict`, the prefixes of IP version 4 are in front of those of IP version 6 (RFC 9582 4.3.3).
 ///
 /// The status is 0. Else it is the number of the leftmost part that is wrong, and `out` is unchanged. Nothing is
 /// allocated.
 #[unsafe(no_mangle)]
-pub extern "C" fn rpki_roa(octets: &[u8], strict: bool, out: &mut RoaParts) -> u8
+pub extern "C" fn rpki_roa<'a>(octets: &'a [u8], strict: bool, out: &mut RoaParts<'a>) -> u8
     ensures { IsRoaRead strict octets.now result out.old out.new }
 {
     match RoaView::read(octets, strict) {
@@ -79,8 +77,6 @@ pub extern "C" fn rpki_roa(octets: &[u8], strict: bool, out: &mut RoaParts) -> u
 pub struct RoaAddress {
     /// The lowest address, the most significant octet first; behind the four octets of IP version 4 stand zeros.
     pub address: [u8; 16],
-    /// How many octets its entry has.
-    pub size: usize,
     /// How many bits the prefix has.
     pub length: u8,
     /// How many bits a prefix that is announced may have; the prefix's own length where that is left out.
@@ -89,25 +85,26 @@ pub struct RoaAddress {
     pub has_max_length: bool,
 }
 
-/// Reads the prefix at the front of the octets, as of the prefixes of a family, 4 or 6: a SEQUENCE of its bits and of a
-/// maximum length, which may be left out, and nothing else (RFC 9582 4.3.2). What follows is not looked at.
+/// Takes the prefix at the front of the span, as of the prefixes of a family, 4 or 6: a SEQUENCE of its bits and of a
+/// maximum length, which may be left out, and nothing else (RFC 9582 4.3.2). `rest` becomes what follows, which is not
+/// looked at.
 ///
-/// The status is 0; `CONTENT` for another family, before the octets are looked at; else the number of the error. `out`
-/// is unchanged where the status is not 0. Nothing is allocated.
+/// The status is 0; `CONTENT` for another family, before the octets are looked at; else the number of the error. Unless
+/// it is 0, nothing is written. Nothing is allocated.
 #[unsafe(no_mangle)]
-pub extern "C" fn rpki_roa_address(octets: &[u8], family: u8, out: &mut RoaAddress) -> u8
-    ensures { IsAddressRead family octets.now result out.old out.new }
+pub extern "C" fn rpki_roa_address(rest: &mut Span<'_>, family: u8, out: &mut RoaAddress) -> u8
+    ensures { IsAddressTaken family result rest.old rest.new out.old out.new }
 {
     let Some(named) = family_of(family) else {
         return CONTENT;
     };
-    let mut rest = Constructed::from_slice(octets);
-    match RoaIpAddress::take_from(&mut rest, named) {
+    let mut cursor = Constructed::from_slice(rest.octets);
+    match RoaIpAddress::take_from(&mut cursor, named) {
         Ok(found) => {
             let prefix = found.prefix;
+            *rest = Span::of(cursor.rest());
             *out = RoaAddress {
                 address: octets_of(named, prefix.low_end(named)),
-                size: octets.len() - rest.rest().len(),
                 length: prefix.size,
                 max_length: found.max_length.unwrap_or(prefix.size),
                 has_max_length: found.max_length.is_some(),

@@ -8,7 +8,7 @@ ghost use Rattle.rpki_objects.specs.SignedObjectView.{IsObjectAt};
 ghost use Rattle.rpki_c.specs.SignedObject.{object_part_number, HasObject, IsObjectRead};
 
 use crate::certificate::part_number;
-use crate::place::Place;
+use crate::span::Span;
 use crate::times::{Moment, moment_of};
 use rpki::crypto::SignatureAlgorithm;
 use rpki_objects::{ObjectPart, SignedObjectView};
@@ -17,17 +17,17 @@ use rpki_time::Time;
 /// The parts of a signed object.
 #[repr(C)]
 #[derive(Clone, Copy)]
-pub struct SignedObjectParts {
+pub struct SignedObjectParts<'a> {
     /// The contents octets of the object identifier that is the content's type.
-    pub content_type: Place,
+    pub content_type: Span<'a>,
     /// The octets of the content.
-    pub content: Place,
+    pub content: Span<'a>,
     /// The signer's certificate, with its header.
-    pub certificate: Place,
+    pub certificate: Span<'a>,
     /// The signed attributes, with their header.
-    pub signed_attributes: Place,
+    pub signed_attributes: Span<'a>,
     /// The octets of the signature.
-    pub signature: Place,
+    pub signature: Span<'a>,
     /// When the attributes were signed, where that is said.
     pub signing_time: Moment,
     /// The same in seconds since 1970, where that is said; else 0.
@@ -47,7 +47,7 @@ pub struct SignedObjectParts {
 }
 
 /// How a part that is wrong is passed.
-fn object_part_number(part: ObjectPart) -> u8
+pub(crate) fn object_part_number(part: ObjectPart) -> u8
     ensures { result ≡ object_part_number part }
 {
     match part {
@@ -93,27 +93,30 @@ fn moment_if(time: Option<Time>) -> Moment
 }
 
 /// Whether these are the same octets.
-fn are_same(one: &[u8], other: &[u8]) -> bool
+pub(crate) fn are_same(one: &[u8], other: &[u8]) -> bool
     ensures { IsTrue result ↔ (one.now ≡ other.now) }
 {
     one == other
 }
 
 /// The parts of the signed object that the octets are.
-fn object_of(octets: &[u8], strict: bool, found: &SignedObjectView<'_>) -> SignedObjectParts
+fn object_of<'a>(
+    octets: &'a [u8],
+    strict: bool,
+    found: &SignedObjectView<'a>,
+) -> SignedObjectParts<'a>
     requires { (x : ObjectParts) × IsObjectAt strict octets.now found.now x }
     ensures { HasObject strict octets.now result }
 {
-    let total = octets.len();
     let content = &found.content;
     let signer = &found.signer;
     let values = &signer.signed_attrs.values;
     SignedObjectParts {
-        content_type: Place::of_section(total, 0, content.content_type),
-        content: Place::of_section(total, 0, content.content),
-        certificate: Place::of_section(total, 0, found.cert),
-        signed_attributes: Place::of_section(total, 0, signer.signed_attrs.octets),
-        signature: Place::of_section(total, 0, signer.signature),
+        content_type: Span::of(content.content_type.octets),
+        content: Span::of(content.content.octets),
+        certificate: Span::of(found.cert.octets),
+        signed_attributes: Span::of(signer.signed_attrs.octets.octets),
+        signature: Span::of(signer.signature.octets),
         signing_time: moment_if(values.signing_time),
         binary_signing_time: values.binary_signing_time.unwrap_or(0),
         message_digest: values.message_digest.into_array(),
@@ -125,13 +128,17 @@ fn object_of(octets: &[u8], strict: bool, found: &SignedObjectView<'_>) -> Signe
     }
 }
 
-/// Reads a signed object (RFC 5652, in the profile of RFC 6488), and says what its parts are and where they stand. If
-/// `strict`, it has a signing time, and no binary signing time (RFC 9589 4).
+/// Reads a signed object (RFC 5652, in the profile of RFC 6488), and says what its parts are. If `strict`, it has a
+/// signing time, and no binary signing time (RFC 9589 4).
 ///
 /// The status is 0. Else it is the number of the part that is wrong, and `out` is unchanged: the leftmost, and of the
 /// certificate the one that [crate::certificate::rpki_certificate] names, by its number. Nothing is allocated.
 #[unsafe(no_mangle)]
-pub extern "C" fn rpki_signed_object(octets: &[u8], strict: bool, out: &mut SignedObjectParts) -> u8
+pub extern "C" fn rpki_signed_object<'a>(
+    octets: &'a [u8],
+    strict: bool,
+    out: &mut SignedObjectParts<'a>,
+) -> u8
     ensures { IsObjectRead strict octets.now result out.old out.new }
 {
     match SignedObjectView::read(octets, strict) {

@@ -29,7 +29,7 @@ pub extern "C" fn rpki_signed_data_write(
         Err(e) => return e.number(),
     };
     match found {
-        Some(parts) => store_if_short(alloc, &signed_of(parts.0, parts.2), out, written),
+        Some(parts) => store_if_short(alloc, &signed_of(parts.data, parts.signature), out, written),
         None => OTHER_ALGORITHM,
     }
 }

@@ -83,3 +83,33 @@ pub(crate) const TOO_NEW: u8 = 50;
 
 /// A period of validity ended before the moment.
 pub(crate) const TOO_OLD: u8 = 51;
+
+/// The digest of octets is not the one that is said.
+pub(crate) const OTHER_DIGEST: u8 = 54;
+
+/// The type of a content is not the one that is signed.
+pub(crate) const OTHER_TYPE: u8 = 55;
+
+/// The subject key identifier of a certificate isn't there, or isn't that of the signer.
+pub(crate) const OTHER_SIGNER: u8 = 56;
+
+/// The subject key identifier of a certificate isn't there, or isn't that of its own key.
+pub(crate) const OTHER_KEY: u8 = 57;
+
+/// Resources are not within those of the issuer.
+pub(crate) const OTHER_RESOURCES: u8 = 58;
+
+/// A certificate has no policies: the number of that rule of certificates.
+pub(crate) const NO_POLICIES: u8 = 108;
+
+/// The resources of a certificate are not critical, or not in canonical form: the number of that rule of certificates.
+pub(crate) const WRONG_RESOURCES: u8 = 116;
+
+/// The resources of a manifest's certificate are not those of its issuer.
+pub(crate) const NOT_INHERITED: u8 = 59;
+
+/// The key of a certificate is not that of the locator.
+pub(crate) const OTHER_ANCHOR: u8 = 60;
+
+/// A certificate lists other kinds of resources than one that signs an object of a type has to.
+pub(crate) const OTHER_KINDS: u8 = 61;

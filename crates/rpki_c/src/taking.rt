@@ -1,12 +1,11 @@
-//! Values that are taken off a part of the octets, one after another.
+//! Values that are taken off a span, one after another.
 
 ghost use Rattle.std.specs.Prelude.{◌≡◌, ◌<◌, IfSome, IfNone};
 ghost use Rattle.rpki_der.specs.Header.{class_number};
-ghost use Rattle.rpki_c.specs.Place.{IsPlace};
-ghost use Rattle.rpki_c.specs.Taking.{IsInside, IsNamedBy, IsOfNoTag, IsTaken, IsTakenBy};
+ghost use Rattle.rpki_c.specs.Taking.{IsNamedBy, IsOfNoTag, IsTaken, IsTakenBy, IsOptionTaken, IsOptionTakenBy};
 
-use crate::place::Place;
-use crate::status::{BAD_TAG, OTHER_PARTS};
+use crate::span::Span;
+use crate::status::BAD_TAG;
 use rpki_der::{Class, Constructed, Cursor, Tag};
 
 /// The class of this number (X.690 8.1.2.2, table 1).
@@ -22,17 +21,6 @@ fn class_of(number: u8) -> Class
     }
 }
 
-/// The octets at the place; None where it isn't inside the octets.
-fn part_of(octets: &[u8], place: Place) -> Option<&[u8]>
-    ensures some { IfSome result (λ part. IsPlace octets.now place part.now) }
-    ensures none { IfNone result (IsInside octets.now place → ⊥) }
-{
-    if place.start > octets.len() || place.length > octets.len() - place.start {
-        return None;
-    }
-    Some(&octets[place.start..][..place.length])
-}
-
 /// The tag and the form that an identifier octet names: its class in the two highest bits, the form in the next, and in
 /// the others the number of the tag, from 0 to 31; None for the tag universal 0, which no value has.
 fn named_by(identifier: u8) -> Option<(Tag, bool)>
@@ -46,51 +34,83 @@ fn named_by(identifier: u8) -> Option<(Tag, bool)>
     Some((tag, identifier / 32 % 2 == 1))
 }
 
-/// Takes the value of this tag and form at the front of a part of the octets; returns the status.
-fn take(octets: &[u8], tag: Tag, constructed: bool, rest: &mut Place, contents: &mut Place) -> u8
-    ensures { IsTakenBy octets.now tag constructed result rest.old rest.new contents.old contents.new }
+/// Takes the value of this tag and form at the front of a span; returns the status.
+fn take<'a>(tag: Tag, constructed: bool, rest: &mut Span<'a>, contents: &mut Span<'a>) -> u8
+    ensures { IsTakenBy tag constructed result rest.old rest.new contents.old contents.new }
 {
-    let before = *rest;
-    let Some(part) = part_of(octets, before) else {
-        return OTHER_PARTS;
-    };
-    let mut cursor = Constructed::from_slice(part);
+    let mut cursor = Constructed::from_slice(rest.octets);
     match cursor.take_value_contents(tag, constructed) {
         Ok(found) => {
-            let end = before.start + before.length;
-            let following = cursor.rest().len();
-            let length = found.rest().len();
-            *rest = Place {
-                start: end - following,
-                length: following,
-            };
-            *contents = Place {
-                start: end - following - length,
-                length,
-            };
+            *rest = Span::of(cursor.rest());
+            *contents = Span::of(found.rest());
             0
         }
         Err(e) => e.number(),
     }
 }
 
-/// Takes the value at the front of a part of the octets, which has this identifier octet (X.690 8.1.2): its class in
-/// the two highest bits, its form in the next, and in the others the number of its tag, from 0 to 31. `rest` is where
-/// the part stands; it becomes where what follows the value stands. `contents` becomes where the contents stand.
+/// Takes the value at the front of the span, which has this identifier octet (X.690 8.1.2): its class in the two
+/// highest bits, its form in the next, and in the others the number of its tag, from 0 to 31. `rest` becomes what
+/// follows the value, and `contents` its contents.
 ///
-/// The status is 0; `BAD_TAG` where the identifier is that of the tag universal 0; else `OTHER_PARTS` where `rest`
-/// isn't inside the octets; else the number of the error. Unless it is 0, nothing is written. Nothing is allocated.
+/// The status is 0; `BAD_TAG` where the identifier is that of the tag universal 0; else the number of the error. Unless
+/// it is 0, nothing is written. Nothing is allocated.
 #[unsafe(no_mangle)]
-pub extern "C" fn rpki_take(
-    octets: &[u8],
-    identifier: u8,
-    rest: &mut Place,
-    contents: &mut Place,
-) -> u8
-    ensures { IsTaken octets.now identifier result rest.old rest.new contents.old contents.new }
+pub extern "C" fn rpki_take<'a>(rest: &mut Span<'a>, identifier: u8, contents: &mut Span<'a>) -> u8
+    ensures { IsTaken identifier result rest.old rest.new contents.old contents.new }
 {
     match named_by(identifier) {
-        Some((tag, constructed)) => take(octets, tag, constructed, rest, contents),
+        Some((tag, constructed)) => take(tag, constructed, rest, contents),
+        None => BAD_TAG,
+    }
+}
+
+/// Takes the value of this tag and form at the front of a span where the tag is there; returns the status.
+fn take_optional<'a>(
+    tag: Tag,
+    constructed: bool,
+    rest: &mut Span<'a>,
+    contents: &mut Span<'a>,
+    is_there: &mut bool,
+) -> u8
+    ensures { IsOptionTakenBy tag constructed result rest.old rest.new
+        (contents.old, is_there.old) (contents.new, is_there.new) }
+{
+    let mut cursor = Constructed::from_slice(rest.octets);
+    if !cursor.has_tag(tag) {
+        *contents = Span::of(&[]);
+        *is_there = false;
+        return 0;
+    }
+    match cursor.take_value_contents(tag, constructed) {
+        Ok(value) => {
+            *rest = Span::of(cursor.rest());
+            *contents = Span::of(value.rest());
+            *is_there = true;
+            0
+        }
+        Err(e) => e.number(),
+    }
+}
+
+/// Takes the value at the front of the span as [rpki_take] does, where it has the tag that this identifier octet names:
+/// an element that may be left out. `is_there` becomes whether it has; where it hasn't, `rest` stays, and `contents`
+/// has no octets.
+///
+/// The statuses are those of [rpki_take], and 0 where another tag or nothing begins the span. Unless it is 0, nothing
+/// is written. Nothing is allocated.
+#[unsafe(no_mangle)]
+pub extern "C" fn rpki_take_optional<'a>(
+    rest: &mut Span<'a>,
+    identifier: u8,
+    contents: &mut Span<'a>,
+    is_there: &mut bool,
+) -> u8
+    ensures { IsOptionTaken identifier result rest.old rest.new
+        (contents.old, is_there.old) (contents.new, is_there.new) }
+{
+    match named_by(identifier) {
+        Some((tag, constructed)) => take_optional(tag, constructed, rest, contents, is_there),
         None => BAD_TAG,
     }
 }

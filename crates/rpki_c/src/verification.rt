@@ -11,7 +11,7 @@ use rpki_digests::RsaProvider;
 use rpki_rsa::Key;
 
 /// The status of a signature of the message by the key.
-fn verified(key: &PublicKeyView<'_>, message: &[u8], signature: &[u8]) -> u8
+pub(crate) fn verified(key: &PublicKeyView<'_>, message: &[u8], signature: &[u8]) -> u8
     ensures { IsVerifiedBy key.now message.now signature.now result }
 {
     if key.algorithm() != PublicKeyFormat::Rsa {

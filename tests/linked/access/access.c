@@ -5,6 +5,7 @@
  * usage: access ROWS
  */
 #include "../memory.h"
+#include "../spans.h"
 
 #include <stdio.h>
 #include <stdlib.h>
@@ -48,28 +49,30 @@ static size_t hexadecimal(const char *digits, uint8_t *octets) {
 union found {
     struct rpki_access_parts access;
     struct rpki_general_name_parts name;
-    struct rpki_place point;
+    struct rpki_span point;
 };
 
-static rpki_status read_by(char kind, const uint8_t *octets, size_t size, union found *out) {
+static rpki_status read_by(char kind, struct rpki_span *rest, union found *out) {
     switch (kind) {
-        case 'a': return rpki_access_description(octets, size, &out->access);
-        case 'n': return rpki_general_name(octets, size, &out->name);
-        default: return rpki_distribution_point(octets, size, &out->point);
+        case 'a': return rpki_access_description(rest, &out->access);
+        case 'n': return rpki_general_name(rest, &out->name);
+        default: return rpki_distribution_point(rest->data, rest->size, &out->point);
     }
 }
 
 /* What was found, in the words of the row. */
-static void tell(char kind, const union found *found, char *text) {
-    const struct rpki_access_parts *a = &found->access;
-    const struct rpki_general_name_parts *n = &found->name;
+static void tell(char kind, const uint8_t *octets, size_t size, size_t taken, const union found *found, char *text) {
     switch (kind) {
         case 'a':
-            sprintf(text, "%zu %zu %zu %zu %zu %u %u", a->id.start, a->id.length, a->uri.start, a->uri.length, a->size,
-                    a->method, a->is_uri);
+            text = tell_span(text, octets, size, found->access.id);
+            text = tell_span(text, octets, size, found->access.uri);
+            sprintf(text, " %zu %u %u", taken, found->access.method, found->access.is_uri);
             return;
-        case 'n': sprintf(text, "%zu %zu %zu %u", n->uri.start, n->uri.length, n->size, n->is_uri); return;
-        default: sprintf(text, "%zu %zu", found->point.start, found->point.length);
+        case 'n':
+            text = tell_span(text, octets, size, found->name.uri);
+            sprintf(text, " %zu %u", taken, found->name.is_uri);
+            return;
+        default: tell_span(text, octets, size, found->point);
     }
 }
 
@@ -82,6 +85,7 @@ static void row(unsigned line, const char *text) {
     unsigned wanted = (unsigned)strtoul(words, &words, 10);
     /* Memory of exactly these octets, so that a read beyond them is seen by a sanitizer. */
     uint8_t *copy = malloc(size ? size : 1);
+    struct rpki_span rest = {copy, size};
     union found out;
     rpki_status status;
     bool clean;
@@ -89,19 +93,20 @@ static void row(unsigned line, const char *text) {
     if (size) memcpy(copy, octets, size);
     memset(&out, FILL, sizeof out);
     count_allocations(0);
-    status = read_by(*text, copy, size, &out);
+    status = read_by(*text, &rest, &out);
     judge(line, "allocates", allocations(&clean) == 0);
     count_allocations(NONE_REFUSED);
-    free(copy);
     if (status != wanted) printf("status %u, not %u\n", status, wanted);
     judge(line, "the status", status == wanted);
     if (status != RPKI_OK) {
-        judge(line, "writes what it refuses", untouched(&out, sizeof out));
+        judge(line, "writes what it refuses", untouched(&out, sizeof out) && rest.data == copy && rest.size == size);
     } else if (wanted == RPKI_OK) {
-        tell(*text, &out, told);
-        if (strcmp(told, words + 1)) printf("%s\nnot %s\n", told, words + 1);
-        judge(line, "the parts", !strcmp(told, words + 1));
+        judge(line, "the rest", rest.size <= size && (!rest.size || rest.data + rest.size == copy + size));
+        tell(*text, copy, size, size - rest.size, &out, told);
+        if (!is_told(told, words)) printf("%s\nnot %s\n", told, words);
+        judge(line, "the parts", is_told(told, words));
     }
+    free(copy);
 }
 
 int main(int count, char **words) {

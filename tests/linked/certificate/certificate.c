@@ -7,6 +7,7 @@
  * usage: certificate ROWS
  */
 #include "../memory.h"
+#include "../spans.h"
 
 #include <stdio.h>
 #include <stdlib.h>
@@ -42,19 +43,28 @@ union found {
     struct rpki_known_extensions extensions;
 };
 
-/* Makes a call on a copy of exactly these octets, so that a read beyond them is seen by a sanitizer. */
-static rpki_status made(bool extensions, const uint8_t *octets, size_t size, union found *out, bool *clean) {
-    uint8_t *copy = malloc(size + 1);
-    rpki_status status;
+/* A copy of exactly these octets, so that a read beyond them is seen by a sanitizer; it lasts until the next one. */
+static uint8_t *copy = NULL;
+static size_t copied;
+
+static void copy_exactly(const uint8_t *octets, size_t size) {
+    free(copy);
+    copy = malloc(size ? size : 1);
     if (!copy) exit(2);
     memcpy(copy, octets, size);
+    copied = size;
+}
+
+/* Makes a call on a copy of the octets. */
+static rpki_status made(bool extensions, const uint8_t *octets, size_t size, union found *out, bool *clean) {
+    rpki_status status;
+    copy_exactly(octets, size);
     memset(out, FILL, sizeof *out);
     count_allocations(0);
     status = extensions ? rpki_certificate_extensions(copy, size, &out->extensions)
                         : rpki_certificate(copy, size, &out->parts);
     *clean = allocations(clean) == 0;
     count_allocations(NONE_REFUSED);
-    free(copy);
     if (status != RPKI_OK) *clean = *clean && untouched(out, sizeof *out);
     return status;
 }
@@ -76,14 +86,13 @@ static char *tell_octets(const uint8_t *octets, char *text) {
 
 /* What rpki_certificate found, in the words of the row. */
 static void tell(const struct rpki_certificate_parts *found, char *text) {
-    const struct rpki_place *places[7];
+    const struct rpki_span *spans[7];
     size_t number;
-    places[0] = &found->data, places[1] = &found->algorithm, places[2] = &found->signature;
-    places[3] = &found->issuer, places[4] = &found->subject, places[5] = &found->public_key;
-    places[6] = &found->extensions;
-    for (number = 0; number < 7; number++) {
-        text += sprintf(text, "%zu %zu ", places[number]->start, places[number]->length);
-    }
+    spans[0] = &found->data, spans[1] = &found->algorithm, spans[2] = &found->signature;
+    spans[3] = &found->issuer, spans[4] = &found->subject, spans[5] = &found->public_key;
+    spans[6] = &found->extensions;
+    for (number = 0; number < 7; number++) text = tell_span(text, copy, copied, *spans[number]);
+    *text++ = ' ';
     text = tell_octets(found->serial_number, text);
     sprintf(text, " %u %u %u", found->key_format, found->key_unused, found->has_parameters);
 }
@@ -94,9 +103,10 @@ static void tell_extensions(const struct rpki_known_extensions *found, char *tex
     const struct rpki_known_extension *each;
     memcpy(known, found, sizeof known);
     for (each = known; each < known + 13; each++) {
-        text += sprintf(text, "%d %d ", each->is_there, each->critical);
-        text += sprintf(text, "%zu %zu ", each->octets.start, each->octets.length);
+        text += sprintf(text, " %d %d", each->is_there, each->critical);
+        text = tell_span(text, copy, copied, each->octets);
     }
+    *text++ = ' ';
     text = tell_octets(found->subject_key, text);
     *text++ = ' ';
     text = tell_octets(found->authority_key, text);
@@ -105,17 +115,17 @@ static void tell_extensions(const struct rpki_known_extensions *found, char *tex
 
 /* Asks what is wrong with a copy of exactly these octets, where no allocation succeeds. Status 0 writes nothing. */
 static bool is_wrong(const uint8_t *octets, size_t size, unsigned wanted, unsigned error) {
-    uint8_t *copy = malloc(size + 1);
+    uint8_t *other = malloc(size + 1);
     rpki_status status, written;
     bool clean;
-    if (!copy) exit(2);
-    memcpy(copy, octets, size);
+    if (!other) exit(2);
+    memcpy(other, octets, size);
     memset(&written, FILL, sizeof written);
     count_allocations(0);
-    status = rpki_certificate_error(copy, size, &written);
+    status = rpki_certificate_error(other, size, &written);
     clean = allocations(&clean) == 0;
     count_allocations(NONE_REFUSED);
-    free(copy);
+    free(other);
     if (status == RPKI_OK) return clean && wanted == RPKI_OK && untouched(&written, sizeof written);
     if (written != error) printf("error %u, not %u\n", written, error);
     return clean && status == wanted && written == error;
@@ -157,7 +167,8 @@ static void alone(unsigned line, const uint8_t *octets, size_t size) {
         well = well && (status == RPKI_OK || untouched(&one, sizeof one));
         if (well && number < 13 && of_all == RPKI_OK) {
             well = one.is_there == known[number].is_there && one.critical == known[number].critical &&
-                   one.octets.start == known[number].octets.start && one.octets.length == known[number].octets.length;
+                   one.octets.size == known[number].octets.size &&
+                   (one.octets.size == 0 || one.octets.data == known[number].octets.data);
         }
     }
     judge(line, "one extension allocates", allocations(&clean) == 0);
@@ -185,39 +196,33 @@ static void compare(unsigned line, bool extensions, uint8_t *octets, size_t size
     } else {
         tell(&out.parts, told);
     }
-    if (strcmp(told, words + 1)) printf("%s\nnot %s\n", told, words + 1);
-    judge(line, extensions ? "the extensions" : "the parts", !strcmp(told, words + 1));
+    if (!is_told(told, words)) printf("%s\nnot %s\n", told, words);
+    judge(line, extensions ? "the extensions" : "the parts", is_told(told, words));
     if (line == 1) beginnings(line, extensions, octets, size);
 }
 
 /* Holds a copy of exactly these octets to a profile, where no allocation succeeds. */
 static rpki_status inspected(const uint8_t *octets, size_t size, unsigned profile, bool strict, bool *clean) {
-    uint8_t *copy = malloc(size + 1);
     rpki_status status;
-    if (!copy) exit(2);
-    memcpy(copy, octets, size);
+    copy_exactly(octets, size);
     count_allocations(0);
     status = rpki_certificate_inspect(copy, size, (uint8_t)profile, strict);
     *clean = allocations(clean) == 0;
     count_allocations(NONE_REFUSED);
-    free(copy);
     return status;
 }
 
 /* Asks for all at once on a copy of exactly these octets, where no allocation succeeds. */
 static rpki_status checked(const uint8_t *octets, size_t size, unsigned profile, bool strict, union found *parts,
                            union found *extensions, bool *clean) {
-    uint8_t *copy = malloc(size + 1);
     rpki_status status;
-    if (!copy) exit(2);
-    memcpy(copy, octets, size);
+    copy_exactly(octets, size);
     memset(parts, FILL, sizeof *parts);
     memset(extensions, FILL, sizeof *extensions);
     count_allocations(0);
     status = rpki_certificate_checked(copy, size, (uint8_t)profile, strict, &parts->parts, &extensions->extensions);
     *clean = allocations(clean) == 0;
     count_allocations(NONE_REFUSED);
-    free(copy);
     if (status != RPKI_OK) {
         *clean = *clean && untouched(parts, sizeof *parts) && untouched(extensions, sizeof *extensions);
     }
@@ -258,9 +263,9 @@ static void check(unsigned line, const uint8_t *octets, size_t size, const char 
         judge(line, "a check", status == wanted && clean);
         if (wanted != RPKI_OK || status != RPKI_OK) continue;
         tell(&parts.parts, told);
-        judge(line, "the parts of a check", !strcmp(told, strchr(words, ' ') + 1));
+        judge(line, "the parts of a check", is_told(told, strchr(words, ' ')));
         tell_extensions(&extensions.extensions, told);
-        judge(line, "the extensions of a check", !strcmp(told, strchr(known, ' ') + 1));
+        judge(line, "the extensions of a check", is_told(told, strchr(known, ' ')));
     }
 }
 

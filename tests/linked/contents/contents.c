@@ -7,6 +7,7 @@
  * usage: contents ROWS
  */
 #include "../memory.h"
+#include "../spans.h"
 
 #include <stdio.h>
 #include <stdlib.h>
@@ -88,72 +89,83 @@ static void tell_octets(struct told *told, const uint8_t *octets, size_t size) {
     }
 }
 
-static void tell_place(struct told *told, struct rpki_place place) {
-    tell(told, place.start);
-    tell(told, place.length);
+static void tell_part(struct told *told, const uint8_t *octets, size_t size, struct rpki_span part) {
+    told->size = (size_t)(tell_span(told->text + told->size, octets, size, part) - told->text);
 }
 
 /* ---- Entries: the one at the front, and how many octets it has ---- */
 
-typedef rpki_status take(const uint8_t *octets, size_t size, struct told *told, size_t *taken);
+typedef rpki_status take(struct rpki_span *rest, struct told *told);
 
-static rpki_status take_file(const uint8_t *octets, size_t size, struct told *told, size_t *taken) {
+/* Whether the span is what follows the front of the one before, or all of it where nothing was taken; how many octets
+ * that front has. */
+static size_t taken(struct rpki_span before, struct rpki_span after, rpki_status status) {
+    size_t size = before.size - after.size;
+    clean = clean && after.size <= before.size && (status == RPKI_OK ? size > 0 : size == 0);
+    clean = clean && (after.size == 0 || after.data == before.data + size);
+    return size;
+}
+
+static rpki_status take_file(struct rpki_span *rest, struct told *told) {
     struct rpki_manifest_file_parts out;
+    struct rpki_span before = *rest;
     rpki_status status;
+    size_t size;
     begin(&out, sizeof out);
-    status = end(rpki_manifest_file(octets, size, &out), &out, sizeof out);
+    status = end(rpki_manifest_file(rest, &out), &out, sizeof out);
+    size = taken(before, *rest, status);
     if (status != RPKI_OK) return status;
-    tell_place(told, out.name);
-    tell(told, out.size);
+    tell_part(told, before.data, size, out.name);
+    tell(told, size);
     tell_octets(told, out.digest, sizeof out.digest);
-    *taken = out.size;
     return status;
 }
 
-static rpki_status take_address(const uint8_t *octets, size_t size, uint8_t family, struct told *told, size_t *taken) {
+static rpki_status take_address(struct rpki_span *rest, uint8_t family, struct told *told) {
     struct rpki_roa_address_parts out;
+    struct rpki_span before = *rest;
     rpki_status status;
+    size_t size;
     begin(&out, sizeof out);
-    status = end(rpki_roa_address(octets, size, family, &out), &out, sizeof out);
+    status = end(rpki_roa_address(rest, family, &out), &out, sizeof out);
+    size = taken(before, *rest, status);
     if (status != RPKI_OK) return status;
     tell_octets(told, out.address, sizeof out.address);
     tell(told, out.length);
     tell(told, out.max_length);
     tell(told, out.has_max_length);
-    tell(told, out.size);
-    *taken = out.size;
+    tell(told, size);
     return status;
 }
 
-static rpki_status take_address_4(const uint8_t *octets, size_t size, struct told *told, size_t *taken) {
-    return take_address(octets, size, RPKI_IPV4, told, taken);
+static rpki_status take_address_4(struct rpki_span *rest, struct told *told) {
+    return take_address(rest, RPKI_IPV4, told);
 }
 
-static rpki_status take_address_6(const uint8_t *octets, size_t size, struct told *told, size_t *taken) {
-    return take_address(octets, size, RPKI_IPV6, told, taken);
+static rpki_status take_address_6(struct rpki_span *rest, struct told *told) {
+    return take_address(rest, RPKI_IPV6, told);
 }
 
-static rpki_status take_provider(const uint8_t *octets, size_t size, struct told *told, size_t *taken) {
-    struct rpki_aspa_provider_parts out;
+static rpki_status take_provider(struct rpki_span *rest, struct told *told) {
+    struct rpki_span before = *rest;
+    uint32_t out;
     rpki_status status;
+    size_t size;
     begin(&out, sizeof out);
-    status = end(rpki_aspa_provider(octets, size, &out), &out, sizeof out);
+    status = end(rpki_aspa_provider(rest, &out), &out, sizeof out);
+    size = taken(before, *rest, status);
     if (status != RPKI_OK) return status;
-    tell(told, out.number);
-    tell(told, out.size);
-    *taken = out.size;
+    tell(told, out);
+    tell(told, size);
     return status;
 }
 
-/* The entries that are at the place: as many as the content says. */
-static bool entries(const struct input *input, struct rpki_place place, size_t count, take *call, struct told *told) {
-    size_t at = place.start, last = place.start + place.length, size;
-    if (last < at || last > input->size) return false;
+/* The entries that are all of the span: as many as the content says. */
+static bool entries(struct rpki_span rest, size_t count, take *call, struct told *told) {
     for (; count; count--) {
-        if (call(input->octets + at, last - at, told, &size) != RPKI_OK || size > last - at) return false;
-        at += size;
+        if (call(&rest, told) != RPKI_OK) return false;
     }
-    return at == last;
+    return rest.size == 0;
 }
 
 /* ---- Contents ---- */
@@ -163,23 +175,12 @@ static bool manifest(const struct input *input, rpki_status *status, struct told
     begin(&out, sizeof out);
     *status = end(rpki_manifest(input->octets, input->size, &out), &out, sizeof out);
     if (*status != RPKI_OK) return true;
-    tell_place(told, out.files);
+    tell_part(told, input->octets, input->size, out.files);
     tell(told, out.count);
     tell_signed(told, out.this_update.seconds);
     tell_signed(told, out.next_update.seconds);
     tell_octets(told, out.manifest_number, sizeof out.manifest_number);
-    return entries(input, out.files, out.count, take_file, told);
-}
-
-/* The place of a family that isn't there is empty, wherever it is. */
-static void tell_family(struct told *told, struct rpki_place place, size_t count) {
-    if (count) {
-        tell(told, place.start);
-    } else {
-        told->size += (size_t)sprintf(told->text + told->size, " -");
-    }
-    tell(told, place.length);
-    tell(told, count);
+    return entries(out.files, out.count, take_file, told);
 }
 
 static bool roa(const struct input *input, bool strict, rpki_status *status, struct told *told) {
@@ -188,10 +189,11 @@ static bool roa(const struct input *input, bool strict, rpki_status *status, str
     *status = end(rpki_roa(input->octets, input->size, strict, &out), &out, sizeof out);
     if (*status != RPKI_OK) return true;
     tell(told, out.as_id);
-    tell_family(told, out.v4, out.v4_count);
-    tell_family(told, out.v6, out.v6_count);
-    return entries(input, out.v4, out.v4_count, take_address_4, told) &&
-           entries(input, out.v6, out.v6_count, take_address_6, told);
+    tell_part(told, input->octets, input->size, out.v4);
+    tell(told, out.v4_count);
+    tell_part(told, input->octets, input->size, out.v6);
+    tell(told, out.v6_count);
+    return entries(out.v4, out.v4_count, take_address_4, told) && entries(out.v6, out.v6_count, take_address_6, told);
 }
 
 static bool aspa(const struct input *input, rpki_status *status, struct told *told) {
@@ -200,16 +202,16 @@ static bool aspa(const struct input *input, rpki_status *status, struct told *to
     *status = end(rpki_aspa(input->octets, input->size, &out), &out, sizeof out);
     if (*status != RPKI_OK) return true;
     tell(told, out.customer);
-    tell_place(told, out.providers);
+    tell_part(told, input->octets, input->size, out.providers);
     tell(told, out.count);
-    return entries(input, out.providers, out.count, take_provider, told);
+    return entries(out.providers, out.count, take_provider, told);
 }
 
 /* ---- Names ---- */
 
-/* The call with room for so many places, in memory of exactly that size; whatever `out` is before. */
+/* The call with room for so many spans, in memory of exactly that size; whatever `out` is before. */
 static rpki_status compare_names(const struct input *input, size_t capacity, bool *differ) {
-    struct rpki_place *room = capacity ? malloc(capacity * sizeof *room) : NULL;
+    struct rpki_span *room = capacity ? calloc(capacity, sizeof *room) : NULL;
     rpki_status status, again;
     bool none, one = false, other = true;
     if (capacity && !room) exit(2);
@@ -238,29 +240,31 @@ static bool names(const struct input *input, rpki_status *status, struct told *t
 /* Other numbers name no family, whatever the octets are. */
 static void other_families(unsigned line, const struct input *input) {
     struct rpki_roa_address_parts out;
+    struct rpki_span rest;
     unsigned family;
     bool well = true;
     for (family = 0; family < 256; family++) {
         if (family == RPKI_IPV4 || family == RPKI_IPV6) continue;
+        rest.data = input->octets;
+        rest.size = input->size;
         begin(&out, sizeof out);
-        well = end(rpki_roa_address(input->octets, input->size, (uint8_t)family, &out), &out, sizeof out) ==
-                   RPKI_CONTENT &&
-               well;
+        well = end(rpki_roa_address(&rest, (uint8_t)family, &out), &out, sizeof out) == RPKI_CONTENT && well;
+        well = well && rest.data == input->octets && rest.size == input->size;
     }
     judge(line, "other families", well);
 }
 
 static bool call(const char *word, const struct input *input, rpki_status *status, struct told *told) {
-    size_t size;
+    struct rpki_span rest = {input->octets, input->size};
     if (!strcmp(word, "manifest")) return manifest(input, status, told);
     if (!strcmp(word, "roa0")) return roa(input, false, status, told);
     if (!strcmp(word, "roa1")) return roa(input, true, status, told);
     if (!strcmp(word, "aspa")) return aspa(input, status, told);
     if (!strcmp(word, "names")) return names(input, status, told);
-    if (!strcmp(word, "file")) *status = take_file(input->octets, input->size, told, &size);
-    if (!strcmp(word, "address4")) *status = take_address_4(input->octets, input->size, told, &size);
-    if (!strcmp(word, "address6")) *status = take_address_6(input->octets, input->size, told, &size);
-    if (!strcmp(word, "provider")) *status = take_provider(input->octets, input->size, told, &size);
+    if (!strcmp(word, "file")) *status = take_file(&rest, told);
+    if (!strcmp(word, "address4")) *status = take_address_4(&rest, told);
+    if (!strcmp(word, "address6")) *status = take_address_6(&rest, told);
+    if (!strcmp(word, "provider")) *status = take_provider(&rest, told);
     return true;
 }
 
@@ -284,7 +288,7 @@ static void row(unsigned line, char *text) {
     judge(line, "allocates, or writes what it refuses", clean);
     judge(line, "the status", status == strtoul(words, &words, 10));
     judge(line, "the entries", well);
-    judge(line, "what is found", status != RPKI_OK || !strcmp(told.text, words));
+    judge(line, "what is found", status != RPKI_OK || is_told(told.text, words));
     if (!strcmp(text, "address4")) other_families(line, &input);
     free(input.octets);
 }

@@ -12,7 +12,7 @@ A row begins with one of these words, the octets in hexadecimal digits or `-`, a
              address of sixteen octets, its length, the maximum length, whether that is there, and the entry's size
   aspa       the customer, the place of the providers and their count; then each number and the size of its entry
   file, address4, address6, provider     one entry at the front of the octets, in the same words
-  names      files, in order: how many they are, and 1 where no two have the same name, else 0"""
+  names      a manifest: how many files it has, and 1 where no two have the same name, else 0"""
 import datetime
 import os
 import random
@@ -122,18 +122,6 @@ def file(parts):
     return [name.start - parts.start - first, len(name.octets), parts.place - first, digest[1:].hex()]
 
 
-def file_name(parts):
-    """The name alone."""
-    first = parts.place
-    start, length, *_ = file(parts)
-    return parts.octets[first + start:first + start + length]
-
-
-def names(octets):
-    found = part_of(FILE_LIST, each, whole(octets), file_name)
-    return [len(found), int(len(set(found)) == len(found))]
-
-
 def files(parts):
     listed = only(parts, 0x30)
     return listed, each(listed, file)
@@ -147,6 +135,15 @@ def manifest(octets):
     listed, found = part_of(FILE_LIST, files, parts)
     need(this < following, ORDER)
     return [*place(listed), len(found), this, following, number.hex(), *sum(found, [])]
+
+
+def names(octets):
+    start, _, count, _, _, _, *found = manifest(octets)
+    told = set()
+    for at in range(0, len(found), 4):
+        told.add(octets[start + found[at]:start + found[at] + found[at + 1]])
+        start += found[at + 2]
+    return [count, int(len(told) == count)]
 
 
 # ---- route origin attestations (RFC 9582 4)
@@ -479,7 +476,8 @@ def main():
         for octets in [*made, *variants(made[0], source, 800), *variants(made[1], source, 400)]:
             for word, reader in READERS[kind]:
                 row(word, octets, reader, octets)
-    for octets in [*NAMED, *variants(NAMED[0], source, 400), *variants(NAMED[3], source, 400)]:
+    named = [listing(listed=sequence(files)) for files in NAMED]
+    for octets in [*named, *variants(named[0], source, 400), *variants(named[3], source, 400)]:
         row("names", octets, names, octets)
     entries = {"file": [entry(), LONG], "address": [FOUR[0], FOUR[1], SIX[0], SIX[1]],
                "provider": [unsigned(64496), unsigned(2 ** 32 - 1)]}

@@ -6,6 +6,7 @@
  * usage: lists ROWS
  */
 #include "../memory.h"
+#include "../spans.h"
 
 #include <stdio.h>
 #include <stdlib.h>
@@ -53,14 +54,12 @@ static uint8_t *exactly(const uint8_t *octets, size_t size) {
 }
 
 static rpki_status read_list(const uint8_t *octets, size_t size, struct rpki_crl_parts *out, bool *clean) {
-    uint8_t *copy = exactly(octets, size);
     rpki_status status;
     memset(out, FILL, sizeof *out);
     count_allocations(0);
-    status = rpki_crl(copy, size, out);
+    status = rpki_crl(octets, size, out);
     *clean = allocations(clean) == 0;
     count_allocations(NONE_REFUSED);
-    free(copy);
     if (status != RPKI_OK) *clean = *clean && untouched(out, sizeof *out);
     return status;
 }
@@ -89,15 +88,13 @@ static char *tell_octets(const uint8_t *octets, char *text) {
 }
 
 /* What was found, in the words of the row. */
-static void tell(const struct rpki_crl_parts *found, char *text) {
-    const struct rpki_place *places[5];
-    size_t number;
-    places[0] = &found->data, places[1] = &found->algorithm, places[2] = &found->signature;
-    places[3] = &found->issuer, places[4] = &found->revoked_certs;
-    for (number = 0; number < 5; number++) {
-        text += sprintf(text, "%zu %zu ", places[number]->start, places[number]->length);
-    }
-    text += sprintf(text, "%lld %lld ", (long long)found->this_update.seconds, (long long)found->next_update.seconds);
+static void tell(const uint8_t *octets, size_t size, const struct rpki_crl_parts *found, char *text) {
+    text = tell_span(text, octets, size, found->data);
+    text = tell_span(text, octets, size, found->algorithm);
+    text = tell_span(text, octets, size, found->signature);
+    text = tell_span(text, octets, size, found->issuer);
+    text = tell_span(text, octets, size, found->revoked_certs);
+    text += sprintf(text, " %lld %lld ", (long long)found->this_update.seconds, (long long)found->next_update.seconds);
     text = tell_octets(found->crl_number, text);
     *text++ = ' ';
     text = tell_octets(found->authority_key_identifier, text);
@@ -105,7 +102,7 @@ static void tell(const struct rpki_crl_parts *found, char *text) {
 }
 
 /* Asks for each serial number of the words, and for the numbers beside it, which are not among them. */
-static void ask(unsigned line, const uint8_t *entries, size_t size, const char *words) {
+static void ask(unsigned line, struct rpki_span entries, const char *words) {
     static const uint8_t negative[20] = {0x80};
     const char *all = words;
     unsigned char answer;
@@ -114,35 +111,38 @@ static void ask(unsigned line, const uint8_t *entries, size_t size, const char *
         uint8_t number[20];
         char next[41];
         hexadecimal(words + 1, number);
-        well = search(entries, size, number, &answer, &clean) == RPKI_OK && clean && answer == 1 && well;
+        well = search(entries.data, entries.size, number, &answer, &clean) == RPKI_OK && clean && answer == 1 && well;
         number[0] ^= 0x40;
         tell_octets(number, next);
         if (strstr(all, next)) continue;
-        well = search(entries, size, number, &answer, &clean) == RPKI_OK && clean && answer == 0 && well;
+        well = search(entries.data, entries.size, number, &answer, &clean) == RPKI_OK && clean && answer == 0 && well;
     }
     judge(line, "a search", well);
-    well = search(entries, size, negative, &answer, &clean) == RPKI_CONTENT && clean && answer == FILL;
+    well = search(entries.data, entries.size, negative, &answer, &clean) == RPKI_CONTENT && clean && answer == FILL;
     judge(line, "a search for a number below 0", well);
 }
 
 /* Reads the entries in order, whose serial numbers are the words. */
-static void walk(unsigned line, const uint8_t *entries, size_t size, const char *words) {
-    size_t at = 0;
+static void walk(unsigned line, struct rpki_span entries, const char *words) {
+    struct rpki_span rest = entries, end;
+    struct rpki_revoked_certificate found;
     bool clean, well = true;
     for (; words; words = strchr(words + 1, ' ')) {
-        uint8_t number[20], *copy = exactly(entries + at, size - at);
-        struct rpki_revoked_certificate found;
+        uint8_t number[20];
         count_allocations(0);
-        well = rpki_crl_entry(copy, size - at, &found) == RPKI_OK && well;
+        well = rpki_crl_entry(&rest, &found) == RPKI_OK && well;
         well = allocations(&clean) == 0 && well;
         count_allocations(NONE_REFUSED);
-        free(copy);
         hexadecimal(words + 1, number);
-        well = well && !memcmp(found.serial_number, number, 20) && found.size <= size - at;
+        well = well && !memcmp(found.serial_number, number, 20) && rest.size < entries.size;
+        well = well && (rest.size == 0 || rest.data + rest.size == entries.data + entries.size);
         if (!well) break;
-        at += found.size;
     }
-    judge(line, "the entries, one after another", well && at == size);
+    judge(line, "the entries, one after another", well && rest.size == 0);
+    end = rest;
+    memset(&found, FILL, sizeof found);
+    well = rpki_crl_entry(&rest, &found) == RPKI_TRUNCATED && untouched(&found, sizeof found);
+    judge(line, "no entry after the last", well && !memcmp(&rest, &end, sizeof rest));
 }
 
 /* The words are a status and what is found. */
@@ -152,16 +152,18 @@ static void list(unsigned line, const uint8_t *octets, size_t size, const char *
     unsigned wanted = (unsigned)strtoul(words, (char **)&words, 10);
     bool clean;
     rpki_status status = read_list(octets, size, &out, &clean);
+    const char *numbers;
     judge(line, "allocates, or writes what it refuses", clean);
     if (status != wanted) printf("status %u, not %u\n", status, wanted);
     judge(line, "the status", status == wanted);
     if (wanted != RPKI_OK || status != RPKI_OK) return;
-    tell(&out, told);
-    if (strncmp(told, words + 1, strlen(told))) printf("%s\nnot %s\n", told, words + 1);
-    judge(line, "the parts", !strncmp(told, words + 1, strlen(told)));
-    words += 1 + strlen(told);
-    ask(line, octets + out.revoked_certs.start, out.revoked_certs.length, *words ? words : NULL);
-    walk(line, octets + out.revoked_certs.start, out.revoked_certs.length, *words ? words : NULL);
+    tell(octets, size, &out, told);
+    numbers = following(told, words);
+    if (!numbers) printf("%s\nnot %s\n", told, words);
+    judge(line, "the parts", numbers != NULL);
+    if (!numbers) return;
+    ask(line, out.revoked_certs, *numbers ? numbers : NULL);
+    walk(line, out.revoked_certs, *numbers ? numbers : NULL);
 }
 
 /* The word is the status of a search in the entries. */
@@ -180,7 +182,9 @@ static void beginnings(const uint8_t *octets, size_t size) {
     size_t count;
     bool clean, well = true;
     for (count = 0; count < size; count++) {
-        well = read_list(octets, count, &out, &clean) == RPKI_PART_CERTIFICATE && clean && well;
+        uint8_t *copy = exactly(octets, count);
+        well = read_list(copy, count, &out, &clean) == RPKI_PART_CERTIFICATE && clean && well;
+        free(copy);
     }
     judge(1, "each beginning", well);
 }
@@ -191,7 +195,9 @@ static void row(unsigned line, const char *text) {
     size_t size = *digits == '-' ? 0 : hexadecimal(digits, octets);
     if (line == 1) beginnings(octets, size);
     if (!strncmp(text, "list ", 5)) {
-        list(line, octets, size, words);
+        uint8_t *copy = exactly(octets, size);
+        list(line, copy, size, words);
+        free(copy);
     } else {
         entries(line, octets, size, words);
     }

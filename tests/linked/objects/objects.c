@@ -6,6 +6,7 @@
  * usage: objects ROWS
  */
 #include "../memory.h"
+#include "../spans.h"
 
 #include <stdio.h>
 #include <stdlib.h>
@@ -54,20 +55,14 @@ static uint8_t *exactly(const uint8_t *octets, size_t size) {
 
 static rpki_status read_object(const uint8_t *octets, size_t size, bool strict, struct rpki_signed_object_parts *out,
                                bool *clean) {
-    uint8_t *copy = exactly(octets, size);
     rpki_status status;
     memset(out, FILL, sizeof *out);
     count_allocations(0);
-    status = rpki_signed_object(copy, size, strict, out);
+    status = rpki_signed_object(octets, size, strict, out);
     *clean = allocations(clean) == 0;
     count_allocations(NONE_REFUSED);
-    free(copy);
     if (status != RPKI_OK) *clean = *clean && untouched(out, sizeof *out);
     return status;
-}
-
-static char *tell_place(struct rpki_place place, char *text) {
-    return text + sprintf(text, "%zu %zu ", place.start, place.length);
 }
 
 static char *tell_octets(const uint8_t *octets, size_t size, char *text) {
@@ -77,11 +72,12 @@ static char *tell_octets(const uint8_t *octets, size_t size, char *text) {
 }
 
 /* What was found, in the words of the row. */
-static void tell(const struct rpki_signed_object_parts *found, char *text) {
-    text = tell_place(found->content_type, text);
-    text = tell_place(found->content, text);
-    text = tell_place(found->signed_attributes, text);
-    text = tell_place(found->signature, text);
+static void tell(const uint8_t *octets, size_t size, const struct rpki_signed_object_parts *found, char *text) {
+    text = tell_span(text, octets, size, found->content_type);
+    text = tell_span(text, octets, size, found->content);
+    text = tell_span(text, octets, size, found->signed_attributes);
+    text = tell_span(text, octets, size, found->signature);
+    *text++ = ' ';
     text = tell_octets(found->message_digest, 32, text);
     *text++ = ' ';
     text = tell_octets(found->signer_identifier, 20, text);
@@ -110,24 +106,24 @@ static void object(unsigned line, const uint8_t *octets, size_t size, bool stric
     static char told[1024];
     struct rpki_signed_object_parts out;
     struct rpki_certificate_parts certificate;
-    struct rpki_place place = {0, 0};
+    size_t start = 0, length = 0;
     unsigned wanted = (unsigned)strtoul(words, &words, 10);
     bool clean;
     rpki_status status = read_object(octets, size, strict, &out, &clean);
     judge(line, "allocates, or writes what it refuses", clean);
     if (wanted == RPKI_OK) {
-        place.start = strtoul(words, &words, 10);
-        place.length = strtoul(words, &words, 10);
-        wanted = rpki_certificate(octets + place.start, place.length, &certificate);
+        start = strtoul(words, &words, 10);
+        length = strtoul(words, &words, 10);
+        wanted = rpki_certificate(octets + start, length, &certificate);
     }
     if (wanted == RPKI_OK) wanted = (unsigned)strtoul(words, &words, 10);
     if (status != wanted) printf("status %u, not %u\n", status, wanted);
     judge(line, "the status", status == wanted);
     if (wanted != RPKI_OK || status != RPKI_OK) return;
-    tell(&out, told);
-    if (strcmp(told, words + 1)) printf("%s\nnot %s\n", told, words + 1);
-    judge(line, "the parts", !strcmp(told, words + 1) && are_zeros(&out));
-    judge(line, "the certificate", out.certificate.start == place.start && out.certificate.length == place.length);
+    tell(octets, size, &out, told);
+    if (!is_told(told, words)) printf("%s\nnot %s\n", told, words);
+    judge(line, "the parts", is_told(told, words) && are_zeros(&out));
+    judge(line, "the certificate", out.certificate.data == octets + start && out.certificate.size == length);
 }
 
 static void beginnings(const uint8_t *octets, size_t size) {
@@ -135,18 +131,23 @@ static void beginnings(const uint8_t *octets, size_t size) {
     size_t count;
     bool clean, well = true;
     for (count = 0; count < size; count++) {
-        well = read_object(octets, count, false, &out, &clean) == RPKI_PART_OBJECT && clean && well;
+        uint8_t *copy = exactly(octets, count);
+        well = read_object(copy, count, false, &out, &clean) == RPKI_PART_OBJECT && clean && well;
+        free(copy);
     }
     judge(1, "each beginning", well);
 }
 
 static void row(unsigned line, char *text) {
     static uint8_t octets[MOST_OCTETS];
+    uint8_t *copy;
     char *words = strchr(text, ' ') + 1;
     size_t size = *text == '-' ? 0 : hexadecimal(text, octets);
     bool strict = *words == '1';
     if (line == 1) beginnings(octets, size);
-    object(line, octets, size, strict, words + 1);
+    copy = exactly(octets, size);
+    object(line, copy, size, strict, words + 1);
+    free(copy);
 }
 
 int main(int count, char **words) {

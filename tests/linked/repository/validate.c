@@ -21,33 +21,23 @@
 
 #include "rpki.h"
 
-struct octets {
-    const uint8_t *at;
-    size_t size;
-};
-
 /* A certificate that is valid: its parts, its extensions, and its key. */
 struct holder {
-    struct octets all;
+    struct rpki_span all;
     struct rpki_certificate_parts parts;
     struct rpki_known_extensions known;
     EVP_PKEY *key;
 };
 
-static struct octets part(struct octets all, struct rpki_place place) {
-    struct octets found = {all.at + place.start, place.length};
-    return found;
-}
-
-static bool are_same(struct octets one, struct octets other) {
-    return one.size == other.size && memcmp(one.at, other.at, one.size) == 0;
+static bool are_same(struct rpki_span one, struct rpki_span other) {
+    return one.size == other.size && memcmp(one.data, other.data, one.size) == 0;
 }
 
 /* The octets of a file; the program ends where it can't be read. */
-static struct octets read_file(const char *name) {
+static struct rpki_span read_file(const char *name) {
     FILE *file = fopen(name, "rb");
     uint8_t *octets = malloc(1 << 24);
-    struct octets found = {octets, 0};
+    struct rpki_span found = {octets, 0};
     if (file == NULL || octets == NULL) {
         fprintf(stderr, "%s: cannot be read\n", name);
         exit(2);
@@ -58,45 +48,43 @@ static struct octets read_file(const char *name) {
 }
 
 /* Whether the key has signed the first octets, and after them the others, by RSA with SHA-256. */
-static bool has_signed(EVP_PKEY *key, struct octets first, struct octets others, struct octets signature) {
+static bool has_signed(EVP_PKEY *key, struct rpki_span first, struct rpki_span others, struct rpki_span signature) {
     EVP_MD_CTX *context = EVP_MD_CTX_new();
     bool answer = EVP_DigestVerifyInit(context, NULL, EVP_sha256(), NULL, key) == 1 &&
-                  EVP_DigestVerifyUpdate(context, first.at, first.size) == 1 &&
-                  EVP_DigestVerifyUpdate(context, others.at, others.size) == 1 &&
-                  EVP_DigestVerifyFinal(context, signature.at, signature.size) == 1;
+                  EVP_DigestVerifyUpdate(context, first.data, first.size) == 1 &&
+                  EVP_DigestVerifyUpdate(context, others.data, others.size) == 1 &&
+                  EVP_DigestVerifyFinal(context, signature.data, signature.size) == 1;
     EVP_MD_CTX_free(context);
     return answer;
 }
 
 /* What is wrong with a certificate of this profile, or NULL; its parts and its key are then known. */
-static const char *read_holder(struct octets all, uint8_t profile, struct holder *out) {
-    struct octets key;
+static const char *read_holder(struct rpki_span all, uint8_t profile, struct holder *out) {
+    struct rpki_span key;
     uint8_t identifier[20];
     out->all = all;
-    if (rpki_certificate_checked(all.at, all.size, profile, true, &out->parts, &out->known) != RPKI_OK) {
+    if (rpki_certificate_checked(all.data, all.size, profile, true, &out->parts, &out->known) != RPKI_OK) {
         return "no certificate of the profile";
     }
-    key = part(all, out->parts.public_key);
-    if (rpki_key_identifier(key.at, key.size, identifier) != RPKI_OK ||
+    key = out->parts.public_key;
+    if (rpki_key_identifier(key.data, key.size, identifier) != RPKI_OK ||
         memcmp(identifier, out->known.subject_key, 20) != 0) {
         return "not the identifier of the key";
     }
-    out->key = d2i_PUBKEY(NULL, &key.at, (long)key.size);
+    out->key = d2i_PUBKEY(NULL, &key.data, (long)key.size);
     return out->key == NULL ? "no key" : NULL;
 }
 
 /* Whether the resources of the subject are within those of the issuer. */
-static bool are_within(struct octets issuer, const struct rpki_known_extensions *of_issuer, struct octets subject,
-                       const struct rpki_known_extensions *of_subject) {
-    struct octets outer = part(issuer, of_issuer->ip_resources.octets);
-    struct octets inner = part(subject, of_subject->ip_resources.octets);
+static bool are_within(const struct rpki_known_extensions *of_issuer, const struct rpki_known_extensions *of_subject) {
+    struct rpki_span outer = of_issuer->ip_resources.octets, inner = of_subject->ip_resources.octets;
     bool ip = !of_subject->ip_resources.is_there, as = !of_subject->as_resources.is_there;
-    if (!ip && rpki_ip_blocks_encompass(outer.at, outer.size, inner.at, inner.size, &ip) != RPKI_OK) {
+    if (!ip && rpki_ip_blocks_encompass(outer.data, outer.size, inner.data, inner.size, &ip) != RPKI_OK) {
         return false;
     }
-    outer = part(issuer, of_issuer->as_resources.octets);
-    inner = part(subject, of_subject->as_resources.octets);
-    if (!as && rpki_as_blocks_encompass(outer.at, outer.size, inner.at, inner.size, &as) != RPKI_OK) {
+    outer = of_issuer->as_resources.octets;
+    inner = of_subject->as_resources.octets;
+    if (!as && rpki_as_blocks_encompass(outer.data, outer.size, inner.data, inner.size, &as) != RPKI_OK) {
         return false;
     }
     return ip && as;
@@ -105,31 +93,30 @@ static bool are_within(struct octets issuer, const struct rpki_known_extensions 
 /* What is wrong with a certificate as one that the issuer has issued, or NULL. */
 static const char *check_issued(const struct holder *subject, const struct holder *issuer,
                                 const struct rpki_moment *moment) {
-    const struct octets none = {NULL, 0};
+    const struct rpki_span none = {NULL, 0};
     if (rpki_validity_at(&subject->parts.validity, moment) != RPKI_OK) {
         return "not valid at the moment";
     }
     if (subject != issuer) {
         rpki_status status =
-            rpki_certificate_issued_by(subject->all.at, subject->all.size, issuer->all.at, issuer->all.size);
+            rpki_certificate_issued_by(subject->all.data, subject->all.size, issuer->all.data, issuer->all.size);
         if (status != RPKI_OK) return status == RPKI_OTHER_ISSUER ? "another issuer" : "another key of the issuer";
     }
-    if (!has_signed(issuer->key, part(subject->all, subject->parts.data), none,
-                    part(subject->all, subject->parts.signature))) {
+    if (!has_signed(issuer->key, subject->parts.data, none, subject->parts.signature)) {
         return "not signed by the issuer";
     }
-    if (subject != issuer && !are_within(issuer->all, &issuer->known, subject->all, &subject->known)) {
+    if (subject != issuer && !are_within(&issuer->known, &subject->known)) {
         return "more resources than the issuer has";
     }
     return NULL;
 }
 
 /* What is wrong with a revocation list of the authority, or NULL. */
-static const char *check_list(struct octets list, const struct holder *authority, const struct rpki_moment *moment,
+static const char *check_list(struct rpki_span list, const struct holder *authority, const struct rpki_moment *moment,
                               struct rpki_crl_parts *out) {
     struct rpki_period period;
-    const struct octets none = {NULL, 0};
-    if (rpki_crl(list.at, list.size, out) != RPKI_OK) {
+    const struct rpki_span none = {NULL, 0};
+    if (rpki_crl(list.data, list.size, out) != RPKI_OK) {
         return "no revocation list";
     }
     period.not_before = out->this_update;
@@ -137,102 +124,98 @@ static const char *check_list(struct octets list, const struct holder *authority
     if (rpki_validity_at(&period, moment) != RPKI_OK) {
         return "stale";
     }
-    if (!are_same(part(list, out->issuer), part(authority->all, authority->parts.subject)) ||
+    if (!are_same(out->issuer, authority->parts.subject) ||
         memcmp(out->authority_key_identifier, authority->known.subject_key, 20) != 0) {
         return "of another authority";
     }
-    return has_signed(authority->key, part(list, out->data), none, part(list, out->signature))
-               ? NULL
-               : "not signed by the authority";
+    return has_signed(authority->key, out->data, none, out->signature) ? NULL : "not signed by the authority";
 }
 
 /* Whether no two files of a manifest have the same name (RFC 9286 4.2.1). */
-static bool have_own_names(struct octets files, size_t count) {
-    struct rpki_place *room = calloc(count + 1, sizeof *room);
+static bool have_own_names(struct rpki_span content, size_t count) {
+    struct rpki_span *room = calloc(count + 1, sizeof *room);
     bool differ = false;
-    rpki_status status = rpki_manifest_names(files.at, files.size, room, count, &differ);
+    rpki_status status = rpki_manifest_names(content.data, content.size, room, count, &differ);
     free(room);
     return status == RPKI_OK && differ;
 }
 
 /* What is wrong with an object of the authority, or NULL (RFC 6488 3). */
-static const char *check_object(struct octets object, const struct holder *authority, struct octets revoked,
+static const char *check_object(struct rpki_span object, const struct holder *authority, struct rpki_span revoked,
                                 const struct rpki_moment *moment, struct rpki_signed_object_parts *out,
                                 struct holder *signer) {
     static const uint8_t set[] = {0x31};
-    const struct octets front = {set, 1};
-    struct octets content, attributes;
+    const struct rpki_span front = {set, 1};
+    struct rpki_span attributes;
     uint8_t digest[32];
     bool is_revoked;
     const char *wrong;
-    if (rpki_signed_object(object.at, object.size, false, out) != RPKI_OK) {
+    if (rpki_signed_object(object.data, object.size, false, out) != RPKI_OK) {
         return "no signed object";
     }
-    content = part(object, out->content);
     if (!out->is_type_signed) {
         return "another type is signed";
     }
-    SHA256(content.at, content.size, digest);
+    SHA256(out->content.data, out->content.size, digest);
     if (memcmp(digest, out->message_digest, 32) != 0) {
         return "another content is signed";
     }
-    wrong = read_holder(part(object, out->certificate), RPKI_CERTIFICATE_EE, signer);
+    wrong = read_holder(out->certificate, RPKI_CERTIFICATE_EE, signer);
     if (wrong != NULL) {
         return wrong;
     }
     if (memcmp(out->signer_identifier, signer->known.subject_key, 20) != 0) {
         return "another signer";
     }
-    attributes = part(object, out->signed_attributes);
-    attributes.at++;
+    attributes = out->signed_attributes;
+    attributes.data++;
     attributes.size--;
-    if (!has_signed(signer->key, front, attributes, part(object, out->signature))) {
+    if (!has_signed(signer->key, front, attributes, out->signature)) {
         return "not signed by the signer";
     }
     wrong = check_issued(signer, authority, moment);
     if (wrong != NULL) {
         return wrong;
     }
-    if (rpki_crl_contains(revoked.at, revoked.size, signer->parts.serial_number, &is_revoked) != RPKI_OK) {
+    if (rpki_crl_contains(revoked.data, revoked.size, signer->parts.serial_number, &is_revoked) != RPKI_OK) {
         return "no revocation list";
     }
     return is_revoked ? "revoked" : NULL;
 }
 
-static void print_hexadecimal(const char *word, struct octets octets) {
+static void print_hexadecimal(const char *word, struct rpki_span octets) {
     printf(" %s ", word);
     for (size_t i = 0; i < octets.size; i++) {
-        printf("%02x", octets.at[i]);
+        printf("%02x", octets.data[i]);
     }
 }
 
-static void print_files(struct octets content) {
-    struct rpki_manifest_parts parts;
-    struct rpki_manifest_file_parts file;
-    struct octets rest;
-    if (rpki_manifest(content.at, content.size, &parts) != RPKI_OK) {
+static void print_files(struct rpki_span content) {
+    struct rpki_manifest_parts parts = {0};
+    struct rpki_manifest_file_parts file = {0};
+    if (rpki_manifest(content.data, content.size, &parts) != RPKI_OK) {
         return;
     }
-    if (!have_own_names(part(content, parts.files), parts.count)) {
+    if (!have_own_names(content, parts.count)) {
         printf("  a name stands twice\n");
         return;
     }
-    for (rest = part(content, parts.files); rest.size > 0; rest.at += file.size, rest.size -= file.size) {
-        const struct octets digest = {file.digest, 32};
-        if (rpki_manifest_file(rest.at, rest.size, &file) != RPKI_OK) {
+    while (parts.files.size > 0) {
+        const struct rpki_span digest = {file.digest, 32};
+        if (rpki_manifest_file(&parts.files, &file) != RPKI_OK) {
             return;
         }
-        printf("  file %.*s", (int)file.name.length, (const char *)rest.at + file.name.start);
+        printf("  file %.*s", (int)file.name.size, (const char *)file.name.data);
         print_hexadecimal("digest", digest);
         printf("\n");
     }
 }
 
-static void print_prefixes(struct octets rest, uint8_t family, uint32_t as_id) {
+static void print_prefixes(struct rpki_span rest, uint8_t family, uint32_t as_id) {
     struct rpki_roa_address_parts prefix;
     char text[INET6_ADDRSTRLEN];
-    for (; rest.size > 0; rest.at += prefix.size, rest.size -= prefix.size) {
-        if (rpki_roa_address(rest.at, rest.size, family, &prefix) != RPKI_OK) {
+    while (rest.size > 0) {
+        if (rpki_roa_address(&rest, family, &prefix) != RPKI_OK) {
             return;
         }
         inet_ntop(family == RPKI_IPV4 ? AF_INET : AF_INET6, prefix.address, text, sizeof text);
@@ -240,53 +223,51 @@ static void print_prefixes(struct octets rest, uint8_t family, uint32_t as_id) {
     }
 }
 
-static void print_origins(struct octets content) {
-    struct rpki_roa_parts parts;
-    if (rpki_roa(content.at, content.size, true, &parts) == RPKI_OK) {
-        print_prefixes(part(content, parts.v4), RPKI_IPV4, parts.as_id);
-        print_prefixes(part(content, parts.v6), RPKI_IPV6, parts.as_id);
+static void print_origins(struct rpki_span content) {
+    struct rpki_roa_parts parts = {0};
+    if (rpki_roa(content.data, content.size, true, &parts) == RPKI_OK) {
+        print_prefixes(parts.v4, RPKI_IPV4, parts.as_id);
+        print_prefixes(parts.v6, RPKI_IPV6, parts.as_id);
     }
 }
 
-static void print_providers(struct octets content) {
-    struct rpki_aspa_parts parts;
-    struct rpki_aspa_provider_parts provider;
-    struct octets rest;
-    if (rpki_aspa(content.at, content.size, &parts) != RPKI_OK) {
+static void print_providers(struct rpki_span content) {
+    struct rpki_aspa_parts parts = {0};
+    uint32_t provider;
+    if (rpki_aspa(content.data, content.size, &parts) != RPKI_OK) {
         return;
     }
-    for (rest = part(content, parts.providers); rest.size > 0; rest.at += provider.size, rest.size -= provider.size) {
-        if (rpki_aspa_provider(rest.at, rest.size, &provider) != RPKI_OK) {
+    while (parts.providers.size > 0) {
+        if (rpki_aspa_provider(&parts.providers, &provider) != RPKI_OK) {
             return;
         }
-        printf("  customer AS%lu provider AS%lu\n", (unsigned long)parts.customer, (unsigned long)provider.number);
+        printf("  customer AS%lu provider AS%lu\n", (unsigned long)parts.customer, (unsigned long)provider);
     }
 }
 
-static void print_object(const char *name, struct octets object, const struct rpki_signed_object_parts *parts,
-                         const struct holder *signer) {
-    const struct octets digest = {parts->message_digest, 32}, serial = {signer->parts.serial_number, 20};
-    const struct octets key = {parts->signer_identifier, 20};
+static void print_object(const char *name, const struct rpki_signed_object_parts *parts, const struct holder *signer) {
+    const struct rpki_span digest = {parts->message_digest, 32}, serial = {signer->parts.serial_number, 20};
+    const struct rpki_span key = {parts->signer_identifier, 20};
     printf("%s valid", name);
-    print_hexadecimal("type", part(object, parts->content_type));
+    print_hexadecimal("type", parts->content_type);
     print_hexadecimal("digest", digest);
     print_hexadecimal("serial", serial);
     print_hexadecimal("key", key);
     printf(" signed %lld\n", parts->has_signing_time ? (long long)parts->signing_time.seconds : -1LL);
-    print_files(part(object, parts->content));
-    print_origins(part(object, parts->content));
-    print_providers(part(object, parts->content));
+    print_files(parts->content);
+    print_origins(parts->content);
+    print_providers(parts->content);
 }
 
 /* Whether an object with any one octet changed is valid still: none may be. */
-static bool withstands(struct octets object, const struct holder *authority, struct octets revoked,
+static bool withstands(struct rpki_span object, const struct holder *authority, struct rpki_span revoked,
                        const struct rpki_moment *moment) {
     uint8_t *changed = malloc(object.size);
-    struct octets other = {changed, object.size};
+    struct rpki_span other = {changed, object.size};
     size_t valid = 0;
-    memcpy(changed, object.at, object.size);
+    memcpy(changed, object.data, object.size);
     for (size_t i = 0; i < object.size; i++) {
-        struct rpki_signed_object_parts parts;
+        struct rpki_signed_object_parts parts = {0};
         struct holder signer = {0};
         changed[i] ^= 1;
         if (check_object(other, authority, revoked, moment, &parts, &signer) == NULL) {
@@ -304,9 +285,9 @@ static bool withstands(struct octets object, const struct holder *authority, str
 int main(int count, char **words) {
     struct holder anchor = {0}, authority = {0};
     struct rpki_moment moment;
-    struct rpki_crl_parts list;
+    struct rpki_crl_parts list = {0};
     uint8_t time[17] = {0x18, 15};
-    struct octets lists, revoked;
+    struct rpki_span revoked;
     const char *wrong;
     int status = 0;
     if (count < 6 || strlen(words[1]) != 15) {
@@ -323,27 +304,26 @@ int main(int count, char **words) {
         wrong = read_holder(read_file(words[3]), RPKI_CERTIFICATE_CA, &authority);
         if (wrong == NULL) wrong = check_issued(&authority, &anchor, &moment);
     }
-    lists = read_file(words[4]);
-    if (wrong == NULL) wrong = check_list(lists, &authority, &moment, &list);
+    if (wrong == NULL) wrong = check_list(read_file(words[4]), &authority, &moment, &list);
     if (wrong != NULL) {
         printf("%s\n", wrong);
         return 1;
     }
-    revoked = part(lists, list.revoked_certs);
+    revoked = list.revoked_certs;
     for (int i = 5; i < count; i++) {
-        struct octets object = read_file(words[i]);
-        struct rpki_signed_object_parts parts;
+        struct rpki_span object = read_file(words[i]);
+        struct rpki_signed_object_parts parts = {0};
         struct holder signer = {0};
         wrong = check_object(object, &authority, revoked, &moment, &parts, &signer);
         if (wrong != NULL) {
             printf("%s %s\n", words[i], wrong);
             status = 1;
         } else {
-            print_object(words[i], object, &parts, &signer);
+            print_object(words[i], &parts, &signer);
             if (i == 5 && !withstands(object, &authority, revoked, &moment)) status = 1;
         }
         EVP_PKEY_free(signer.key);
-        free((void *)object.at);
+        free((void *)object.data);
     }
     return status;
 }

@@ -1,11 +1,12 @@
 """Writes the rows of values that are taken off a part of octets, which the test in C reads: real certificates and lists
-of values, walked from the left, with the identifier that is there, another one, places that are not inside the
-octets, and octets that were changed. Statuses and places are found here by X.690, without the library.
+of values, walked from the left, with the identifier that is there and another one, and octets that were changed.
+Statuses and places are found here by X.690, without the library.
 
 usage: rows.py > FILE
 
-A row is the octets in hexadecimal digits or `-`, the identifier octet, the part as START LENGTH, and the status; for
-status 0 then what follows, and the contents, each as START LENGTH."""
+A row is the octets in hexadecimal digits or `-`, the identifier octet, the part as START LENGTH, whether the part
+begins with the tag of the identifier, 1 or 0, and the status; for status 0 then what follows, and the contents, each as
+START LENGTH."""
 import os
 import random
 import sys
@@ -16,7 +17,6 @@ sys.path.insert(0, os.path.join(HERE, "..", "resources"))
 
 import leftmost
 
-OTHER_PARTS, MOST = 14, 2 ** 64 - 1
 TAGS = [0x01, 0x02, 0x03, 0x04, 0x05, 0x06, 0x0C, 0x13, 0x16, 0x17, 0x18, 0x1F, 0x20, 0x24, 0x30, 0x31, 0x3F, 0x40,
         0x7F, 0x80, 0x85, 0x9F, 0xA0, 0xA3, 0xBF, 0xC0, 0xFF, 0x00]
 
@@ -25,8 +25,6 @@ def taken(octets, identifier, start, length):
     """The status, and the two places."""
     if identifier & 0xDF == 0:
         return leftmost.BAD_TAG, ()
-    if start + length > len(octets):
-        return OTHER_PARTS, ()
     part = leftmost.Octets(octets[start:start + length])
     try:
         contents = part.take(identifier)
@@ -36,9 +34,16 @@ def taken(octets, identifier, start, length):
     return 0, (start + part.place, length - part.place, start + part.place - size, size)
 
 
+def has_tag(octets, identifier):
+    """Whether identifier octets of this tag are there, in either form (X.690 8.1.2)."""
+    behind = b"\x1f" if identifier & 31 == 31 else b""
+    return octets.startswith((bytes([identifier | 0x20]) + behind, bytes([identifier & 0xDF]) + behind))
+
+
 def row(octets, identifier, start, length):
     status, places = taken(octets, identifier, start, length)
-    print(octets.hex() or "-", identifier, start, length, status, *places)
+    there = int(has_tag(octets[start:start + length], identifier))
+    print(octets.hex() or "-", identifier, start, length, there, status, *places)
     return status, places
 
 
@@ -72,7 +77,7 @@ def main():
             octets = bytes([9] * before) + value + bytes([8] * behind)
             for less in (0, behind, behind + 1):
                 row(octets, 4, before, len(octets) - before - less)
-    for start, length in ((0, 5), (5, 0), (4, 1), (MOST, 0), (0, MOST), (MOST, MOST), (1, MOST), (MOST, 1), (4, 0)):
+    for start, length in ((0, 3), (0, 4), (1, 3), (2, 2), (3, 1), (4, 0)):
         row(b"\x30\x02\x05\x00", 0x30, start, length)
     for _ in range(4000):
         octets = bytearray(certificate[random.randrange(200):][:random.randrange(1, 300)])
@@ -80,7 +85,7 @@ def main():
             telling = [0, 1, 0x1F, 0x30, 0x7F, 0x80, 0x81, 0x82, 0x85, 0xFF]
             octets[random.randrange(len(octets))] = random.choice(telling)
         start = random.randrange(len(octets) + 1)
-        length = random.randrange(len(octets) - start + 2)
+        length = random.randrange(len(octets) - start + 1)
         first = octets[start] if start < len(octets) and random.random() < 0.8 else random.choice(TAGS)
         row(bytes(octets), first, start, length)
 

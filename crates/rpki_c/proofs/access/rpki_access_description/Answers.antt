@@ -1,26 +1,16 @@
-use Rattle.std.proofs.Common.{inr, refl, ap, length, subst}
-use Rattle.rpki_der.specs.Cursor.{left}
-use Rattle.rpki_cert.specs.AccessDescription.{description}
+use Rattle.std.proofs.Common.{inl, inr, refl}
+use Rattle.rpki_cert.specs.AccessDescription.{description, description_of}
 use Rattle.rpki_c.proofs.AccessLaws.{description-no-memory}
+use Rattle.rpki_c.proofs.RefusedLaws.{front-refused}
 use Rattle.rpki_c.proofs.access.rpki_access_description.Goals as goal
 
-pub access_of-requires : goal.access_of-requires
-access_of-requires c =
-    (left c.take_from.new.cons, rw c.from_slice-rest.ensures at c.in-Ok.ensures, ap length c.rest.ensures)
+pub returns-in-Ok : goal.returns-in-Ok
+returns-in-Ok c =
+    let h = rw c.from_slice-cursor.ensures at c.in-Ok.ensures in
+    inl (refl, description_of c.in-Ok.found, rw (c.of.ensures, c.rest.ensures) h, c.access_of.ensures)
 
 pub returns-in-Err : goal.returns-in-Err
 returns-in-Err c =
-    let s = c.args.octets.now in
-    let h = rw c.from_slice-rest.ensures at c.in-Err.ensures in
-    inr (
-      record {
-        error = c.in-Err.e;
-        number = c.number.ensures;
-        refusal = record {
-          unchanged = refl;
-          refuses = h.refuses;
-          kind = record { other = λ z. description-no-memory s (subst (description.fault s) z h.kind); kind = h.kind };
-        };
-      },
-      refl,
-    )
+    let s = c.args.rest.now.octets.now in
+    let h = rw c.from_slice-cursor.ensures at c.in-Err.ensures in
+    inr (front-refused description s _ c.in-Err.e _ (description-no-memory s) h c.number.ensures, refl, refl)

@@ -1,18 +1,27 @@
-use Rattle.std.proofs.Common.{inl, refl, arith}
-use Rattle.rpki_c.proofs.PlacedNamesLaws.{files-differ-at}
+use Rattle.std.proofs.Common.{◌<◌, length, inl, inr, refl, arith}
+use Rattle.rpki_contents.specs.ManifestView.{parts_in}
+use Rattle.rpki_c.proofs.ContentLaws.{is-listing, held}
 use Rattle.rpki_c.proofs.manifest_names.rpki_manifest_names.Goals as goal
 
-pub returns : goal.returns
-returns c =
-    let h = c.in-Some.ensures.names in
-    let same = files-differ-at c.args.octets.now _ h.files (h.names c.if-room-count.false) in
-    let found = c.parts_differ.ensures in
+pub returns-then-room-count : goal.returns-then-room-count
+returns-then-room-count c =
+    let v = c.in-Ok.found in
+    let found = c.in-Ok.ensures.ok in
+    let few : length c.args.room.now < length found.0 =
+    omega (arith, c.if-room-count.true, c.count.ensures, found.1.fields.count) in
+    inr (inl (refl, (parts_in v found.0, is-listing c.args.octets.now v found.0 found.1, few), refl))
+
+pub returns-else-room-count : goal.returns-else-room-count
+returns-else-room-count c =
+    let s = c.args.octets.now in
+    let v = c.in-Ok.found in
+    let found = c.in-Ok.ensures.ok in
     inl (
       refl,
       record {
-        files = h.files;
-        are = h.are;
-        room = omega (arith, h.counted, c.if-room-count.false, c.in-Some.ensures.room);
-        answer = (λ z. same.0 (found.0 z), λ k. found.1 (same.1 k));
+        manifest = parts_in v found.0;
+        listing = is-listing s v found.0 found.1;
+        few = omega (arith, c.if-room-count.false, c.count.ensures, found.1.fields.count);
+        answer = c.names_differ.ensures found.0 (held s v found.0 found.1);
       },
     )

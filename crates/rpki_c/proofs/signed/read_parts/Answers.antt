@@ -13,7 +13,7 @@ use Rattle.rpki.proofs.AlgorithmFaultLaws.{algorithm-outer}
 use Rattle.rpki.proofs.SigningLaws.{no-value, no-algorithm, no-signature, contents-accepted}
 use Rattle.rpki_c.specs.Identifier.{IsOther, SpellsIdentifier}
 use Rattle.rpki_c.specs.Signed.{IsAllPartsFault, AreOtherParts}
-use Rattle.rpki_c.proofs.SignedReadingLaws.{AreParts}
+use Rattle.rpki_c.proofs.SignedReadingLaws.{AreParts, in-contents, front-of}
 use Rattle.rpki_c.proofs.ElseLaws.{tried-else, no-front, follows, not-other}
 use Rattle.rpki_c.proofs.signed.read_parts.Goals as goal
 
@@ -22,8 +22,8 @@ split-value : (s d m : List ℕ) (n : ℕ) → d ≡ take n s → m ≡ drop n s
     → Accepts SpellsValue s d m
 split-value s d m n p q a = rw (p, q) a
 
-pub returns-in_err-size : goal.returns-in_err-size
-returns-in_err-size c =
+pub returns-in_err-size-clause-reads : goal.returns-in_err-size-clause-reads
+returns-in_err-size-clause-reads c =
     let s = c.args.contents.now in
     let e = c.in_err-size.field-0.0 in
     let h = c.in_err-size.ensures.refused in
@@ -34,8 +34,8 @@ returns-in_err-size c =
       (UnlessMemory-weaker e (nothing-whole AreParts s) none, AtPart none (AtPart h.refuses h.kind)),
     )
 
-pub returns-in-Err : goal.returns-in-Err
-returns-in-Err c =
+pub returns-in-Err-clause-reads : goal.returns-in-Err-clause-reads
+returns-in-Err-clause-reads c =
     let s = c.args.contents.now in
     let e = c.in-Err.e in
     let h = c.in-Err.ensures in
@@ -55,8 +55,8 @@ returns-in-Err c =
       ),
     )
 
-pub returns-then-begins_with_identifier : goal.returns-then-begins_with_identifier
-returns-then-begins_with_identifier c =
+pub returns-then-begins_with_identifier-clause-reads : goal.returns-then-begins_with_identifier-clause-reads
+returns-then-begins_with_identifier-clause-reads c =
     let s = c.args.contents.now in
     let e = c.in-Err.e in
     let h = c.in-Err.ensures in
@@ -70,11 +70,11 @@ returns-then-begins_with_identifier c =
     unless-memory e (algorithm-outer sha256_with_rsa_encryption m e h.kind).other h.refuses in
     record { value = d; rest = m; begins = one.spells; follows = record { some = some; none = none } }
 
-pub returns-in_err-value : goal.returns-in_err-value
-returns-in_err-value c =
+pub returns-in_err-value-clause-reads : goal.returns-in_err-value-clause-reads
+returns-in_err-value-clause-reads c =
     let s = c.args.contents.now in
     let e = c.in_err-value.field-0.0 in
-    let h = c.in_err-value.ensures in
+    let h = c.in_err-value.ensures.reads in
     let d = c.split_at.result.0.now in
     let m = left c.from_slice-rest.result in
     let one : Accepts SpellsValue s d m = split-value s d m c.in_ok-size.size c.split_at.ensures.front
@@ -90,8 +90,8 @@ returns-in_err-value c =
       ),
     )
 
-pub returns-in_err-finish : goal.returns-in_err-finish
-returns-in_err-finish c =
+pub returns-in_err-finish-clause-reads : goal.returns-in_err-finish-clause-reads
+returns-in_err-finish-clause-reads c =
     let s = c.args.contents.now in
     let e = c.in_err-finish.field-0.0 in
     let h = c.in_err-finish.ensures in
@@ -100,21 +100,36 @@ returns-in_err-finish c =
     let one : Accepts SpellsValue s d m = split-value s d m c.in_ok-size.size c.split_at.ensures.front
     (c.from_slice-rest.ensures ∙ c.split_at.ensures.back) c.in_ok-size.ensures.accepted in
     let all = contents-accepted (SpellsAlgorithm sha256_with_rsa_encryption) s m _ _ d _ _ one c.in-Ok.ensures
-    c.in_ok-value.ensures in
+    c.in_ok-value.ensures.reads in
     tried-else AreOtherParts _ AreParts IsAllPartsFault s e _ c.from_residual-in_err-finish.ensures (
       UnlessMemory-from e (not-other s d m _ _ one c.in-Ok.ensures),
       (UnlessMemory-from e (nothing-after AreParts s _ _ all h.1), Later _ _ all (h.1, h.0)),
     )
 
-pub returns : goal.returns
-returns c =
+pub returns-clause-reads : goal.returns-clause-reads
+returns-clause-reads c =
     let s = c.args.contents.now in
     let d = c.split_at.result.0.now in
     let m = left c.from_slice-rest.result in
     let one : Accepts SpellsValue s d m = split-value s d m c.in_ok-size.size c.split_at.ensures.front
     (c.from_slice-rest.ensures ∙ c.split_at.ensures.back) c.in_ok-size.ensures.accepted in
     let all = contents-accepted (SpellsAlgorithm sha256_with_rsa_encryption) s m _ _ d _ _ one c.in-Ok.ensures
-    c.in_ok-value.ensures in (
+    c.in_ok-value.ensures.reads in (
       not-other s d m _ _ one c.in-Ok.ensures,
       rw c.has_parameters.ensures (all-read AreParts s _ _ all c.in_ok-finish.ensures),
     )
+
+pub returns-clause-parts : goal.returns-clause-parts
+returns-clause-parts c =
+    let s = c.args.contents.now in
+    let d = c.split_at.result.0.now in
+    let m = left c.from_slice-rest.result in
+    let one : Accepts SpellsValue s d m = split-value s d m c.in_ok-size.size c.split_at.ensures.front
+    (c.from_slice-rest.ensures ∙ c.split_at.ensures.back) c.in_ok-size.ensures.accepted in
+    let two = c.in-Ok.ensures in
+    let three = c.in_ok-value.ensures.count in
+    let k = in-contents s d m _ _ _ _ one two three.0 c.in_ok-finish.ensures in
+    let text = front-of c.split_at.result.1.now c.rest-behind.result.now two.spells.front _
+    (sym c.from_slice-rest.ensures ∙ two.spells.parts) c.rest-behind.ensures in
+    rw c.has_parameters.ensures
+    (record { spelled = k.0; algorithm = text ∙ sym k.1; unused = three.1 ∙ sym k.2 })

@@ -4,12 +4,12 @@ use Rattle.rpki_c.proofs.signed_writing.rpki_signed_data_write.Goals as goal
 
 pub signed_of-requires : goal.signed_of-requires
 signed_of-requires c =
-    let h = rw c.in-Some.is at c.in-Ok.ensures in
+    let h = rw c.in-Some.is at c.in-Ok.ensures.reads in
     h.1.0.spelled.one
 
 pub returns-in-Some : goal.returns-in-Some
 returns-in-Some c =
-    let h = rw c.in-Some.is at c.in-Ok.ensures in
+    let h = rw c.in-Some.is at c.in-Ok.ensures.reads in
     let e = c.signed_of.ensures.octets in
     let s = c.signed_of.ensures.short in
     inl (
@@ -21,12 +21,12 @@ returns-in-Some c =
 
 pub returns-in-None : goal.returns-in-None
 returns-in-None c =
-    let h = rw c.in-None.is at c.in-Ok.ensures in
+    let h = rw c.in-None.is at c.in-Ok.ensures.reads in
     inr (inl (refl, h, record { buffer = refl; size = refl }))
 
 pub returns-in-Err : goal.returns-in-Err
 returns-in-Err c =
-    let h = c.in-Err.ensures in
+    let h = c.in-Err.ensures.reads in
     inr (inr (
       record {
         refused = record { error = c.in-Err.e; number = c.number.ensures; nothing = h.1.0; kind = h.1.1 };

@@ -1,42 +1,22 @@
-use Rattle.std.proofs.Common.{inl, inr, refl, ap, length, subst}
+use Rattle.std.proofs.Common.{inl, inr, refl}
 use Rattle.rpki_der.specs.Cursor.{left}
-use Rattle.rpki_der.specs.Values.{IsContentsFault}
-use Rattle.rpki_c.proofs.TakingLaws.{taken}
+use Rattle.rpki_c.specs.Taking.{value_of}
+use Rattle.rpki_c.proofs.RefusedLaws.{front-refused}
 use Rattle.rpki_c.proofs.taking.take.Goals as goal
 
 pub returns-in-Ok : goal.returns-in-Ok
 returns-in-Ok c =
     let h = rw c.from_slice-cursor.ensures at c.in-Ok.ensures in
-    inr (
     inl (
       refl,
-      taken c.args.octets.now c.args.tag c.args.constructed c.args.rest.now c.in-Some.part.now (left c.in-Ok.found)
-          (left c.take_value_contents.new.self) _ _ c.in-Some.ensures.some h (ap length c.rest-following.ensures)
-          (ap length c.rest-length.ensures),
-    )
+      left c.in-Ok.found,
+      rw (c.of.ensures, c.rest.ensures) h,
+      rw (c.of-in-Ok.ensures, c.rest-in-Ok.ensures) refl,
     )
 
 pub returns-in-Err : goal.returns-in-Err
 returns-in-Err c =
-    let s = c.in-Some.part.now in
+    let s = c.args.rest.now.octets.now in
     let h = rw c.from_slice-cursor.ensures at c.in-Err.ensures in
-    inr (
-    inr (
-      s,
-      c.in-Some.ensures.some,
-      record {
-        error = c.in-Err.e;
-        number = c.number.ensures;
-        refusal = record {
-          unchanged = refl;
-          refuses = h.refuses;
-          kind = record {
-            other = λ z. subst (IsContentsFault c.args.tag c.args.constructed s) z h.kind;
-            kind = h.kind;
-          };
-        };
-      },
-      refl,
-      refl,
-    )
-    )
+    let F = value_of c.args.tag c.args.constructed in
+    inr (front-refused F s _ c.in-Err.e _ (λ z. z) h c.number.ensures, refl, refl)

@@ -1,0 +1,33 @@
+use Rattle.std.proofs.Common.{inl, inr, refl}
+use Rattle.std.proofs.lemmas.Bool.{iff_false}
+use Rattle.rpki_der.specs.Cursor.{left}
+use Rattle.rpki_c.specs.Taking.{value_of}
+use Rattle.rpki_c.proofs.RefusedLaws.{front-refused}
+use Rattle.rpki_c.proofs.taking.take_optional.Goals as goal
+
+pub returns-then-not-has_tag : goal.returns-then-not-has_tag
+returns-then-not-has_tag c =
+    let none = iff_false (rw c.from_slice-cursor.ensures at c.has_tag.ensures) c.if-not-has_tag.true in
+    inl (none, refl, refl, c.of.ensures, refl)
+
+pub returns-in-Ok : goal.returns-in-Ok
+returns-in-Ok c =
+    let some = (rw c.from_slice-cursor.ensures at c.has_tag.ensures).0 c.if-not-has_tag.false in
+    let h = rw c.from_slice-cursor.ensures at c.in-Ok.ensures in
+    inr (
+      some,
+      inl (
+        refl,
+        left c.in-Ok.value,
+        rw (c.of-in-Ok.ensures, c.rest.ensures) h,
+        (rw (c.of-in-Ok-2.ensures, c.rest-in-Ok.ensures) refl, refl),
+      ),
+    )
+
+pub returns-in-Err : goal.returns-in-Err
+returns-in-Err c =
+    let s = c.args.rest.now.octets.now in
+    let some = (rw c.from_slice-cursor.ensures at c.has_tag.ensures).0 c.if-not-has_tag.false in
+    let h = rw c.from_slice-cursor.ensures at c.in-Err.ensures in
+    let F = value_of c.args.tag c.args.constructed in
+    inr (some, inr (front-refused F s _ c.in-Err.e _ (λ z. z) h c.number.ensures, refl, refl))

@@ -1,0 +1,49 @@
+//! Certificates that the key of another has signed.
+
+ghost use Rattle.std.specs.Prelude.{◌≡◌};
+ghost use Rattle.rpki_c.specs.SignedBy.{IsSignedByRead};
+
+use crate::certificate::part_number;
+use crate::certificate_extensions::known_number;
+use crate::issued::{is_identifier, is_named, key_of};
+use crate::status::{NO_ISSUER, OTHER_AUTHORITY, OTHER_ISSUER, OTHER_KEY};
+use crate::verification::verified;
+use rpki_cert::CertView;
+
+/// Reads two resource certificates, and says whether the second has issued the first, but for periods, resources,
+/// revocation and the profiles of both (RFC 5280 6.1.3, RFC 6487 7.2): whether the issuer of the first has the name of
+/// the second's subject, octet for octet; the authority key identifier of the first is that of the second's key (RFC
+/// 6487 4.8.3), and its subject key identifier that of its own key (RFC 6487 4.8.2); and the second's key has signed
+/// it, by RSA with SHA-256.
+///
+/// The status is 0. Else it is, in this order: as of `rpki_certificate_extensions`, where the first is no certificate,
+/// or one of its extensions is wrong; `NO_ISSUER`, where the second is none; `OTHER_ISSUER`; `OTHER_AUTHORITY`;
+/// `OTHER_KEY`; `KEY_NOT_ACCEPTED` or `BAD_SIGNATURE`, as of `rpki_verify`. Nothing is allocated.
+#[unsafe(no_mangle)]
+pub extern "C" fn rpki_certificate_signed_by(octets: &[u8], issuer: &[u8]) -> u8
+    ensures { IsSignedByRead octets.now issuer.now result }
+{
+    let found = match CertView::read(octets) {
+        Ok(found) => found,
+        Err(wrong) => return part_number(wrong.part),
+    };
+    let known = match found.tbs.named.keyed.known() {
+        Ok(known) => known,
+        Err(part) => return known_number(part),
+    };
+    let authority = match CertView::read(issuer) {
+        Ok(authority) => authority,
+        Err(_) => return NO_ISSUER,
+    };
+    if !is_named(&found, &authority) {
+        return OTHER_ISSUER;
+    }
+    if !is_identifier(known.authority_key_identifier, key_of(&authority)) {
+        return OTHER_AUTHORITY;
+    }
+    if !is_identifier(known.subject_key_identifier, key_of(&found)) {
+        return OTHER_KEY;
+    }
+    let key = &authority.tbs.named.keyed.key;
+    verified(key, found.parts.data.octets, found.parts.signature.octets)
+}

@@ -1,0 +1,135 @@
+//! What kinds of resources the certificates of attestations list.
+
+ghost use Rattle.std.specs.Prelude.{◌≡◌, ◌↔◌, IsTrue};
+ghost use Rattle.rpki_cert.specs.ExtensionTable.{OfListed};
+ghost use Rattle.rpki_cert.specs.ResourceExtensions.{is_own, are_own_addresses, are_own_numbers};
+ghost use Rattle.rpki_valid.specs.ObjectResources.{HasAddresses, HasNumbers, AreOwnAddresses, AreOwnNumbers};
+ghost use Rattle.rpki_c.specs.SignerResources.{ListsAddresses, ListsNumbers, IsRoaSigner, IsAspaSigner};
+
+use crate::certificate::part_number;
+use crate::status::OTHER_KINDS;
+use rpki_cert::{CertView, Keyed};
+use rpki_resources::{ChoiceView, IpResourcesView};
+
+/// Whether these are not those of the issuer.
+fn is_own(choice: &ChoiceView<'_>) -> bool
+    ensures { result ≡ is_own choice.now }
+{
+    match choice {
+        ChoiceView::Inherit => false,
+        _ => true,
+    }
+}
+
+/// Whether no addresses are those of the issuer.
+fn are_own_addresses(found: Option<IpResourcesView<'_>>) -> bool
+    ensures { result ≡ are_own_addresses found.entry }
+{
+    match found {
+        Some(resources) => is_own(&resources.v4) && is_own(&resources.v6),
+        None => true,
+    }
+}
+
+/// Whether no numbers are those of the issuer.
+fn are_own_numbers(found: Option<ChoiceView<'_>>) -> bool
+    ensures { result ≡ are_own_numbers found.entry }
+{
+    match found {
+        Some(choice) => is_own(&choice),
+        None => true,
+    }
+}
+
+/// Whether an extension of addresses is there.
+fn has_addresses(keyed: &Keyed<'_>) -> bool
+    ensures { OfListed keyed.now.extensions (λ xs. IsTrue result ↔ HasAddresses xs) }
+{
+    match keyed.ip_resources() {
+        Ok(found) => found.is_some(),
+        Err(_) => true,
+    }
+}
+
+/// Whether an extension of numbers is there.
+fn has_numbers(keyed: &Keyed<'_>) -> bool
+    ensures { OfListed keyed.now.extensions (λ xs. IsTrue result ↔ HasNumbers xs) }
+{
+    match keyed.as_resources() {
+        Ok(found) => found.is_some(),
+        Err(_) => true,
+    }
+}
+
+/// Whether the addresses are in canonical form, and are not those of the issuer.
+fn has_own_addresses(keyed: &Keyed<'_>) -> bool
+    ensures { OfListed keyed.now.extensions (λ xs. IsTrue result ↔ AreOwnAddresses xs) }
+{
+    match keyed.ip_resources() {
+        Ok(found) => are_own_addresses(found),
+        Err(_) => false,
+    }
+}
+
+/// Whether the numbers are in canonical form, and are not those of the issuer.
+fn has_own_numbers(keyed: &Keyed<'_>) -> bool
+    ensures { OfListed keyed.now.extensions (λ xs. IsTrue result ↔ AreOwnNumbers xs) }
+{
+    match keyed.as_resources() {
+        Ok(found) => are_own_numbers(found),
+        Err(_) => false,
+    }
+}
+
+/// Whether addresses are listed, and no numbers are named.
+fn lists_addresses(keyed: &Keyed<'_>) -> bool
+    ensures { OfListed keyed.now.extensions (λ xs. IsTrue result ↔ ListsAddresses xs) }
+{
+    has_addresses(keyed) && has_own_addresses(keyed) && !has_numbers(keyed)
+}
+
+/// Whether numbers are listed, and no addresses are named.
+fn lists_numbers(keyed: &Keyed<'_>) -> bool
+    ensures { OfListed keyed.now.extensions (λ xs. IsTrue result ↔ ListsNumbers xs) }
+{
+    has_numbers(keyed) && has_own_numbers(keyed) && !has_addresses(keyed)
+}
+
+/// Reads a resource certificate, and says whether it names addresses, none of which are its issuer's, and no AS
+/// numbers, as one has to that signs a route origin attestation (RFC 9582 5).
+///
+/// The status is 0. Else it is, in this order: as of `rpki_certificate`; `OTHER_KINDS`, also where the extension of
+/// addresses is not critical, or not in canonical form. Nothing is allocated.
+#[unsafe(no_mangle)]
+pub extern "C" fn rpki_roa_signer(octets: &[u8]) -> u8
+    ensures { IsRoaSigner octets.now result }
+{
+    match CertView::read(octets) {
+        Ok(found) => {
+            if lists_addresses(&found.tbs.named.keyed) {
+                0
+            } else {
+                OTHER_KINDS
+            }
+        }
+        Err(wrong) => part_number(wrong.part),
+    }
+}
+
+/// As [rpki_roa_signer], of AS numbers that are not its issuer's, and no addresses, as one has to that signs an
+/// attestation of providers (draft-ietf-sidrops-aspa-profile 4).
+#[unsafe(no_mangle)]
+pub extern "C" fn rpki_aspa_signer(octets: &[u8]) -> u8
+    ensures { IsAspaSigner octets.now result }
+{
+    match CertView::read(octets) {
+        Ok(found) => {
+            if lists_numbers(&found.tbs.named.keyed) {
+                0
+            } else {
+                OTHER_KINDS
+            }
+        }
+        Err(wrong) => part_number(wrong.part),
+    }
+}
