@@ -1,5 +1,5 @@
 //! Prints what an AS may announce, of the route origin attestations among files: a line a prefix. Nothing is verified:
-//! `SignedObject::verify_signature` and the certificate's issuer do that.
+//! the example `validate` does that.
 //!
 //! usage: payloads FILE...
 

@@ -12,12 +12,34 @@ pub(crate) use declarations::*;
 use std::mem::MaybeUninit;
 use std::sync::atomic::{AtomicBool, Ordering};
 
-impl Place {
-    /// The part of the octets that is at this place.
-    pub(crate) fn of<'a>(&self, octets: &'a [u8]) -> &'a [u8] {
-        &octets[self.start..][..self.length]
+impl Default for Span {
+    /// No octets.
+    fn default() -> Self {
+        Span { data: std::ptr::null(), size: 0 }
+    }
+}
+
+impl Span {
+    /// The span of these octets, which lasts as long as they do.
+    fn over(octets: &[u8]) -> Self {
+        Span { data: octets.as_ptr(), size: octets.len() }
     }
 
+    /// The part of the octets that a call has found it in.
+    pub(crate) fn of<'a>(&self, octets: &'a [u8]) -> &'a [u8] {
+        &octets[self.range(octets)]
+    }
+
+    /// Where it is in the octets that a call has found it in; one without octets may be elsewhere.
+    pub(crate) fn range(&self, octets: &[u8]) -> std::ops::Range<usize> {
+        match (self.data as usize).wrapping_sub(octets.as_ptr() as usize) {
+            start if self.size == 0 && start > octets.len() => 0..0,
+            start => start..start + self.size,
+        }
+    }
+}
+
+impl Place {
     /// The octets at this place, as a range.
     pub(crate) fn range(&self) -> std::ops::Range<usize> {
         self.start..self.start + self.length
@@ -65,6 +87,9 @@ fn compare() {
     COMPARED.store(true, Ordering::Relaxed);
 }
 
+/// What a function below panics with where a call of the library says that it has written more than there is room for.
+const TOO_MANY: &str = "the library has written more than there is room for";
+
 /// A call that takes octets and has one place to write to.
 type Reader<T> = unsafe extern "C" fn(*const u8, usize, *mut T) -> Status;
 
@@ -105,15 +130,10 @@ readers! {
     key_identifier_of_hex(rpki_key_identifier_of_hex) -> [u8; 20];
     certificate(rpki_certificate) -> CertificateParts;
     certificate_extensions(rpki_certificate_extensions) -> KnownExtensions;
-    access_description(rpki_access_description) -> AccessParts;
-    general_name(rpki_general_name) -> GeneralNameParts;
-    distribution_point(rpki_distribution_point) -> Place;
+    distribution_point(rpki_distribution_point) -> Span;
     crl(rpki_crl) -> CrlParts;
-    crl_entry(rpki_crl_entry) -> RevokedCertificate;
     manifest(rpki_manifest) -> ManifestParts;
-    manifest_file(rpki_manifest_file) -> ManifestFileParts;
     aspa(rpki_aspa) -> AspaParts;
-    aspa_provider(rpki_aspa_provider) -> AspaProviderParts;
     rsync_parse(rpki_rsync_parse) -> RsyncParts;
     rsync_parent(rpki_rsync_parent) -> usize;
     https_parse(rpki_https_parse) -> HttpsParts;
@@ -126,6 +146,94 @@ pub(crate) fn verify(key: &[u8], message: &[u8], signature: &[u8]) -> Result<(),
     done(unsafe {
         rpki_verify(key.as_ptr(), key.len(), message.as_ptr(), message.len(), signature.as_ptr(), signature.len())
     })
+}
+
+/// A safe function over each call that decides something of octets, and of nothing else.
+macro_rules! deciders {
+    ($($name:ident($call:ident);)*) => {
+        $(pub(crate) fn $name(octets: &[u8]) -> Result<(), Status> {
+            compared();
+            // SAFETY: pointer and size are those of one slice, which is borrowed for the call.
+            done(unsafe { $call(octets.as_ptr(), octets.len()) })
+        })*
+    };
+}
+
+deciders! {
+    manifest_inherits(rpki_manifest_inherits);
+    roa_signer(rpki_roa_signer);
+    aspa_signer(rpki_aspa_signer);
+}
+
+/// Whether the certificate is that of the trust anchor with this key.
+pub(crate) fn anchor_verify(octets: &[u8], key: &[u8]) -> Result<(), Status> {
+    compared();
+    // SAFETY: both pointers and sizes are those of slices, which are borrowed for the call.
+    done(unsafe { rpki_anchor_verify(octets.as_ptr(), octets.len(), key.as_ptr(), key.len()) })
+}
+
+/// Whether the certificate was issued by the other, but for periods, resources, revocation and profiles.
+pub(crate) fn certificate_signed_by(octets: &[u8], issuer: &[u8]) -> Result<(), Status> {
+    compared();
+    // SAFETY: both pointers and sizes are those of slices, which are borrowed for the call.
+    done(unsafe { rpki_certificate_signed_by(octets.as_ptr(), octets.len(), issuer.as_ptr(), issuer.len()) })
+}
+
+/// Whether the revocation list was issued by the subject of the certificate, and is in force at the moment.
+pub(crate) fn crl_issued_by(octets: &[u8], issuer: &[u8], now: &Moment) -> Result<(), Status> {
+    compared();
+    // SAFETY: both pointers and sizes are those of slices, which are borrowed for the call, as is the moment.
+    done(unsafe { rpki_crl_issued_by(octets.as_ptr(), octets.len(), issuer.as_ptr(), issuer.len(), now) })
+}
+
+/// The type of a content, by the contents octets of its identifier.
+pub(crate) fn content_type(octets: &[u8]) -> u8 {
+    compared();
+    // SAFETY: pointer and size are those of one slice, which is borrowed for the call.
+    unsafe { rpki_content_type(octets.as_ptr(), octets.len()) }
+}
+
+/// The addresses that a certificate has under these of its issuer.
+pub(crate) fn ip_settle(octets: &[u8], issuer: &[IpBlock]) -> Result<Vec<IpBlock>, Status> {
+    let (start, size, own, count) = (octets.as_ptr(), octets.len(), issuer.as_ptr(), issuer.len());
+    // SAFETY: both pointers and sizes are those of slices, which are borrowed for the call, and the vector that is
+    // written to is apart from them; the rest is of `listed`.
+    unsafe { listed(16, |blocks, capacity, found| rpki_ip_settle(start, size, own, count, blocks, capacity, found)) }
+}
+
+/// The same of AS numbers.
+pub(crate) fn as_settle(octets: &[u8], issuer: &[AsBlock]) -> Result<Vec<AsBlock>, Status> {
+    let (start, size, own, count) = (octets.as_ptr(), octets.len(), issuer.as_ptr(), issuer.len());
+    // SAFETY: as above.
+    unsafe { listed(16, |blocks, capacity, found| rpki_as_settle(start, size, own, count, blocks, capacity, found)) }
+}
+
+/// Whether all addresses of a route origin attestation are among the blocks.
+pub(crate) fn roa_is_within(octets: &[u8], strict: bool, blocks: &[IpBlock]) -> Result<(), Status> {
+    compared();
+    // SAFETY: both pointers and sizes are those of slices, which are borrowed for the call.
+    done(unsafe { rpki_roa_is_within(octets.as_ptr(), octets.len(), strict, blocks.as_ptr(), blocks.len()) })
+}
+
+/// Whether the customer of an attestation of providers is among the blocks.
+pub(crate) fn aspa_is_within(octets: &[u8], blocks: &[AsBlock]) -> Result<(), Status> {
+    compared();
+    // SAFETY: both pointers and sizes are those of slices, which are borrowed for the call.
+    done(unsafe { rpki_aspa_is_within(octets.as_ptr(), octets.len(), blocks.as_ptr(), blocks.len()) })
+}
+
+/// Whether the octets have this digest by SHA-256.
+pub(crate) fn manifest_file_is(digest: &[u8; 32], octets: &[u8]) -> Result<(), Status> {
+    compared();
+    // SAFETY: pointer and size are those of one slice, which is borrowed for the call, as is the digest.
+    done(unsafe { rpki_manifest_file_is(digest, octets.as_ptr(), octets.len()) })
+}
+
+/// Whether the signed object was signed by the key of the certificate in it; else the first that doesn't hold.
+pub(crate) fn object_verify(octets: &[u8], strict: bool) -> Result<(), Status> {
+    compared();
+    // SAFETY: pointer and size are those of one slice, which is borrowed for the call.
+    done(unsafe { rpki_object_verify(octets.as_ptr(), octets.len(), strict) })
 }
 
 /// The digest of the octets by SHA-256.
@@ -153,11 +261,14 @@ pub(crate) fn index(octets: &[u8]) -> Result<Vec<Entry>, Status> {
     }
     entries.try_reserve_exact(count).map_err(|_| OUT_OF_MEMORY)?;
     if status == OK {
+        assert!(count <= few.len(), "{TOO_MANY}");
         // SAFETY: so many entries of `few` were written, and there is room for as many.
         unsafe { few.as_ptr().cast::<Entry>().copy_to_nonoverlapping(entries.as_mut_ptr(), count) };
     } else {
         // SAFETY: as above; the capacity is what was reserved.
-        done(unsafe { rpki_index(octets.as_ptr(), octets.len(), entries.as_mut_ptr(), count, &mut count) })?;
+        let capacity = count;
+        done(unsafe { rpki_index(octets.as_ptr(), octets.len(), entries.as_mut_ptr(), capacity, &mut count) })?;
+        assert!(count <= capacity, "{TOO_MANY}");
     }
     // SAFETY: so many entries were written.
     unsafe { entries.set_len(count) };
@@ -177,6 +288,7 @@ unsafe fn listed<T>(guess: usize, call: impl Fn(*mut T, usize, *mut usize) -> St
         let mut count = 0;
         match call(entries.as_mut_ptr(), entries.capacity(), &mut count) {
             OK => {
+                assert!(count <= entries.capacity(), "{TOO_MANY}");
                 // SAFETY: so many entries of the array were written, which has at least that capacity.
                 unsafe { entries.set_len(count) };
                 return Ok(entries);
@@ -262,19 +374,45 @@ pub(crate) fn roa(octets: &[u8], strict: bool) -> Result<RoaParts, Status> {
     told(|out| unsafe { rpki_roa(octets.as_ptr(), octets.len(), strict, out) })
 }
 
-pub(crate) fn roa_address(octets: &[u8], family: u8) -> Result<RoaAddressParts, Status> {
-    // SAFETY: pointer and size are those of one slice, which is borrowed for the call.
-    told(|out| unsafe { rpki_roa_address(octets.as_ptr(), octets.len(), family, out) })
+/// What a call takes off the front of the octets, and the octets that follow it.
+#[inline]
+fn taken<T: Default>(octets: &[u8], call: impl FnOnce(*mut Span, *mut T) -> Status) -> Result<(T, &[u8]), Status> {
+    let mut rest = Span::over(octets);
+    let found = told(|out| call(&mut rest, out))?;
+    Ok((found, &octets[octets.len() - rest.size..]))
 }
 
-/// Whether no two of the files of a manifest have the same name: octets of so many files.
-pub(crate) fn manifest_names_differ(files: &[u8], count: usize) -> bool {
-    let mut room: Vec<Place> = Vec::with_capacity(count);
-    let (start, capacity) = (room.as_mut_ptr(), room.capacity());
+/// A safe function over each call that takes a value off the front of a span.
+macro_rules! takers {
+    ($($name:ident($call:ident) -> $found:ty;)*) => {
+        $(pub(crate) fn $name(octets: &[u8]) -> Result<($found, &[u8]), Status> {
+            // SAFETY: the span is of one slice, which is borrowed for the call, and the call writes that type.
+            taken(octets, |rest, out| unsafe { $call(rest, out) })
+        })*
+    };
+}
+
+takers! {
+    access_description(rpki_access_description) -> AccessParts;
+    general_name(rpki_general_name) -> GeneralNameParts;
+    crl_entry(rpki_crl_entry) -> RevokedCertificate;
+    manifest_file(rpki_manifest_file) -> ManifestFileParts;
+    aspa_provider(rpki_aspa_provider) -> u32;
+}
+
+pub(crate) fn roa_address(octets: &[u8], family: u8) -> Result<(RoaAddressParts, &[u8]), Status> {
+    // SAFETY: the span is of one slice, which is borrowed for the call.
+    taken(octets, |rest, out| unsafe { rpki_roa_address(rest, family, out) })
+}
+
+/// Whether no two of the files of a manifest have the same name: octets of a manifest of so many files.
+pub(crate) fn manifest_names_differ(octets: &[u8], count: usize) -> bool {
+    let mut room = vec![Span::default(); count];
+    let (start, capacity) = (room.as_mut_ptr(), room.len());
     // SAFETY: the first pointer and size are those of a slice, which is borrowed for the call; the second those of a
-    // vector of this function's own, which the call writes to before it reads.
-    let found = told(|out| unsafe { rpki_manifest_names(files.as_ptr(), files.len(), start, capacity, out) });
-    found.expect("files that were read, and a place for each")
+    // vector of this function's own, of spans without octets.
+    let found = told(|out| unsafe { rpki_manifest_names(octets.as_ptr(), octets.len(), start, capacity, out) });
+    found.expect("a manifest that was read, and room for its files")
 }
 
 /// Whether one of the entries of a revocation list has this serial number.
@@ -309,6 +447,7 @@ unsafe fn stored(guess: usize, call: impl Fn(*mut u8, usize, *mut usize) -> Stat
         let mut written = 0;
         match call(octets.as_mut_ptr(), octets.capacity(), &mut written) {
             OK => {
+                assert!(written <= octets.capacity(), "{TOO_MANY}");
                 // SAFETY: so many octets of the buffer were written, which has at least that capacity.
                 unsafe { octets.set_len(written) };
                 return Ok(octets);
@@ -323,7 +462,9 @@ unsafe fn stored(guess: usize, call: impl Fn(*mut u8, usize, *mut usize) -> Stat
 #[inline]
 fn placed(out: &mut [u8], call: impl FnOnce(*mut u8, usize, *mut usize) -> Status) -> Result<usize, Status> {
     let (start, capacity) = (out.as_mut_ptr(), out.len());
-    told(|written| call(start, capacity, written))
+    let size = told(|written| call(start, capacity, written))?;
+    assert!(size <= capacity, "{TOO_MANY}");
+    Ok(size)
 }
 
 /// A value that a call tells by one place to write to.

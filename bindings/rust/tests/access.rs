@@ -62,3 +62,68 @@ fn what_is_malformed_is_refused() {
     let relative = with(b"\xa0\x2e\xa0\x2c\x86\x2arsync", b"\xa0\x2e\xa1\x2c\x86\x2arsync");
     assert_eq!(relative.crl_uri().unwrap_err(), DecodeError::Unexpected);
 }
+
+/// A value of this tag with these contents, of fewer than 128 octets.
+fn value(tag: u8, contents: &[u8]) -> Vec<u8> {
+    [&[tag, contents.len() as u8], contents].concat()
+}
+
+/// An access description of this method, and this URI.
+fn description(method: u8, uri: &str) -> Vec<u8> {
+    let id = value(6, &[43, 6, 1, 5, 5, 7, 48, method]);
+    value(0x30, &[id, value(0x86, uri.as_bytes())].concat())
+}
+
+/// The extensions of the example, whose subject information access has these octets.
+fn accessed(octets: Vec<u8>) -> KnownExtensions {
+    let mut known = with(b"\x30", b"\x30");
+    known.subject_info_access.as_mut().unwrap().octets = octets.into();
+    known
+}
+
+#[test]
+fn access_is_descriptions_and_nothing_else() {
+    let one = description(5, "rsync://a/m/1/");
+    let known = accessed(value(0x30, &one));
+    assert_eq!(text(known.ca_repository().unwrap()).unwrap(), "rsync://a/m/1/");
+    assert_eq!(accessed(value(0x30, &[])).subject_access().unwrap_err(), DecodeError::Content);
+    for tag in [0x31, 0xA0, 0x10, 0x24] {
+        assert_eq!(accessed(value(tag, &one)).subject_access().unwrap_err(), DecodeError::Unexpected);
+    }
+    let behind = [value(0x30, &one), vec![5, 0]].concat();
+    assert_eq!(accessed(behind).subject_access().unwrap_err(), DecodeError::Trailing);
+    let cut = value(0x30, &one);
+    assert_eq!(accessed(cut[..cut.len() - 1].to_vec()).subject_access().unwrap_err(), DecodeError::Truncated);
+    assert_eq!(accessed(Vec::new()).subject_access().unwrap_err(), DecodeError::Truncated);
+    let mut known = known;
+    known.subject_info_access = None;
+    assert_eq!(known.subject_access(), Ok(Vec::new()));
+}
+
+/// Of each method the first URI of the scheme counts.
+#[test]
+fn first_uris() {
+    let of = |method| {
+        let uris = ["https://h/1", "rsync://a/m/1", "https://h/2", "rsync://a/m/2"];
+        accessed(value(0x30, &uris.map(|uri| description(method, uri)).concat()))
+    };
+    let first = Some("rsync://a/m/1".to_string());
+    assert_eq!(text(of(5).ca_repository().unwrap()), first);
+    assert_eq!(text(of(10).rpki_manifest().unwrap()), first);
+    assert_eq!(text(of(11).signed_object().unwrap()), first);
+    assert_eq!(text(of(13).rpki_notify().unwrap()), Some("https://h/1".to_string()));
+    assert_eq!(of(2).ca_repository().unwrap(), None);
+
+    let mut known = of(5);
+    let uris = ["https://h/1", "rsync://a/m/1", "rsync://a/m/2"].map(|uri| value(0x86, uri.as_bytes()));
+    let point = |names: &[u8]| value(0x30, &value(0x30, &value(0xA0, &value(0xA0, names))));
+    known.crl_distribution_points.as_mut().unwrap().octets = point(&uris.concat()).into();
+    assert_eq!(text(known.crl_uri().unwrap()), first);
+    known.crl_distribution_points.as_mut().unwrap().octets = point(&[]).into();
+    assert_eq!(known.crl_uri().unwrap_err(), DecodeError::Content);
+    known.crl_distribution_points.as_mut().unwrap().octets = [point(&uris.concat()), vec![5, 0]].concat().into();
+    assert_eq!(known.crl_uri().unwrap_err(), DecodeError::Trailing);
+    known.authority_info_access.as_mut().unwrap().octets =
+        value(0x30, &["rsync://a/m/1", "rsync://a/m/2"].map(|uri| description(2, uri)).concat()).into();
+    assert_eq!(text(known.ca_issuer().unwrap()), first);
+}

@@ -1,5 +1,6 @@
-//! Certificates, read by [Cert], compared with the rows that tests/linked/certificate/rows.py writes. The variable
-//! `RPKI_CERTIFICATE_ROWS` names their file; without it the certificate of examples/ alone is read.
+//! Certificates, read by [Cert], compared with rows that tests/linked/certificate/rows.py writes: those that
+//! tests/linked/samples.py picks of them for rows/certificates.txt, and all, where the variable `RPKI_CERTIFICATE_ROWS`
+//! names their file.
 
 use rpki_proved::crypto::{RpkiSignatureAlgorithm, SignatureAlgorithm};
 use rpki_proved::repository::cert::{Cert, CertPart, CertRule, ExtensionError, KeyUsage, Overclaim};
@@ -166,12 +167,31 @@ fn compare_inspections(number: usize, cert: &Cert, words: &[&str]) {
 
 #[test]
 fn certificates() {
-    let path = match std::env::var_os("RPKI_CERTIFICATE_ROWS") {
-        Some(path) => path,
-        None => return,
-    };
-    let rows = std::fs::read_to_string(path).unwrap();
-    assert!(rows.lines().count() > 90);
+    let rows = include_str!("rows/certificates.txt");
+    assert!(rows.lines().count() >= 50);
+    compare_rows(rows);
+    if let Some(path) = std::env::var_os("RPKI_CERTIFICATE_ROWS") {
+        let rows = std::fs::read_to_string(path).unwrap();
+        assert!(rows.lines().count() > 90);
+        compare_rows(&rows);
+    }
+}
+
+/// What the example says, as `openssl x509 -text` prints it.
+#[test]
+fn an_example() {
+    let cert = Cert::decode(&include_bytes!("certificate.der")[..]).unwrap();
+    let (from, until) = (cert.validity().not_before(), cert.validity().not_after());
+    let known = cert.known_extensions().unwrap();
+    assert!(from < until);
+    assert_eq!((from.timestamp(), until.timestamp()), (1_767_225_600, 2_556_144_000));
+    assert_eq!(cert.extensions().count(), 10);
+    let ids: Vec<u8> = cert.extensions().map(|extension| *extension.id().octets().last().unwrap()).collect();
+    assert_eq!(ids[..4], [19, 14, 35, 15]);
+    assert!(known.basic_ca);
+}
+
+fn compare_rows(rows: &str) {
     for (number, row) in rows.lines().enumerate() {
         let (parts, more) = row.split_once(" | ").unwrap();
         let (extensions, inspections) = more.split_once(" | ").unwrap();

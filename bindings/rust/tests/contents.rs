@@ -1,10 +1,13 @@
 //! What signed objects contain, read by [ManifestContent], [RouteOriginAttestation] and [AsProviderAttestation],
-//! compared with the rows that tests/linked/contents/rows.py writes. The variable `RPKI_CONTENT_ROWS` names their file;
-//! without it nothing is compared.
+//! compared with rows that tests/linked/contents/rows.py writes: those that tests/linked/samples.py picks of them for
+//! rows/contents.txt, and all, where the variable `RPKI_CONTENT_ROWS` names their file.
 
 use rpki_proved::repository::aspa::{AsProviderAttestation, AspaError};
 use rpki_proved::repository::manifest::{ManifestContent, ManifestError};
-use rpki_proved::repository::roa::{RoaError, RoaIpAddress, RoaIpAddresses, RouteOriginAttestation};
+use rpki_proved::repository::resources::Prefix;
+use rpki_proved::repository::roa::{
+    FriendlyRoaIpAddress, RoaError, RoaIpAddress, RoaIpAddresses, RouteOriginAttestation,
+};
 use rpki_proved::uri;
 use std::collections::HashSet;
 use std::str::FromStr;
@@ -160,13 +163,8 @@ fn compare(kind: &str, all: &[u8], status: usize, words: &[&str]) {
     }
 }
 
-#[test]
-fn rows() {
-    let file = match std::env::var("RPKI_CONTENT_ROWS") {
-        Ok(file) => file,
-        Err(_) => return,
-    };
-    let rows = std::fs::read_to_string(file).unwrap();
+/// How many contents of the rows were read, and how many refused.
+fn compare_rows(rows: &str) -> (usize, usize) {
     let (mut read, mut refused) = (0, 0);
     for row in rows.lines() {
         let words: Vec<&str> = row.split(' ').collect();
@@ -178,7 +176,52 @@ fn rows() {
         read += usize::from(status == 0);
         refused += usize::from(status != 0);
     }
-    assert!(read > 1000 && refused > 5000, "{read} read, {refused} refused");
+    (read, refused)
+}
+
+#[test]
+fn rows() {
+    let (read, refused) = compare_rows(include_str!("rows/contents.txt"));
+    assert!(read >= 50 && refused >= 17, "{read} read, {refused} refused");
+    if let Ok(file) = std::env::var("RPKI_CONTENT_ROWS") {
+        let (read, refused) = compare_rows(&std::fs::read_to_string(file).unwrap());
+        assert!(read > 1000 && refused > 5000, "{read} read, {refused} refused");
+    }
+}
+
+/// A file that is listed twice is refused, whatever is between.
+#[test]
+fn files_differ() {
+    let file = |name: &[u8]| {
+        let entry = [&[0x16, name.len() as u8][..], name, b"\x03\x21\0", &[0xAA; 32]].concat();
+        [&[0x30, entry.len() as u8][..], &entry].concat()
+    };
+    let manifest = |names: [&[u8]; 3]| {
+        let files: Vec<u8> = names.iter().flat_map(|name| file(name)).collect();
+        let front =
+            b"\x02\x01\x07\x18\x0f20260101000000Z\x18\x0f20260201000000Z\x06\x09\x60\x86\x48\x01\x65\x03\x04\x02\x01";
+        let all = [&front[..], &[0x30, 0x81, files.len() as u8], &files].concat();
+        ManifestContent::decode([&[0x30, 0x81, all.len() as u8][..], &all].concat())
+    };
+    assert_eq!(manifest([b"a.roa", b"b.roa", b"c.roa"]).unwrap().len(), 3);
+    assert_eq!(manifest([b"a.roa", b"b.roa", b"a.roa"]).unwrap_err(), ManifestError::FileTwice);
+    // That was due in February of 2026.
+    assert!(manifest([b"a.roa", b"b.roa", b"c.roa"]).unwrap().is_stale());
+}
+
+/// The lowest address, and both ends, of a prefix of each family.
+#[test]
+fn ends_of_prefixes() {
+    let v6 = RoaIpAddress::new(Prefix::from_v6_str("2001:db8::/32").unwrap(), Some(48));
+    let v4 = RoaIpAddress::new(Prefix::from_v4_str("10.0.0.0/8").unwrap(), None);
+    for (address, lowest, highest, is_v4) in
+        [(v6, "2001:db8::", "2001:db8:ffff:ffff:ffff:ffff:ffff:ffff", false), (v4, "10.0.0.0", "10.255.255.255", true)]
+    {
+        assert_eq!(FriendlyRoaIpAddress::new(address, is_v4).address().to_string(), lowest);
+        assert_eq!(address.range(), address.prefix().range());
+        let high = if is_v4 { address.range().1.to_v4().to_string() } else { address.range().1.to_v6().to_string() };
+        assert_eq!(high, highest);
+    }
 }
 
 #[test]

@@ -1,5 +1,6 @@
-//! Revocation lists, read by [Crl], compared with the rows that tests/linked/lists/rows.py writes. The variable
-//! `RPKI_LIST_ROWS` names their file; without it the list below alone is read, which tests/hostile/lists.py makes.
+//! Revocation lists, read by [Crl], compared with rows that tests/linked/lists/rows.py writes: those that
+//! tests/linked/samples.py picks of them for rows/lists.txt, and all, where the variable `RPKI_LIST_ROWS` names their
+//! file; and the list below, of tests/hostile/lists.py.
 
 use rpki_proved::crypto::RpkiSignatureAlgorithm;
 use rpki_proved::repository::crl::{Crl, CrlEntry, CrlError, CrlStore};
@@ -73,13 +74,8 @@ fn compare(all: &[u8], list: &mut Crl, words: &[&str]) {
     }
 }
 
-#[test]
-fn rows() {
-    let file = match std::env::var("RPKI_LIST_ROWS") {
-        Ok(file) => file,
-        Err(_) => return,
-    };
-    let rows = std::fs::read_to_string(file).unwrap();
+/// How many lists of the rows were read, and how many refused.
+fn compare_rows(rows: &str) -> (usize, usize) {
     let (mut read, mut refused) = (0, 0);
     for row in rows.lines() {
         let words: Vec<&str> = row.split(' ').collect();
@@ -102,7 +98,17 @@ fn rows() {
             }
         }
     }
-    assert!(read > 500 && refused > 1000, "{read} read, {refused} refused");
+    (read, refused)
+}
+
+#[test]
+fn rows() {
+    let (read, refused) = compare_rows(include_str!("rows/lists.txt"));
+    assert!(read >= 4 && refused >= 12, "{read} read, {refused} refused");
+    if let Ok(file) = std::env::var("RPKI_LIST_ROWS") {
+        let (read, refused) = compare_rows(&std::fs::read_to_string(file).unwrap());
+        assert!(read > 500 && refused > 1000, "{read} read, {refused} refused");
+    }
 }
 
 fn list() -> Crl {
@@ -159,5 +165,22 @@ fn a_store() {
         store.push(uri("rsync://a/m/1.crl"), list());
         assert!(store.get(&uri("rsync://a/m/1.crl")).unwrap().contains(Serial::from(5u64)));
         assert!(store.get(&uri("rsync://a/m/2.crl")).is_none());
+        assert!(store.get(&uri("rsync://a/m/")).is_none() && store.get(&uri("rsync://a/m/1.crl/x")).is_none());
+        // The first of a URI that was put in is the one that is found.
+        let other = Crl::decode(&include_bytes!("repository/rpki.example/repo/ca/ca.crl")[..]).unwrap();
+        store.push(uri("rsync://a/m/1.crl"), other.clone());
+        assert_eq!(store.get(&uri("rsync://a/m/1.crl")).unwrap().to_bytes(), list().to_bytes());
+        store.push(uri("rsync://a/m/3.crl"), other.clone());
+        assert_eq!(store.get(&uri("rsync://a/m/3.crl")).unwrap().to_bytes(), other.to_bytes());
     }
+}
+
+/// The entries say when each was revoked: those of a list by openssl, of 1 certificate revoked when it was made.
+#[test]
+fn entries_of_openssl() {
+    let list = Crl::decode(&include_bytes!("repository/rpki.example/repo/ca/ca.crl")[..]).unwrap();
+    let entries: Vec<CrlEntry> = list.revoked_certs().iter().collect();
+    assert_eq!(entries.len(), 1);
+    assert!(entries[0].revocation_date() > list.this_update() && entries[0].revocation_date() < list.next_update());
+    assert!(!list.is_stale());
 }

@@ -1,9 +1,11 @@
-//! Signed objects, read by [SignedObject], compared with the rows that tests/linked/objects/rows.py writes. The
-//! variable `RPKI_OBJECT_ROWS` names their file; without it nothing is compared.
+//! Signed objects, read by [SignedObject], compared with rows that tests/linked/objects/rows.py writes: those that
+//! tests/linked/samples.py picks of them for rows/objects.txt, and all, where the variable `RPKI_OBJECT_ROWS` names
+//! their file.
 
 use rpki_proved::crypto::{Provider, RpkiSignatureAlgorithm};
 use rpki_proved::oid::Oid;
-use rpki_proved::repository::cert::Cert;
+use rpki_proved::repository::cert::{Cert, CertPart, CertRule};
+use rpki_proved::repository::error::ValidationError;
 use rpki_proved::repository::sigobj::{ObjectVerificationError, SignedObject, SignedObjectError};
 
 /// The errors by their statuses, and their texts.
@@ -84,13 +86,8 @@ fn expected<'a>(all: &[u8], words: &'a [&'a str]) -> Result<&'a [&'a str], Signe
     }
 }
 
-#[test]
-fn rows() {
-    let file = match std::env::var("RPKI_OBJECT_ROWS") {
-        Ok(file) => file,
-        Err(_) => return,
-    };
-    let rows = std::fs::read_to_string(file).unwrap();
+/// How many objects of the rows were read, how many refused, and of how many only the certificate is wrong.
+fn compare_rows(rows: &str) -> (usize, usize, usize) {
     let (mut read, mut refused, mut verified) = (0, 0, 0);
     for row in rows.lines() {
         let words: Vec<&str> = row.split(' ').collect();
@@ -101,7 +98,8 @@ fn rows() {
                 let object = found.unwrap();
                 compare(&all, &object, said);
                 read += 1;
-                verified += usize::from(object.verify_signature().is_ok());
+                let verdict = object.verify_signature();
+                verified += usize::from(matches!(verdict, Err(ObjectVerificationError::Certificate(_))));
             }
             Err(error) => {
                 assert_eq!(found.unwrap_err(), error, "{row}");
@@ -109,39 +107,104 @@ fn rows() {
             }
         }
     }
-    assert!(read > 5000 && refused > 2000, "{read} read, {refused} refused");
-    // Those of openssl.
-    assert_eq!(verified, 6);
+    (read, refused, verified)
 }
 
-/// The objects of openssl are signed by their certificates' keys; with one octet changed they are not.
+#[test]
+fn rows() {
+    let (read, refused, _) = compare_rows(include_str!("rows/objects.txt"));
+    assert!(read >= 4 && refused >= 15, "{read} read, {refused} refused");
+    if let Ok(file) = std::env::var("RPKI_OBJECT_ROWS") {
+        let (read, refused, verified) = compare_rows(&std::fs::read_to_string(file).unwrap());
+        assert!(read > 5000 && refused > 2000, "{read} read, {refused} refused");
+        // Those of openssl, whose certificates are not of the profile.
+        assert_eq!(verified, 6);
+    }
+}
+
+/// A file of the example repository.
+const ROA: &[u8] = include_bytes!("repository/rpki.example/repo/ca/roa.roa");
+
+/// The first place of these octets in others, and the last.
+fn places(all: &[u8], part: &[u8]) -> (usize, usize) {
+    let mut found = all.windows(part.len()).enumerate().filter(|(_, octets)| *octets == part).map(|(at, _)| at);
+    let first = found.next().expect("a part of the object");
+    (first, found.next_back().unwrap_or(first))
+}
+
+/// The object with one bit changed.
+fn changed(at: usize) -> SignedObject {
+    let mut octets = ROA.to_vec();
+    octets[at] ^= 1;
+    SignedObject::decode(octets, true).unwrap()
+}
+
+/// An object of the example repository is signed by its certificate's key; with one bit changed it is not.
 #[test]
 fn signatures() {
-    let file = match std::env::var("RPKI_OBJECT_ROWS") {
-        Ok(file) => file,
-        Err(_) => return,
-    };
-    let rows = std::fs::read_to_string(file).unwrap();
-    let all = rows.lines().map(|row| octets(row.split(' ').next().unwrap()));
-    let by_openssl = |all: &Vec<u8>| {
-        SignedObject::decode(all.clone(), true)
-            .map_or(false, |object| !object.content().is_empty() && object.verify_signature().is_ok())
-    };
-    let signed = all.clone().find(by_openssl).expect("an object of openssl");
-    let object = SignedObject::decode(signed.clone(), true).unwrap();
+    let object = SignedObject::decode(ROA, true).unwrap();
+    assert_eq!(object.verify_signature(), Ok(()));
     assert_eq!(object.verify_signature_with(&Says(true)), Ok(()));
     assert_eq!(object.verify_signature_with(&Says(false)), Err(ObjectVerificationError::Signature));
-    let content = signed.windows(object.content().len()).position(|octets| octets == object.content()).unwrap();
-    let sid = signed.windows(20).rposition(|octets| octets == object.sid().as_slice()).unwrap();
+    let content_type = places(ROA, object.content_type().0.as_ref());
     for (at, error) in [
-        (content, ObjectVerificationError::MessageDigest),
-        (sid, ObjectVerificationError::SubjectKeyIdentifier),
-        (signed.len() - 1, ObjectVerificationError::Signature),
+        (content_type.0 + object.content_type().0.len() - 1, ObjectVerificationError::ContentType),
+        (content_type.1 + object.content_type().0.len() - 1, ObjectVerificationError::ContentType),
+        (places(ROA, object.content()).0, ObjectVerificationError::MessageDigest),
+        (places(ROA, object.signed_attrs().message_digest().as_slice()).1, ObjectVerificationError::MessageDigest),
+        (places(ROA, object.sid().as_slice()).1, ObjectVerificationError::SubjectKeyIdentifier),
+        (places(ROA, object.sid().as_slice()).0, ObjectVerificationError::SubjectKeyIdentifier),
     ] {
-        let mut changed = signed.clone();
-        changed[at] ^= 1;
-        let object = SignedObject::decode(changed, true).unwrap();
-        assert_eq!(object.verify_signature(), Err(error));
+        assert_eq!(changed(at).verify_signature(), Err(error), "{at}");
+        assert_eq!(changed(at).verify_signature_with(&Says(true)), Err(error), "{at}");
+        assert!(!error.to_string().is_empty());
+    }
+    assert_eq!(changed(ROA.len() - 1).verify_signature(), Err(ObjectVerificationError::Signature));
+}
+
+/// A provider is asked for the digest of the content, and for the signature of the attributes.
+#[test]
+fn provider_is_asked_the_right_question() {
+    struct Asks<'a>(&'a SignedObject);
+    impl Provider for Asks<'_> {
+        fn sha256(&self, octets: &[u8]) -> [u8; 32] {
+            assert_eq!(octets, self.0.content());
+            let mut digest = [0; 32];
+            digest.copy_from_slice(self.0.signed_attrs().message_digest().as_slice());
+            digest
+        }
+
+        fn rsa_check(&self, bits: &[u8], message: &[u8], signature: &[u8]) -> bool {
+            bits == self.0.cert().subject_public_key_info().bits_bytes()
+                && message == self.0.signed_attrs().encode_verify()
+                && signature == self.0.signature().value()
+        }
+    }
+    let object = SignedObject::decode(ROA, true).unwrap();
+    assert_eq!(object.verify_signature_with(&Asks(&object)), Ok(()));
+    // The digest is that of the provider.
+    let content = places(ROA, object.content()).0;
+    let other = changed(content);
+    assert_eq!(other.verify_signature_with(&Asks(&other)), Ok(()));
+}
+
+/// A certificate without a subject key identifier, and one that is no end entity's, sign no object.
+#[test]
+fn certificates_of_signers() {
+    let object = SignedObject::decode(ROA, true).unwrap();
+    // The identifiers of the subject key identifier, and of the certificate policies: another extension each.
+    for (id, error) in [
+        (&b"\x06\x03\x55\x1d\x0e"[..], ObjectVerificationError::SubjectKeyIdentifier),
+        (b"\x06\x03\x55\x1d\x20", ObjectVerificationError::Certificate(CertRule::CriticalExtensions)),
+    ] {
+        let certificate = places(ROA, &object.cert().to_bytes()).0;
+        let at = certificate + places(&object.cert().to_bytes(), id).0 + 4;
+        let mut octets = ROA.to_vec();
+        octets[at] = 0x7F;
+        let other = SignedObject::decode(octets, true).unwrap();
+        assert_eq!(other.verify_signature_with(&Says(true)), Err(error));
+        // The signature is of the attributes, and not of the certificate.
+        assert_eq!(other.verify_signature(), Err(error));
         assert!(!error.to_string().is_empty());
     }
 }
@@ -150,6 +213,18 @@ fn signatures() {
 fn texts() {
     for (_, error, text) in ERRORS {
         assert_eq!(error.to_string(), text);
+    }
+    let certificate = SignedObjectError::Certificate(CertPart::Validity);
+    assert_eq!(certificate.to_string(), CertPart::Validity.to_string());
+    for (error, text) in [
+        (ObjectVerificationError::ContentType, "content type mismatch"),
+        (ObjectVerificationError::MessageDigest, "message digest mismatch"),
+        (ObjectVerificationError::SubjectKeyIdentifier, "subject key identifier mismatch"),
+        (ObjectVerificationError::Signature, "signature verification failed"),
+        (ObjectVerificationError::Certificate(CertRule::Issuer), "issuer has no name of the RPKI"),
+    ] {
+        assert_eq!(error.to_string(), text);
+        assert_eq!(ValidationError::from(error).to_string(), text);
     }
     for end in 0..3 {
         assert_eq!(

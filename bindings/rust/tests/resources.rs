@@ -4,7 +4,8 @@
 
 use rpki_proved::repository::resources::{
     as_encompass, ip_encompass, Addr, AddressFamily, AddressRange, AsBlock, AsBlocks, AsRange, AsResources, Asn,
-    InheritedResources, IpBlock, IpBlocks, IpResources, Ipv4Blocks, Ipv6Blocks, Prefix, ResourcesChoice,
+    InheritedResources, IpBlock, IpBlocks, IpResources, Ipv4Blocks, Ipv6Blocks, OtherFamily, Prefix, ResourceSet,
+    ResourcesChoice,
 };
 use rpki_proved::DecodeError;
 use std::collections::hash_map::DefaultHasher;
@@ -80,7 +81,7 @@ fn ip(number: usize, octets: &[u8], wanted: Result<&[&str], DecodeError>) {
     let found = IpResources::decode_families(octets).map(|(v4, v6)| {
         // Contents are spelled in one way.
         let told = |found: &Option<IpResources>| found.clone().unwrap_or_else(IpResources::missing);
-        let again = IpResources::encode_families(&told(&v4), &told(&v6));
+        let again = IpResources::encode_families(&told(&v4), &told(&v6)).unwrap();
         assert_eq!(again.as_deref(), Some(octets), "row {number}");
         for (found, is_v4) in [(&v4, true), (&v6, false)] {
             if let Some(Ok(blocks)) = found.as_ref().map(IpResources::to_blocks) {
@@ -460,7 +461,7 @@ fn choices() {
     }
     assert_eq!(AsResources::blocks(AsBlocks::empty()), AsResources::missing());
     assert_eq!(AsResources::missing().encode(), None);
-    assert_eq!(IpResources::encode_families(&IpResources::missing(), &IpResources::missing()), None);
+    assert_eq!(IpResources::encode_families(&IpResources::missing(), &IpResources::missing()), Ok(None));
     assert_ne!(AsResources::blocks("AS135".parse().unwrap()), all[2]);
 
     let blocks: IpBlocks = "10.0.0.0/8".parse::<Ipv4Blocks>().unwrap().into();
@@ -501,4 +502,94 @@ fn serialized() {
     as_text::<Ipv4Blocks>("10.128.0.0/9,10.0.0.0/9", "10.0.0.0/8");
     as_text::<Ipv4Blocks>("10.2.48.0-10.2.64.255", "10.2.48.0-10.2.64.255");
     as_text::<Ipv6Blocks>("2001:db8:0:0::/32, ::1", "::1/128, 2001:db8::/32");
+}
+
+/// What no reader of the extension accepts is not written: addresses of IP version 6, and parts of an address, as those
+/// of IP version 4.
+#[test]
+fn families_that_are_written_are_read_again() {
+    let of = |block: IpBlock| IpResources::blocks([block].into_iter().collect());
+    let v6 = of(IpBlock::from_v6_str("2001:db8::/32").unwrap());
+    let range = of(IpBlock::from_v6_str("2001:dc0::-2001:dc0::5").unwrap());
+    let part = of(IpBlock::from((Addr::from_bits(1), Addr::from_bits(5))));
+    let below = of(IpBlock::from((v4("10.0.0.0"), v4("10.0.0.5"))));
+    let within = of(IpBlock::from((Addr::from_bits(1), v4("10.0.0.5").to_max(32))));
+    for wrong in [&range, &part, &below, &within] {
+        assert_eq!(IpResources::encode_families(wrong, &IpResources::missing()), Err(OtherFamily));
+        let octets = IpResources::encode_families(&IpResources::missing(), wrong).unwrap().unwrap();
+        assert_eq!(IpResources::decode_families(&octets), Ok((None, Some(wrong.clone()))));
+    }
+    // The first 32 bits are those of a prefix of IP version 4 too.
+    let octets = IpResources::encode_families(&v6, &range).unwrap().unwrap();
+    assert_eq!(IpResources::decode_families(&octets), Ok((Some(v6), Some(range))));
+    assert!(!OtherFamily.to_string().is_empty());
+}
+
+#[test]
+fn numbers_have_no_sign() {
+    for text in ["10.0.0.0/+8", "10.0.0.0/-8", "10.0.0.0/", "10.0.0.0/ 8", "10.0.0.0/33", "10.0.0.0/256"] {
+        assert!(Prefix::from_v4_str(text).is_err() && IpBlock::from_v4_str(text).is_err(), "{text}");
+        assert!(text.parse::<Ipv4Blocks>().is_err(), "{text}");
+    }
+    assert!(Prefix::from_v6_str("2001:db8::/+32").is_err());
+    for text in ["AS+5", "+5", "AS-5", "AS", "AS1-AS+5", "AS+1-AS5"] {
+        assert!(text.parse::<AsBlock>().is_err(), "{text}");
+    }
+}
+
+#[test]
+fn blocks_of_sets() {
+    let numbers: AsBlocks = "AS1-AS4, AS7".parse().unwrap();
+    for (block, is_in) in [("AS1-AS4", true), ("AS7", true), ("AS2", true), ("AS4-AS5", false), ("AS5", false)] {
+        assert_eq!(numbers.contains_block(block.parse::<AsBlock>().unwrap()), is_in, "{block}");
+        assert!(!AsBlocks::empty().contains_block(block.parse::<AsBlock>().unwrap()));
+    }
+    let addresses: IpBlocks = "2001:db8::/32, 2001:dc0::1-2001:dc0::5".parse::<Ipv6Blocks>().unwrap().into();
+    assert_eq!(addresses.as_v6().to_string(), "2001:db8::/32, 2001:dc0::1-2001:dc0::5");
+    let addresses: IpBlocks = "10.0.0.0/8, 11.0.0.1-11.0.0.5".parse::<Ipv4Blocks>().unwrap().into();
+    assert_eq!(addresses.as_v4().to_string(), "10.0.0.0/8, 11.0.0.1-11.0.0.5");
+}
+
+/// A block of two addresses is a prefix where it is one.
+#[test]
+fn blocks_of_two_addresses() {
+    for (low, high, length) in [
+        ("2001:db8::", "2001:db8:ffff:ffff:ffff:ffff:ffff:ffff", Some(32)),
+        ("2001:db8::1", "2001:db8::1", Some(128)),
+        ("2001:db8::", "2001:db8::2", None),
+        ("2001:db8::1", "2001:db8::2", None),
+    ] {
+        let block = IpBlock::from((v6(low), v6(high)));
+        assert_eq!((block.min(), block.max()), (v6(low), v6(high)));
+        let found = if let IpBlock::Prefix(prefix) = block { Some(prefix.addr_len()) } else { None };
+        assert_eq!(found, length, "{low} {high}");
+        let shown = length.map_or_else(|| format!("{low}-{high}"), |length| format!("{low}/{length}"));
+        assert_eq!(block.display_v6().to_string(), shown);
+    }
+}
+
+#[test]
+fn sets_of_all_kinds() {
+    let set = |asn: &str, v4: &str, v6: &str| {
+        ResourceSet::new(asn.parse().unwrap(), v4.parse().unwrap(), v6.parse().unwrap())
+    };
+    let all = set("AS1-AS9", "10.0.0.0/8", "2001:db8::/32");
+    let parts = [set("AS5", "", ""), set("", "10.1.0.0/16", ""), set("", "", "2001:db8:1::/48")];
+    let others = [set("AS10", "", ""), set("", "11.0.0.0/8", ""), set("", "", "2001:db9::/32")];
+    assert!(ResourceSet::empty().is_empty() && all.contains(&ResourceSet::empty()));
+    assert!(ResourceSet::all().contains(&all) && !all.contains(&ResourceSet::all()));
+    for (part, other) in parts.iter().zip(&others) {
+        assert!(!part.is_empty() && all.contains(part) && !all.contains(other) && !part.contains(&all));
+        let both = all.union(other);
+        assert!(both.contains(&all) && both.contains(other));
+        assert_eq!((both.difference(&all), both.intersection(other)), (other.clone(), other.clone()));
+        assert_eq!((all.difference(other), all.intersection(other)), (all.clone(), ResourceSet::empty()));
+        assert_eq!((all.intersection(part), all.union(part)), (part.clone(), all.clone()));
+        assert_eq!(all.difference(part).union(part), all);
+        assert!(!all.difference(part).contains(part));
+    }
+    assert!(all.contains_asn(Asn::from_u32(9)) && !all.contains_asn(Asn::from_u32(10)));
+    assert_eq!((all.asn().to_string(), all.ipv4().to_string()), ("AS1-AS9".into(), "10.0.0.0/8".into()));
+    assert_eq!(all.ipv6().to_string(), "2001:db8::/32");
+    assert_eq!(all.to_string(), "asn: 'AS1-AS9', ipv4: '10.0.0.0/8', ipv6: '2001:db8::/32'");
 }

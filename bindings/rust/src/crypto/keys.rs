@@ -142,7 +142,7 @@ impl PublicKey {
         let octets = octets.into();
         let found = ffi::public_key(&octets).map_err(DecodeError::from_status)?;
         let algorithm = if found.format == 0 { PublicKeyFormat::Rsa } else { PublicKeyFormat::EcdsaP256 };
-        let bits = octets.slice(found.bits.range());
+        let bits = octets.slice(found.bits.range(&octets));
         Ok(PublicKey { octets, bits, algorithm, unused: found.unused })
     }
 

@@ -13,6 +13,11 @@ use std::fmt;
 /// It is asked the right question: the bits of the key, exactly the octets that were signed, and the octets of the
 /// signature. [RsaProvider] is the one that calls take which are given none.
 pub trait Provider {
+    /// The digest of the octets by SHA-256 (FIPS 180-4). That of the proved library where this isn't written over.
+    fn sha256(&self, octets: &[u8]) -> [u8; 32] {
+        ffi::sha256(octets)
+    }
+
     /// Whether the signature is by this RSA key over this message (RSASSA-PKCS1-v1_5 with SHA-256). The bits are those
     /// of an RSAPublicKey (RFC 8017 A.1.1).
     fn rsa_check(&self, bits: &[u8], message: &[u8], signature: &[u8]) -> bool;
@@ -50,6 +55,10 @@ pub struct OpenSslProvider;
 
 #[cfg(feature = "openssl")]
 impl Provider for OpenSslProvider {
+    fn sha256(&self, octets: &[u8]) -> [u8; 32] {
+        openssl::sha::sha256(octets)
+    }
+
     fn rsa_check(&self, bits: &[u8], message: &[u8], signature: &[u8]) -> bool {
         use openssl::{bn::BigNum, error::ErrorStack, hash::MessageDigest, pkey::PKey, rsa::Rsa, sign::Verifier};
         let check = || {

@@ -35,6 +35,14 @@ pub(crate) const TOO_NEW: Status = 50;
 pub(crate) const TOO_OLD: Status = 51;
 pub(crate) const KEY_NOT_ACCEPTED: Status = 52;
 pub(crate) const BAD_SIGNATURE: Status = 53;
+pub(crate) const OTHER_DIGEST: Status = 54;
+pub(crate) const OTHER_TYPE: Status = 55;
+pub(crate) const OTHER_SIGNER: Status = 56;
+pub(crate) const OTHER_KEY: Status = 57;
+pub(crate) const OTHER_RESOURCES: Status = 58;
+pub(crate) const NOT_INHERITED: Status = 59;
+pub(crate) const OTHER_ANCHOR: Status = 60;
+pub(crate) const OTHER_KINDS: Status = 61;
 pub(crate) const PART_CERTIFICATE: Status = 64;
 pub(crate) const PART_SIGNED: Status = 65;
 pub(crate) const PART_ALGORITHM: Status = 66;
@@ -195,6 +203,13 @@ pub(crate) const ACCESS_CA_REPOSITORY: u8 = 2;
 pub(crate) const ACCESS_RPKI_MANIFEST: u8 = 3;
 pub(crate) const ACCESS_SIGNED_OBJECT: u8 = 4;
 pub(crate) const ACCESS_RPKI_NOTIFY: u8 = 5;
+pub(crate) const TYPE_OTHER: u8 = 0;
+pub(crate) const TYPE_ROA: u8 = 1;
+pub(crate) const TYPE_MANIFEST: u8 = 2;
+pub(crate) const TYPE_ASPA: u8 = 3;
+pub(crate) const TYPE_GHOSTBUSTERS: u8 = 4;
+pub(crate) const TYPE_CHECKLIST: u8 = 5;
+pub(crate) const TYPE_TRUST_ANCHOR_KEYS: u8 = 6;
 pub(crate) const IPV4: u8 = 4;
 pub(crate) const IPV6: u8 = 6;
 pub(crate) const BASE64_XML: u8 = 0;
@@ -202,6 +217,14 @@ pub(crate) const BASE64_SERDE: u8 = 1;
 pub(crate) const BASE64_SLURM: u8 = 2;
 
 const _: () = assert!(size_of::<usize>() == 8 && size_of::<bool>() == 1);
+
+#[repr(C)]
+#[derive(Clone, Copy)]
+pub(crate) struct Span {
+    pub(crate) data: *const u8,
+    pub(crate) size: usize,
+}
+const _: () = assert!(size_of::<Span>() == 16);
 
 #[repr(C)]
 #[derive(Clone, Copy, Default)]
@@ -246,9 +269,9 @@ const _: () = assert!(size_of::<Entry>() == 40);
 #[repr(C)]
 #[derive(Clone, Copy, Default)]
 pub(crate) struct SignedParts {
-    pub(crate) data: Place,
-    pub(crate) algorithm: Place,
-    pub(crate) signature: Place,
+    pub(crate) data: Span,
+    pub(crate) algorithm: Span,
+    pub(crate) signature: Span,
     pub(crate) unused: u8,
     pub(crate) has_parameters: bool,
 }
@@ -259,7 +282,7 @@ const _: () = assert!(size_of::<SignedParts>() == 56);
 pub(crate) struct KeyParts {
     pub(crate) format: u8,
     pub(crate) unused: u8,
-    pub(crate) bits: Place,
+    pub(crate) bits: Span,
 }
 const _: () = assert!(size_of::<KeyParts>() == 24);
 
@@ -287,8 +310,8 @@ const _: () = assert!(size_of::<Period>() == 64);
 #[repr(C)]
 #[derive(Clone, Copy, Default)]
 pub(crate) struct ExtensionParts {
-    pub(crate) id: Place,
-    pub(crate) octets: Place,
+    pub(crate) id: Span,
+    pub(crate) octets: Span,
     pub(crate) critical: bool,
 }
 const _: () = assert!(size_of::<ExtensionParts>() == 40);
@@ -296,13 +319,13 @@ const _: () = assert!(size_of::<ExtensionParts>() == 40);
 #[repr(C)]
 #[derive(Clone, Copy, Default)]
 pub(crate) struct CertificateParts {
-    pub(crate) data: Place,
-    pub(crate) algorithm: Place,
-    pub(crate) signature: Place,
-    pub(crate) issuer: Place,
-    pub(crate) subject: Place,
-    pub(crate) public_key: Place,
-    pub(crate) extensions: Place,
+    pub(crate) data: Span,
+    pub(crate) algorithm: Span,
+    pub(crate) signature: Span,
+    pub(crate) issuer: Span,
+    pub(crate) subject: Span,
+    pub(crate) public_key: Span,
+    pub(crate) extensions: Span,
     pub(crate) validity: Period,
     pub(crate) serial_number: [u8; 20],
     pub(crate) key_format: u8,
@@ -314,7 +337,7 @@ const _: () = assert!(size_of::<CertificateParts>() == 200);
 #[repr(C)]
 #[derive(Clone, Copy, Default)]
 pub(crate) struct KnownExtension {
-    pub(crate) octets: Place,
+    pub(crate) octets: Span,
     pub(crate) is_there: bool,
     pub(crate) critical: bool,
 }
@@ -347,31 +370,29 @@ const _: () = assert!(size_of::<KnownExtensions>() == 360);
 #[repr(C)]
 #[derive(Clone, Copy, Default)]
 pub(crate) struct AccessParts {
-    pub(crate) id: Place,
-    pub(crate) uri: Place,
-    pub(crate) size: usize,
+    pub(crate) id: Span,
+    pub(crate) uri: Span,
     pub(crate) method: u8,
     pub(crate) is_uri: bool,
 }
-const _: () = assert!(size_of::<AccessParts>() == 48);
+const _: () = assert!(size_of::<AccessParts>() == 40);
 
 #[repr(C)]
 #[derive(Clone, Copy, Default)]
 pub(crate) struct GeneralNameParts {
-    pub(crate) uri: Place,
-    pub(crate) size: usize,
+    pub(crate) uri: Span,
     pub(crate) is_uri: bool,
 }
-const _: () = assert!(size_of::<GeneralNameParts>() == 32);
+const _: () = assert!(size_of::<GeneralNameParts>() == 24);
 
 #[repr(C)]
 #[derive(Clone, Copy, Default)]
 pub(crate) struct CrlParts {
-    pub(crate) data: Place,
-    pub(crate) algorithm: Place,
-    pub(crate) signature: Place,
-    pub(crate) issuer: Place,
-    pub(crate) revoked_certs: Place,
+    pub(crate) data: Span,
+    pub(crate) algorithm: Span,
+    pub(crate) signature: Span,
+    pub(crate) issuer: Span,
+    pub(crate) revoked_certs: Span,
     pub(crate) this_update: Moment,
     pub(crate) next_update: Moment,
     pub(crate) crl_number: [u8; 20],
@@ -385,18 +406,17 @@ const _: () = assert!(size_of::<CrlParts>() == 192);
 pub(crate) struct RevokedCertificate {
     pub(crate) serial_number: [u8; 20],
     pub(crate) revocation_date: Moment,
-    pub(crate) size: usize,
 }
-const _: () = assert!(size_of::<RevokedCertificate>() == 64);
+const _: () = assert!(size_of::<RevokedCertificate>() == 56);
 
 #[repr(C)]
 #[derive(Clone, Copy, Default)]
 pub(crate) struct SignedObjectParts {
-    pub(crate) content_type: Place,
-    pub(crate) content: Place,
-    pub(crate) certificate: Place,
-    pub(crate) signed_attributes: Place,
-    pub(crate) signature: Place,
+    pub(crate) content_type: Span,
+    pub(crate) content: Span,
+    pub(crate) certificate: Span,
+    pub(crate) signed_attributes: Span,
+    pub(crate) signature: Span,
     pub(crate) signing_time: Moment,
     pub(crate) binary_signing_time: u64,
     pub(crate) message_digest: [u8; 32],
@@ -411,7 +431,7 @@ const _: () = assert!(size_of::<SignedObjectParts>() == 176);
 #[repr(C)]
 #[derive(Clone, Copy, Default)]
 pub(crate) struct ManifestParts {
-    pub(crate) files: Place,
+    pub(crate) files: Span,
     pub(crate) count: usize,
     pub(crate) this_update: Moment,
     pub(crate) next_update: Moment,
@@ -422,17 +442,16 @@ const _: () = assert!(size_of::<ManifestParts>() == 112);
 #[repr(C)]
 #[derive(Clone, Copy, Default)]
 pub(crate) struct ManifestFileParts {
-    pub(crate) name: Place,
-    pub(crate) size: usize,
+    pub(crate) name: Span,
     pub(crate) digest: [u8; 32],
 }
-const _: () = assert!(size_of::<ManifestFileParts>() == 56);
+const _: () = assert!(size_of::<ManifestFileParts>() == 48);
 
 #[repr(C)]
 #[derive(Clone, Copy, Default)]
 pub(crate) struct RoaParts {
-    pub(crate) v4: Place,
-    pub(crate) v6: Place,
+    pub(crate) v4: Span,
+    pub(crate) v6: Span,
     pub(crate) v4_count: usize,
     pub(crate) v6_count: usize,
     pub(crate) as_id: u32,
@@ -443,29 +462,20 @@ const _: () = assert!(size_of::<RoaParts>() == 56);
 #[derive(Clone, Copy, Default)]
 pub(crate) struct RoaAddressParts {
     pub(crate) address: [u8; 16],
-    pub(crate) size: usize,
     pub(crate) length: u8,
     pub(crate) max_length: u8,
     pub(crate) has_max_length: bool,
 }
-const _: () = assert!(size_of::<RoaAddressParts>() == 32);
+const _: () = assert!(size_of::<RoaAddressParts>() == 19);
 
 #[repr(C)]
 #[derive(Clone, Copy, Default)]
 pub(crate) struct AspaParts {
-    pub(crate) providers: Place,
+    pub(crate) providers: Span,
     pub(crate) count: usize,
     pub(crate) customer: u32,
 }
 const _: () = assert!(size_of::<AspaParts>() == 32);
-
-#[repr(C)]
-#[derive(Clone, Copy, Default)]
-pub(crate) struct AspaProviderParts {
-    pub(crate) size: usize,
-    pub(crate) number: u32,
-}
-const _: () = assert!(size_of::<AspaProviderParts>() == 16);
 
 #[repr(C)]
 #[derive(Clone, Copy, Default)]
@@ -506,12 +516,12 @@ const _: () = assert!(size_of::<HttpsParts>() == 32);
 extern "C" {
     pub(super) fn rpki_version() -> u32;
     pub(super) fn rpki_header(octets: *const u8, size: usize, out: *mut HeaderParts) -> Status;
-    pub(super) fn rpki_take(
-        octets: *const u8,
-        size: usize,
+    pub(super) fn rpki_take(rest: *mut Span, identifier: u8, contents: *mut Span) -> Status;
+    pub(super) fn rpki_take_optional(
+        rest: *mut Span,
         identifier: u8,
-        rest: *mut Place,
-        contents: *mut Place,
+        contents: *mut Span,
+        is_there: *mut bool,
     ) -> Status;
     pub(super) fn rpki_walk(octets: *const u8, size: usize, out: *mut Walked) -> Status;
     pub(super) fn rpki_index(
@@ -563,11 +573,11 @@ extern "C" {
         issuer: *const u8,
         issuer_size: usize,
     ) -> Status;
-    pub(super) fn rpki_access_description(octets: *const u8, size: usize, out: *mut AccessParts) -> Status;
-    pub(super) fn rpki_general_name(octets: *const u8, size: usize, out: *mut GeneralNameParts) -> Status;
-    pub(super) fn rpki_distribution_point(octets: *const u8, size: usize, out: *mut Place) -> Status;
+    pub(super) fn rpki_access_description(rest: *mut Span, out: *mut AccessParts) -> Status;
+    pub(super) fn rpki_general_name(rest: *mut Span, out: *mut GeneralNameParts) -> Status;
+    pub(super) fn rpki_distribution_point(octets: *const u8, size: usize, out: *mut Span) -> Status;
     pub(super) fn rpki_crl(octets: *const u8, size: usize, out: *mut CrlParts) -> Status;
-    pub(super) fn rpki_crl_entry(octets: *const u8, size: usize, out: *mut RevokedCertificate) -> Status;
+    pub(super) fn rpki_crl_entry(rest: *mut Span, out: *mut RevokedCertificate) -> Status;
     pub(super) fn rpki_crl_contains(octets: *const u8, size: usize, serial: *const [u8; 20], out: *mut bool) -> Status;
     pub(super) fn rpki_signed_object(
         octets: *const u8,
@@ -576,18 +586,18 @@ extern "C" {
         out: *mut SignedObjectParts,
     ) -> Status;
     pub(super) fn rpki_manifest(octets: *const u8, size: usize, out: *mut ManifestParts) -> Status;
-    pub(super) fn rpki_manifest_file(octets: *const u8, size: usize, out: *mut ManifestFileParts) -> Status;
+    pub(super) fn rpki_manifest_file(rest: *mut Span, out: *mut ManifestFileParts) -> Status;
     pub(super) fn rpki_manifest_names(
         octets: *const u8,
         size: usize,
-        room: *mut Place,
+        room: *mut Span,
         capacity: usize,
         out: *mut bool,
     ) -> Status;
     pub(super) fn rpki_roa(octets: *const u8, size: usize, strict: bool, out: *mut RoaParts) -> Status;
-    pub(super) fn rpki_roa_address(octets: *const u8, size: usize, family: u8, out: *mut RoaAddressParts) -> Status;
+    pub(super) fn rpki_roa_address(rest: *mut Span, family: u8, out: *mut RoaAddressParts) -> Status;
     pub(super) fn rpki_aspa(octets: *const u8, size: usize, out: *mut AspaParts) -> Status;
-    pub(super) fn rpki_aspa_provider(octets: *const u8, size: usize, out: *mut AspaProviderParts) -> Status;
+    pub(super) fn rpki_aspa_provider(rest: *mut Span, out: *mut u32) -> Status;
     pub(super) fn rpki_ip_blocks(
         octets: *const u8,
         size: usize,
@@ -628,6 +638,52 @@ extern "C" {
         capacity: usize,
         written: *mut usize,
     ) -> Status;
+    pub(super) fn rpki_anchor_verify(octets: *const u8, size: usize, key: *const u8, key_size: usize) -> Status;
+    pub(super) fn rpki_certificate_signed_by(
+        octets: *const u8,
+        size: usize,
+        issuer: *const u8,
+        issuer_size: usize,
+    ) -> Status;
+    pub(super) fn rpki_crl_issued_by(
+        octets: *const u8,
+        size: usize,
+        issuer: *const u8,
+        issuer_size: usize,
+        moment: *const Moment,
+    ) -> Status;
+    pub(super) fn rpki_object_verify(octets: *const u8, size: usize, strict: bool) -> Status;
+    pub(super) fn rpki_content_type(octets: *const u8, size: usize) -> u8;
+    pub(super) fn rpki_ip_settle(
+        octets: *const u8,
+        size: usize,
+        issuer: *const IpBlock,
+        issuer_count: usize,
+        blocks: *mut IpBlock,
+        capacity: usize,
+        count: *mut usize,
+    ) -> Status;
+    pub(super) fn rpki_as_settle(
+        octets: *const u8,
+        size: usize,
+        issuer: *const AsBlock,
+        issuer_count: usize,
+        blocks: *mut AsBlock,
+        capacity: usize,
+        count: *mut usize,
+    ) -> Status;
+    pub(super) fn rpki_roa_is_within(
+        octets: *const u8,
+        size: usize,
+        strict: bool,
+        blocks: *const IpBlock,
+        count: usize,
+    ) -> Status;
+    pub(super) fn rpki_aspa_is_within(octets: *const u8, size: usize, blocks: *const AsBlock, count: usize) -> Status;
+    pub(super) fn rpki_roa_signer(octets: *const u8, size: usize) -> Status;
+    pub(super) fn rpki_aspa_signer(octets: *const u8, size: usize) -> Status;
+    pub(super) fn rpki_manifest_inherits(octets: *const u8, size: usize) -> Status;
+    pub(super) fn rpki_manifest_file_is(digest: *const [u8; 32], octets: *const u8, size: usize) -> Status;
     pub(super) fn rpki_rsync_parse(text: *const u8, size: usize, out: *mut RsyncParts) -> Status;
     pub(super) fn rpki_rsync_relative_to(
         uri: *const u8,
@@ -867,6 +923,7 @@ extern "C" {
         written: *mut usize,
     ) -> Status;
     pub(super) fn rpki_time_seconds_on(moment: *const Moment, seconds: i64, out: *mut Moment) -> Status;
+    pub(super) fn rpki_time_of_seconds(seconds: i64, out: *mut Moment) -> Status;
     pub(super) fn rpki_validity_write(
         period: *const Period,
         out: *mut u8,

@@ -1,7 +1,11 @@
 //! Attestations of the providers of an autonomous system (draft-ietf-sidrops-aspa-profile, version 1).
 
 use crate::ffi::{self, Status};
+use crate::repository::cert::{Cert, ResourceCert};
+use crate::repository::error::ValidationError;
 use crate::repository::resources::Asn;
+use crate::repository::sigobj::SignedObject;
+use crate::repository::x509::Time;
 use bytes::Bytes;
 use std::error::Error;
 use std::fmt;
@@ -33,14 +37,21 @@ impl AspaError {
     }
 }
 
-impl fmt::Display for AspaError {
-    fn fmt(&self, f: &mut fmt::Formatter) -> fmt::Result {
-        f.write_str(match self {
+impl AspaError {
+    /// What is said of it.
+    pub(crate) fn text(&self) -> &'static str {
+        match self {
             AspaError::Attestation => "not an attestation of providers",
             AspaError::Version => "other version of the attestation",
             AspaError::Customer => "malformed customer",
             AspaError::Providers => "malformed list of providers",
-        })
+        }
+    }
+}
+
+impl fmt::Display for AspaError {
+    fn fmt(&self, f: &mut fmt::Formatter) -> fmt::Result {
+        f.write_str(self.text())
     }
 }
 
@@ -72,7 +83,7 @@ impl AsProviderAttestation {
     pub fn decode(octets: impl Into<Bytes>) -> Result<Self, AspaError> {
         let octets = octets.into();
         let found = ffi::aspa(&octets).map_err(AspaError::from_status)?;
-        let providers = ProviderAsSet { octets: octets.slice(found.providers.range()), len: found.count };
+        let providers = ProviderAsSet { octets: octets.slice(found.providers.range(&octets)), len: found.count };
         Ok(AsProviderAttestation { customer_as: Asn::from_u32(found.customer), provider_as_set: providers })
     }
 
@@ -138,8 +149,80 @@ impl Iterator for Providers<'_> {
         if self.rest.is_empty() {
             return None;
         }
-        let found = ffi::aspa_provider(self.rest).expect("a provider that was read");
-        self.rest = &self.rest[found.size..];
-        Some(Asn::from_u32(found.number))
+        let (number, rest) = ffi::aspa_provider(self.rest).expect("a provider that was read");
+        self.rest = rest;
+        Some(Asn::from_u32(number))
+    }
+}
+
+/// An attestation of providers: a signed object with its content (RFC 6488, draft-ietf-sidrops-aspa-profile).
+#[derive(Clone, Debug)]
+pub struct Aspa {
+    object: SignedObject,
+    content: AsProviderAttestation,
+}
+
+impl Aspa {
+    /// Reads a signed object, and its content, of this type; `strict` is as of [SignedObject::decode]. Nothing is verified.
+    ///
+    /// # Errors
+    /// The part that is wrong; the content is of another type.
+    pub fn decode(octets: impl Into<Bytes>, strict: bool) -> Result<Self, ValidationError> {
+        let object = SignedObject::decode(octets, strict)?;
+        object.must_be_of(ffi::TYPE_ASPA)?;
+        let content = AsProviderAttestation::decode(object.content().clone())?;
+        Ok(Aspa { object, content })
+    }
+
+    /// The signed object.
+    pub fn object(&self) -> &SignedObject {
+        &self.object
+    }
+
+    /// The certificate of its signer, of which nothing is verified.
+    pub fn cert(&self) -> &Cert {
+        self.object.cert()
+    }
+
+    /// The content, of which nothing is verified: [Aspa::process] gives it with the certificate that is.
+    pub fn content(&self) -> &AsProviderAttestation {
+        &self.content
+    }
+
+    /// Checks the object and its certificate, as [SignedObject::process] does;
+    /// and that the certificate lists AS numbers alone, and has the customer's.
+    ///
+    /// # Errors
+    /// The first that doesn't hold.
+    pub fn process<F>(
+        self,
+        issuer: &ResourceCert,
+        strict: bool,
+        check_crl: F,
+    ) -> Result<(ResourceCert, AsProviderAttestation), ValidationError>
+    where
+        F: FnOnce(&Cert) -> Result<(), ValidationError>,
+    {
+        self.process_at(issuer, strict, Time::now(), check_crl)
+    }
+
+    /// The same at this moment.
+    ///
+    /// # Errors
+    /// The first that doesn't hold.
+    pub fn process_at<F>(
+        self,
+        issuer: &ResourceCert,
+        strict: bool,
+        now: Time,
+        check_crl: F,
+    ) -> Result<(ResourceCert, AsProviderAttestation), ValidationError>
+    where
+        F: FnOnce(&Cert) -> Result<(), ValidationError>,
+    {
+        let (cert, octets) = self.object.process_at(issuer, strict, now, check_crl)?;
+        ffi::aspa_signer(&cert.to_bytes()).map_err(ValidationError::from_status)?;
+        ffi::aspa_is_within(&octets, &cert.as_resources().entries()).map_err(ValidationError::from_status)?;
+        Ok((cert, self.content))
     }
 }

@@ -11,9 +11,11 @@ use std::fmt;
 
 mod access;
 mod rule;
+mod valid;
 
 pub use access::{AccessDescription, AccessMethod};
 pub use rule::CertRule;
+pub use valid::ResourceCert;
 
 /// The part of a certificate that is wrong: of the signed data the leftmost; then of what is signed the leftmost; then
 /// that both algorithm identifiers are the same.
@@ -78,10 +80,10 @@ impl CertPart {
     }
 }
 
-/// What is said of a certificate of which this part is wrong.
-impl fmt::Display for CertPart {
-    fn fmt(&self, f: &mut fmt::Formatter) -> fmt::Result {
-        f.write_str(match self {
+impl CertPart {
+    /// What is said of it.
+    pub(crate) fn text(&self) -> &'static str {
+        match self {
             CertPart::Certificate => "not a certificate",
             CertPart::Signed => "malformed signed data",
             CertPart::Algorithm => "signature algorithm is not the RPKI's",
@@ -98,7 +100,14 @@ impl fmt::Display for CertPart {
             CertPart::ExtensionCount => "too many extensions",
             CertPart::ExtensionIdentifiers => "duplicate extension",
             CertPart::SameAlgorithm => "signature algorithms differ",
-        })
+        }
+    }
+}
+
+/// What is said of a certificate of which this part is wrong.
+impl fmt::Display for CertPart {
+    fn fmt(&self, f: &mut fmt::Formatter) -> fmt::Result {
+        f.write_str(self.text())
     }
 }
 
@@ -136,8 +145,8 @@ impl fmt::Display for CertError {
 impl Error for CertError {}
 
 /// A resource certificate: its octets, and what they say. Names and the key share the octets that it was read from.
-/// [Cert::inspect_ca] and its kin say whether the extensions are those of a profile; whether the signature is that of a
-/// key is not looked at.
+/// [Cert::inspect_ca] and its kin say whether the extensions are those of a profile; [Cert::validate_ta],
+/// [Cert::validate_ca] and their kin whether the certificate is valid, which a [ResourceCert] is.
 ///
 /// ```
 /// use rpki_proved::repository::cert::{Cert, CertPart};
@@ -172,18 +181,18 @@ impl Cert {
         let found =
             ffi::certificate(&octets).map_err(|_| CertError::of(&octets).expect("octets that were rejected"))?;
         // What the call has found to be names and a key is that.
-        let name = |place: ffi::Place| Name::read(octets.slice(place.range()));
-        let key = PublicKey::decode(octets.slice(found.public_key.range())).expect("a key that was read");
+        let part = |part: ffi::Span| octets.slice(part.range(&octets));
+        let key = PublicKey::decode(part(found.public_key)).expect("a key that was read");
         let algorithm = RpkiSignatureAlgorithm { has_parameters: found.has_parameters };
         Ok(Cert {
-            signed: octets.slice(found.data.range()),
-            signature: Signature::new(algorithm, octets.slice(found.signature.range())),
+            signed: part(found.data),
+            signature: Signature::new(algorithm, part(found.signature)),
             serial_number: Serial::from_array(found.serial_number).expect("a serial number that was read"),
-            issuer: name(found.issuer),
+            issuer: Name::read(part(found.issuer)),
             validity: Validity::from(found.validity),
-            subject: name(found.subject),
+            subject: Name::read(part(found.subject)),
             subject_public_key_info: key,
-            extensions: octets.slice(found.extensions.range()),
+            extensions: part(found.extensions),
             octets,
         })
     }
@@ -316,7 +325,7 @@ pub enum ExtensionError {
 }
 
 impl ExtensionError {
-    fn from_status(status: Status) -> ExtensionError {
+    pub(crate) fn from_status(status: Status) -> ExtensionError {
         match status {
             80 => ExtensionError::BasicConstraints,
             81 => ExtensionError::SubjectKeyIdentifier,
@@ -328,15 +337,22 @@ impl ExtensionError {
     }
 }
 
-impl fmt::Display for ExtensionError {
-    fn fmt(&self, f: &mut fmt::Formatter) -> fmt::Result {
-        f.write_str(match self {
+impl ExtensionError {
+    /// What is said of it.
+    pub(crate) fn text(&self) -> &'static str {
+        match self {
             ExtensionError::BasicConstraints => "wrong basic constraints",
             ExtensionError::SubjectKeyIdentifier => "wrong subject key identifier",
             ExtensionError::AuthorityKeyIdentifier => "wrong authority key identifier",
             ExtensionError::KeyUsage => "wrong key usage",
             ExtensionError::CertificatePolicies => "wrong certificate policies",
-        })
+        }
+    }
+}
+
+impl fmt::Display for ExtensionError {
+    fn fmt(&self, f: &mut fmt::Formatter) -> fmt::Result {
+        f.write_str(self.text())
     }
 }
 
@@ -415,7 +431,7 @@ pub struct KnownExtensions {
 impl KnownExtensions {
     fn of(octets: &Bytes, found: &ffi::KnownExtensions) -> KnownExtensions {
         let known = |it: ffi::KnownExtension| {
-            it.is_there.then(|| KnownExtension { critical: it.critical, octets: octets.slice(it.octets.range()) })
+            it.is_there.then(|| KnownExtension { critical: it.critical, octets: octets.slice(it.octets.range(octets)) })
         };
         let key = |it: ffi::KnownExtension, key: [u8; 20]| it.is_there.then(|| KeyIdentifier::from(key));
         KnownExtensions {

@@ -5,12 +5,15 @@ use crate::crypto::signature::{
     Provider, RpkiSignature, RpkiSignatureAlgorithm, Signature, SignatureVerificationError,
 };
 use crate::ffi::{self, Status};
+use crate::repository::cert::{Cert, ResourceCert};
+use crate::repository::error::ValidationError;
 use crate::repository::x509::{Name, Serial, Time};
 use crate::uri;
 use bytes::Bytes;
 use std::collections::HashSet;
 use std::error::Error;
 use std::fmt;
+use std::ops::Deref;
 
 /// The part of a revocation list that is wrong: of the signed data the leftmost; then of what is signed the leftmost;
 /// then that both algorithm identifiers are the same.
@@ -66,9 +69,10 @@ impl CrlError {
     }
 }
 
-impl fmt::Display for CrlError {
-    fn fmt(&self, f: &mut fmt::Formatter) -> fmt::Result {
-        f.write_str(match self {
+impl CrlError {
+    /// What is said of it.
+    pub(crate) fn text(&self) -> &'static str {
+        match self {
             CrlError::List => "not a revocation list",
             CrlError::Signed => "malformed signed data",
             CrlError::Algorithm => "signature algorithm is not the RPKI's",
@@ -82,14 +86,21 @@ impl fmt::Display for CrlError {
             CrlError::RevokedCerts => "malformed entry of a revoked certificate",
             CrlError::Extensions => "malformed extensions",
             CrlError::SameAlgorithm => "signature algorithms differ",
-        })
+        }
+    }
+}
+
+impl fmt::Display for CrlError {
+    fn fmt(&self, f: &mut fmt::Formatter) -> fmt::Result {
+        f.write_str(self.text())
     }
 }
 
 impl Error for CrlError {}
 
 /// A revocation list: its octets, and what they say. The issuer and the entries share the octets that it was read from.
-/// Whether the signature is that of a key, [Crl::verify_signature] says.
+/// Whether the signature is that of a key, [Crl::verify_signature] says; [Crl::validate], whether it is the current list
+/// of an authority.
 ///
 /// ```
 /// use rpki_proved::repository::crl::{Crl, CrlError};
@@ -121,13 +132,13 @@ impl Crl {
         let found = ffi::crl(&octets).map_err(CrlError::from_status)?;
         let algorithm = RpkiSignatureAlgorithm { has_parameters: found.has_parameters };
         Ok(Crl {
-            signed: octets.slice(found.data.range()),
-            signature: Signature::new(algorithm, octets.slice(found.signature.range())),
+            signed: octets.slice(found.data.range(&octets)),
+            signature: Signature::new(algorithm, octets.slice(found.signature.range(&octets))),
             // What the call has found to be a name is one.
-            issuer: Name::read(octets.slice(found.issuer.range())),
+            issuer: Name::read(octets.slice(found.issuer.range(&octets))),
             this_update: Time::from(found.this_update),
             next_update: Time::from(found.next_update),
-            revoked_certs: RevokedCertificates(octets.slice(found.revoked_certs.range())),
+            revoked_certs: RevokedCertificates(octets.slice(found.revoked_certs.range(&octets))),
             authority_key_identifier: KeyIdentifier::from(found.authority_key_identifier),
             crl_number: Serial::from_array(found.crl_number).expect("a number that was read"),
             serials: None,
@@ -222,6 +233,63 @@ impl Crl {
     }
 }
 
+impl Crl {
+    /// Checks that this is the list of the authority, and current now, by the machine's clock: it has the name and the
+    /// key identifier of the authority's certificate, that key has signed it, and now is not before this update, nor
+    /// after the next (RFC 5280 6.3.3, RFC 6487 5). Whether another list is newer is not looked at.
+    ///
+    /// # Errors
+    /// The first that doesn't hold; the issuer is no authority.
+    pub fn validate(self, issuer: &ResourceCert) -> Result<CurrentCrl, ValidationError> {
+        self.validate_at(issuer, Time::now())
+    }
+
+    /// The same at this moment.
+    ///
+    /// # Errors
+    /// Those of [Crl::validate].
+    pub fn validate_at(self, issuer: &ResourceCert, now: Time) -> Result<CurrentCrl, ValidationError> {
+        issuer.must_be_authority()?;
+        ffi::crl_issued_by(&self.octets, &issuer.to_bytes(), &now.moment()).map_err(ValidationError::from_status)?;
+        Ok(CurrentCrl(self))
+    }
+}
+
+/// The list of an authority, current when [Crl::validate] made this of it: nothing else does.
+#[derive(Clone, Debug)]
+pub struct CurrentCrl(Crl);
+
+impl CurrentCrl {
+    /// Checks that a certificate is of the list's issuer, by its name and its key identifier, and that the list hasn't
+    /// its serial number. So it is what [Roa::process](super::roa::Roa::process) and its kin ask of an end entity.
+    ///
+    /// # Errors
+    /// The first that doesn't hold.
+    pub fn verify_not_revoked(&self, cert: &Cert) -> Result<(), ValidationError> {
+        let is_of_key = cert.known_extensions()?.authority_key == Some(self.0.authority_key_identifier);
+        if !is_of_key || cert.issuer().as_slice() != self.0.issuer.as_slice() {
+            return Err(ValidationError::verification("revocation list is another authority's"));
+        }
+        if self.0.contains(cert.serial_number()) {
+            return Err(ValidationError::verification("certificate is revoked"));
+        }
+        Ok(())
+    }
+
+    /// The list.
+    pub fn into_crl(self) -> Crl {
+        self.0
+    }
+}
+
+impl Deref for CurrentCrl {
+    type Target = Crl;
+
+    fn deref(&self) -> &Crl {
+        &self.0
+    }
+}
+
 /// The certificates that are revoked, in the order of their list.
 #[derive(Clone, Debug)]
 pub struct RevokedCertificates(Bytes);
@@ -289,8 +357,8 @@ impl Iterator for Entries<'_> {
         if self.rest.is_empty() {
             return None;
         }
-        let found = ffi::crl_entry(self.rest).expect("an entry that was read");
-        self.rest = &self.rest[found.size..];
+        let (found, rest) = ffi::crl_entry(self.rest).expect("an entry that was read");
+        self.rest = rest;
         let user_certificate = Serial::from_array(found.serial_number).expect("a serial number that was read");
         Some(CrlEntry::new(user_certificate, Time::from(found.revocation_date)))
     }

@@ -1,6 +1,14 @@
 //! Why values are rejected.
 
 use crate::crypto::signature::SignatureVerificationError;
+use crate::ffi::{self, Status};
+use crate::repository::aspa::AspaError;
+use crate::repository::cert::{CertError, CertPart, CertRule, ExtensionError};
+use crate::repository::crl::CrlError;
+use crate::repository::manifest::ManifestError;
+use crate::repository::resources::InheritedResources;
+use crate::repository::roa::RoaError;
+use crate::repository::sigobj::{ObjectVerificationError, SignedObjectError};
 use crate::repository::x509::ValidityPeriodError;
 use crate::view::DecodeError;
 use std::error::Error;
@@ -109,6 +117,8 @@ impl Error for VerificationError {}
 pub enum ValidationError {
     /// It could not be read.
     Decode(DecodeError),
+    /// A part of it is malformed.
+    Malformed(ContentError),
     /// An inspection failed.
     Inspection(InspectionError),
     /// A verification failed.
@@ -137,6 +147,7 @@ impl fmt::Display for ValidationError {
     fn fmt(&self, f: &mut fmt::Formatter) -> fmt::Result {
         match self {
             ValidationError::Decode(error) => error.fmt(f),
+            ValidationError::Malformed(error) => error.fmt(f),
             ValidationError::Inspection(error) => error.fmt(f),
             ValidationError::Verification(error) => error.fmt(f),
         }
@@ -144,3 +155,105 @@ impl fmt::Display for ValidationError {
 }
 
 impl Error for ValidationError {}
+
+/// An error of a part of a value says that the part is malformed.
+macro_rules! malformed {
+    ($($name:ty),*) => {
+        $(
+            impl From<$name> for ValidationError {
+                fn from(error: $name) -> Self {
+                    ValidationError::Malformed(ContentError(error.text()))
+                }
+            }
+        )*
+    };
+}
+
+malformed!(CertPart, CrlError, SignedObjectError, ManifestError, RoaError, AspaError);
+
+impl From<CertError> for ValidationError {
+    fn from(error: CertError) -> Self {
+        error.part().into()
+    }
+}
+
+impl From<CertRule> for InspectionError {
+    fn from(error: CertRule) -> Self {
+        InspectionError(ContentError(error.text()))
+    }
+}
+
+impl From<ExtensionError> for InspectionError {
+    fn from(error: ExtensionError) -> Self {
+        InspectionError(ContentError(error.text()))
+    }
+}
+
+impl From<CertRule> for ValidationError {
+    fn from(error: CertRule) -> Self {
+        ValidationError::Inspection(error.into())
+    }
+}
+
+impl From<ExtensionError> for ValidationError {
+    fn from(error: ExtensionError) -> Self {
+        ValidationError::Inspection(error.into())
+    }
+}
+
+impl From<ObjectVerificationError> for ValidationError {
+    fn from(error: ObjectVerificationError) -> Self {
+        match error {
+            ObjectVerificationError::Certificate(rule) => rule.into(),
+            error => ValidationError::verification(error.text()),
+        }
+    }
+}
+
+impl From<SignatureVerificationError> for ValidationError {
+    fn from(error: SignatureVerificationError) -> Self {
+        ValidationError::Verification(error.into())
+    }
+}
+
+impl From<ValidityPeriodError> for ValidationError {
+    fn from(error: ValidityPeriodError) -> Self {
+        ValidationError::Verification(error.into())
+    }
+}
+
+impl From<InheritedResources> for ValidationError {
+    fn from(_: InheritedResources) -> Self {
+        ValidationError::verification("inherited resources")
+    }
+}
+
+impl ValidationError {
+    /// A verification failed, with this text.
+    pub(crate) fn verification(text: &'static str) -> Self {
+        ValidationError::Verification(VerificationError(ContentError(text)))
+    }
+
+    /// What a call that decides has found not to hold.
+    pub(crate) fn from_status(status: Status) -> Self {
+        ValidationError::verification(match status {
+            ffi::OUT_OF_MEMORY => return DecodeError::OutOfMemory.into(),
+            ffi::KEY_NOT_ACCEPTED => "key is not one that signatures are verified by",
+            ffi::BAD_SIGNATURE => "signature verification failed",
+            ffi::OTHER_DIGEST => "digest mismatch",
+            ffi::OTHER_KEY => "subject key identifier is not that of the key",
+            ffi::OTHER_RESOURCES => "resources that the issuer or the signer does not have",
+            ffi::NOT_INHERITED => "manifest with resources of its own",
+            ffi::OTHER_ANCHOR => "key is not that of the trust anchor locator",
+            ffi::OTHER_KINDS => "certificate with other kinds of resources than its object",
+            ffi::NO_ISSUER => "issuer is no certificate",
+            ffi::OTHER_ISSUER => "issuer has another name",
+            ffi::OTHER_AUTHORITY => "key of the issuer is another one",
+            ffi::TOO_NEW => "not yet current",
+            ffi::TOO_OLD => "no longer current",
+            80..=84 => return ExtensionError::from_status(status).into(),
+            85..=119 | 156..=158 => return CertRule::from_status(status).into(),
+            _ => "verification failed",
+        })
+    }
+}

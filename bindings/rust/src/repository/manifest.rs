@@ -1,8 +1,10 @@
 //! Manifests (RFC 9286 4.2).
 
 use crate::ffi::{self, Status};
-use crate::repository::sigobj::MessageDigest;
-use crate::repository::x509::{Serial, Time};
+use crate::repository::cert::{Cert, ResourceCert};
+use crate::repository::error::ValidationError;
+use crate::repository::sigobj::{MessageDigest, SignedObject};
+use crate::repository::x509::{Serial, Time, Validity};
 use crate::uri;
 use bytes::Bytes;
 use std::error::Error;
@@ -46,9 +48,10 @@ impl ManifestError {
     }
 }
 
-impl fmt::Display for ManifestError {
-    fn fmt(&self, f: &mut fmt::Formatter) -> fmt::Result {
-        f.write_str(match self {
+impl ManifestError {
+    /// What is said of it.
+    pub(crate) fn text(&self) -> &'static str {
+        match self {
             ManifestError::Manifest => "not a manifest",
             ManifestError::Number => "malformed number of the manifest",
             ManifestError::ThisUpdate => "malformed time of issue of the manifest",
@@ -57,7 +60,13 @@ impl fmt::Display for ManifestError {
             ManifestError::FileList => "malformed list of files",
             ManifestError::Order => "next update not after this update",
             ManifestError::FileTwice => "file listed twice",
-        })
+        }
+    }
+}
+
+impl fmt::Display for ManifestError {
+    fn fmt(&self, f: &mut fmt::Formatter) -> fmt::Result {
+        f.write_str(self.text())
     }
 }
 
@@ -93,10 +102,10 @@ impl ManifestContent {
             manifest_number: Serial::from_array(found.manifest_number).expect("a number that was read"),
             this_update: Time::from(found.this_update),
             next_update: Time::from(found.next_update),
-            files: octets.slice(found.files.range()),
+            files: octets.slice(found.files.range(&octets)),
             len: found.count,
         };
-        if !ffi::manifest_names_differ(&content.files, content.len) {
+        if !ffi::manifest_names_differ(&octets, content.len) {
             return Err(ManifestError::FileTwice);
         }
         Ok(content)
@@ -197,10 +206,11 @@ impl Iterator for Files {
         if self.rest.is_empty() {
             return None;
         }
-        let found = ffi::manifest_file(&self.rest).expect("a file that was read");
-        let entry = self.rest.split_to(found.size);
+        let (found, rest) = ffi::manifest_file(&self.rest).expect("a file that was read");
+        let size = self.rest.len() - rest.len();
+        let entry = self.rest.split_to(size);
         self.left -= 1;
-        Some(FileAndHash { file: entry.slice(found.name.range()), hash: MessageDigest::from(found.digest) })
+        Some(FileAndHash { file: entry.slice(found.name.range(&entry)), hash: MessageDigest::from(found.digest) })
     }
 
     fn size_hint(&self) -> (usize, Option<usize>) {
@@ -209,3 +219,109 @@ impl Iterator for Files {
 }
 
 impl ExactSizeIterator for Files {}
+
+/// A manifest: a signed object with its content (RFC 6488, RFC 9286).
+#[derive(Clone, Debug)]
+pub struct Manifest {
+    object: SignedObject,
+    content: ManifestContent,
+}
+
+impl Manifest {
+    /// Reads a signed object, and its content, of this type; `strict` is as of [SignedObject::decode]. Nothing is verified.
+    ///
+    /// # Errors
+    /// The part that is wrong; the content is of another type.
+    pub fn decode(octets: impl Into<Bytes>, strict: bool) -> Result<Self, ValidationError> {
+        let object = SignedObject::decode(octets, strict)?;
+        object.must_be_of(ffi::TYPE_MANIFEST)?;
+        let content = ManifestContent::decode(object.content().clone())?;
+        Ok(Manifest { object, content })
+    }
+
+    /// The signed object.
+    pub fn object(&self) -> &SignedObject {
+        &self.object
+    }
+
+    /// The certificate of its signer, of which nothing is verified.
+    pub fn cert(&self) -> &Cert {
+        self.object.cert()
+    }
+
+    /// The content, of which nothing is verified: [Manifest::process] gives it with the certificate that is.
+    pub fn content(&self) -> &ManifestContent {
+        &self.content
+    }
+
+    /// As [Manifest::process], where a revocation list is only known by the manifest: whether the certificate is revoked
+    /// is then to be asked, by [CurrentCrl::verify_not_revoked](super::crl::CurrentCrl::verify_not_revoked).
+    ///
+    /// # Errors
+    /// The first that doesn't hold.
+    pub fn validate(
+        self,
+        issuer: &ResourceCert,
+        strict: bool,
+    ) -> Result<(ResourceCert, ManifestContent), ValidationError> {
+        self.validate_at(issuer, strict, Time::now())
+    }
+
+    /// The same at this moment.
+    ///
+    /// # Errors
+    /// The first that doesn't hold.
+    pub fn validate_at(
+        self,
+        issuer: &ResourceCert,
+        strict: bool,
+        now: Time,
+    ) -> Result<(ResourceCert, ManifestContent), ValidationError> {
+        self.process_at(issuer, strict, now, |_| Ok(()))
+    }
+
+    /// Checks the object and its certificate, as [SignedObject::process] does;
+    /// that all resources of the certificate are its issuer's; and that now is not before this update, nor after the
+    /// next (RFC 9286 5.1, 6.3). Whether the files have their digests is for [MessageDigest::verify].
+    ///
+    /// # Errors
+    /// The first that doesn't hold.
+    pub fn process<F>(
+        self,
+        issuer: &ResourceCert,
+        strict: bool,
+        check_crl: F,
+    ) -> Result<(ResourceCert, ManifestContent), ValidationError>
+    where
+        F: FnOnce(&Cert) -> Result<(), ValidationError>,
+    {
+        self.process_at(issuer, strict, Time::now(), check_crl)
+    }
+
+    /// The same at this moment.
+    ///
+    /// # Errors
+    /// The first that doesn't hold.
+    pub fn process_at<F>(
+        self,
+        issuer: &ResourceCert,
+        strict: bool,
+        now: Time,
+        check_crl: F,
+    ) -> Result<(ResourceCert, ManifestContent), ValidationError>
+    where
+        F: FnOnce(&Cert) -> Result<(), ValidationError>,
+    {
+        let (cert, _) = self.object.process_at(issuer, strict, now, check_crl)?;
+        ffi::manifest_inherits(&cert.to_bytes()).map_err(ValidationError::from_status)?;
+        let period = Validity::new(self.content.this_update, self.content.next_update);
+        period.verify_at(now).map_err(|error| {
+            ValidationError::verification(if error.is_too_new() {
+                "manifest is not yet current"
+            } else {
+                "stale manifest"
+            })
+        })?;
+        Ok((cert, self.content))
+    }
+}

@@ -8,12 +8,15 @@ mod choice;
 mod encode;
 mod ip;
 mod numbers;
+mod set;
 
 pub use asn::{AsBlock, AsBlocks, AsRange, AsResources, Asn, ParseAsnError};
 pub use choice::{InheritedResources, ResourcesChoice};
 pub use ip::{
-    Addr, AddressFamily, AddressRange, FromStrError, IpBlock, IpBlocks, IpResources, Ipv4Blocks, Ipv6Blocks, Prefix,
+    Addr, AddressFamily, AddressRange, FromStrError, IpBlock, IpBlocks, IpResources, Ipv4Blocks, Ipv6Blocks,
+    OtherFamily, Prefix,
 };
+pub use set::ResourceSet;
 
 use crate::ffi;
 use crate::view::DecodeError;

@@ -1,7 +1,11 @@
 //! Route origin attestations (RFC 9582 4).
 
 use crate::ffi::{self, Status};
+use crate::repository::cert::{Cert, ResourceCert};
+use crate::repository::error::ValidationError;
 use crate::repository::resources::{Addr, AddressFamily, Asn, Prefix};
+use crate::repository::sigobj::SignedObject;
+use crate::repository::x509::Time;
 use bytes::Bytes;
 use std::error::Error;
 use std::fmt;
@@ -30,13 +34,20 @@ impl RoaError {
     }
 }
 
-impl fmt::Display for RoaError {
-    fn fmt(&self, f: &mut fmt::Formatter) -> fmt::Result {
-        f.write_str(match self {
+impl RoaError {
+    /// What is said of it.
+    pub(crate) fn text(&self) -> &'static str {
+        match self {
             RoaError::Attestation => "not a route origin attestation",
             RoaError::AsId => "malformed AS number",
             RoaError::AddressBlocks => "malformed list of prefixes",
-        })
+        }
+    }
+}
+
+impl fmt::Display for RoaError {
+    fn fmt(&self, f: &mut fmt::Formatter) -> fmt::Result {
+        f.write_str(self.text())
     }
 }
 
@@ -73,7 +84,7 @@ impl RouteOriginAttestation {
         let octets = octets.into();
         let found = ffi::roa(&octets, strict).map_err(RoaError::from_status)?;
         let addresses =
-            |family, place: ffi::Place, len| RoaIpAddresses { family, octets: octets.slice(place.range()), len };
+            |family, part: ffi::Span, len| RoaIpAddresses { family, octets: octets.slice(part.range(&octets)), len };
         Ok(RouteOriginAttestation {
             as_id: Asn::from_u32(found.as_id),
             v4_addrs: addresses(AddressFamily::Ipv4, found.v4, found.v4_count),
@@ -162,8 +173,8 @@ impl Iterator for Addresses<'_> {
             AddressFamily::Ipv4 => ffi::IPV4,
             AddressFamily::Ipv6 => ffi::IPV6,
         };
-        let found = ffi::roa_address(self.rest, family).expect("a prefix that was read");
-        self.rest = &self.rest[found.size..];
+        let (found, rest) = ffi::roa_address(self.rest, family).expect("a prefix that was read");
+        self.rest = rest;
         let [a, b, c, d, ..] = found.address;
         let address = match self.family {
             AddressFamily::Ipv4 => Addr::from(Ipv4Addr::new(a, b, c, d)),
@@ -254,5 +265,78 @@ impl fmt::Display for FriendlyRoaIpAddress {
             Some(length) => write!(f, "-{length}"),
             None => Ok(()),
         }
+    }
+}
+
+/// A route origin attestation: a signed object with its content (RFC 6488, RFC 9582).
+#[derive(Clone, Debug)]
+pub struct Roa {
+    object: SignedObject,
+    content: RouteOriginAttestation,
+}
+
+impl Roa {
+    /// Reads a signed object, and its content, of this type; `strict` is as of [SignedObject::decode], and of
+    /// [RouteOriginAttestation::decode]. Nothing is verified.
+    ///
+    /// # Errors
+    /// The part that is wrong; the content is of another type.
+    pub fn decode(octets: impl Into<Bytes>, strict: bool) -> Result<Self, ValidationError> {
+        let object = SignedObject::decode(octets, strict)?;
+        object.must_be_of(ffi::TYPE_ROA)?;
+        let content = RouteOriginAttestation::decode(object.content().clone(), strict)?;
+        Ok(Roa { object, content })
+    }
+
+    /// The signed object.
+    pub fn object(&self) -> &SignedObject {
+        &self.object
+    }
+
+    /// The certificate of its signer, of which nothing is verified.
+    pub fn cert(&self) -> &Cert {
+        self.object.cert()
+    }
+
+    /// The content, of which nothing is verified: [Roa::process] gives it with the certificate that is.
+    pub fn content(&self) -> &RouteOriginAttestation {
+        &self.content
+    }
+
+    /// Checks the object and its certificate, as [SignedObject::process] does;
+    /// and that the certificate lists addresses alone, and has all of the content's prefixes (RFC 9582 5).
+    ///
+    /// # Errors
+    /// The first that doesn't hold.
+    pub fn process<F>(
+        self,
+        issuer: &ResourceCert,
+        strict: bool,
+        check_crl: F,
+    ) -> Result<(ResourceCert, RouteOriginAttestation), ValidationError>
+    where
+        F: FnOnce(&Cert) -> Result<(), ValidationError>,
+    {
+        self.process_at(issuer, strict, Time::now(), check_crl)
+    }
+
+    /// The same at this moment.
+    ///
+    /// # Errors
+    /// The first that doesn't hold.
+    pub fn process_at<F>(
+        self,
+        issuer: &ResourceCert,
+        strict: bool,
+        now: Time,
+        check_crl: F,
+    ) -> Result<(ResourceCert, RouteOriginAttestation), ValidationError>
+    where
+        F: FnOnce(&Cert) -> Result<(), ValidationError>,
+    {
+        let (cert, octets) = self.object.process_at(issuer, strict, now, check_crl)?;
+        ffi::roa_signer(&cert.to_bytes()).map_err(ValidationError::from_status)?;
+        ffi::roa_is_within(&octets, false, &cert.ip_entries()).map_err(ValidationError::from_status)?;
+        Ok((cert, self.content))
     }
 }

@@ -1,10 +1,11 @@
 //! Signed objects (RFC 5652, in the profile of RFC 6488).
 
 use crate::crypto::keys::KeyIdentifier;
-use crate::crypto::signature::{Provider, RpkiSignature, RpkiSignatureAlgorithm, RsaProvider, Signature};
+use crate::crypto::signature::{Provider, RpkiSignature, RpkiSignatureAlgorithm, Signature};
 use crate::ffi::{self, Status};
 use crate::oid::Oid;
-use crate::repository::cert::{Cert, CertPart};
+use crate::repository::cert::{Cert, CertPart, CertRule, ResourceCert};
+use crate::repository::error::ValidationError;
 use crate::repository::x509::Time;
 use bytes::Bytes;
 use std::error::Error;
@@ -71,9 +72,10 @@ impl SignedObjectError {
     }
 }
 
-impl fmt::Display for SignedObjectError {
-    fn fmt(&self, f: &mut fmt::Formatter) -> fmt::Result {
-        f.write_str(match self {
+impl SignedObjectError {
+    /// What is said of it.
+    pub(crate) fn text(&self) -> &'static str {
+        match self {
             SignedObjectError::Object => "not a signed object",
             SignedObjectError::ObjectType => "type is not that of signed data",
             SignedObjectError::SignedData => "malformed signed object",
@@ -81,7 +83,7 @@ impl fmt::Display for SignedObjectError {
             SignedObjectError::DigestAlgorithms => "digest algorithms are not SHA-256 alone",
             SignedObjectError::Content => "malformed content",
             SignedObjectError::Certificates => "missing certificate",
-            SignedObjectError::Certificate(part) => return part.fmt(f),
+            SignedObjectError::Certificate(part) => part.text(),
             SignedObjectError::Signers => "no signers, or more than these",
             SignedObjectError::Signer => "not one signer",
             SignedObjectError::SignerVersion => "other version of the signer",
@@ -90,7 +92,13 @@ impl fmt::Display for SignedObjectError {
             SignedObjectError::SignedAttrs => "signed attributes that no signed object has",
             SignedObjectError::SignatureAlgorithm => "other algorithm of the signature",
             SignedObjectError::Signature => "malformed signature of the object",
-        })
+        }
+    }
+}
+
+impl fmt::Display for SignedObjectError {
+    fn fmt(&self, f: &mut fmt::Formatter) -> fmt::Result {
+        f.write_str(self.text())
     }
 }
 
@@ -104,6 +112,14 @@ impl MessageDigest {
     /// The digest of the octets.
     pub fn of(octets: &[u8]) -> MessageDigest {
         MessageDigest(ffi::sha256(octets))
+    }
+
+    /// Checks that these octets have this digest (RFC 9286 6.5).
+    ///
+    /// # Errors
+    /// They have another.
+    pub fn verify(&self, octets: impl AsRef<[u8]>) -> Result<(), ValidationError> {
+        ffi::manifest_file_is(&self.0, octets.as_ref()).map_err(ValidationError::from_status)
     }
 
     /// The thirty-two octets.
@@ -169,16 +185,38 @@ pub enum ObjectVerificationError {
     SubjectKeyIdentifier,
     /// The signature is not by the key of the certificate.
     Signature,
+    /// The certificate breaks this rule of the profile of end entities.
+    Certificate(CertRule),
 }
 
-impl fmt::Display for ObjectVerificationError {
-    fn fmt(&self, f: &mut fmt::Formatter) -> fmt::Result {
-        f.write_str(match self {
+impl ObjectVerificationError {
+    fn from_status(status: Status) -> ObjectVerificationError {
+        match status {
+            ffi::OTHER_TYPE => ObjectVerificationError::ContentType,
+            ffi::OTHER_DIGEST => ObjectVerificationError::MessageDigest,
+            // Of an object that was read all others but these are of the extensions of its certificate.
+            ffi::KEY_NOT_ACCEPTED | ffi::BAD_SIGNATURE => ObjectVerificationError::Signature,
+            _ => ObjectVerificationError::SubjectKeyIdentifier,
+        }
+    }
+}
+
+impl ObjectVerificationError {
+    /// What is said of it.
+    pub(crate) fn text(&self) -> &'static str {
+        match self {
             ObjectVerificationError::ContentType => "content type mismatch",
             ObjectVerificationError::MessageDigest => "message digest mismatch",
             ObjectVerificationError::SubjectKeyIdentifier => "subject key identifier mismatch",
             ObjectVerificationError::Signature => "signature verification failed",
-        })
+            ObjectVerificationError::Certificate(rule) => rule.text(),
+        }
+    }
+}
+
+impl fmt::Display for ObjectVerificationError {
+    fn fmt(&self, f: &mut fmt::Formatter) -> fmt::Result {
+        f.write_str(self.text())
     }
 }
 
@@ -214,7 +252,7 @@ impl SignedObject {
     pub fn decode(octets: impl Into<Bytes>, strict: bool) -> Result<Self, SignedObjectError> {
         let octets = octets.into();
         let found = ffi::signed_object(&octets, strict).map_err(SignedObjectError::from_status)?;
-        let part = |place: ffi::Place| octets.slice(place.range());
+        let part = |part: ffi::Span| octets.slice(part.range(&octets));
         let algorithm = RpkiSignatureAlgorithm { has_parameters: found.has_parameters };
         Ok(SignedObject {
             content_type: Oid(part(found.content_type)),
@@ -286,17 +324,19 @@ impl SignedObject {
 
     /// Checks that the key of the certificate has signed the content: its type and its digest by SHA-256, which is
     /// computed, are those that are signed, the signer's identifier is the certificate's subject key identifier, and
-    /// the signature of the attributes is by the certificate's key, as [RsaProvider] says (RFC 6488 3, RFC 5652 5.4,
-    /// 5.6). Whose certificate it is, is not looked at, nor whether it is that of an end entity
-    /// (`Cert::inspect_ee`).
+    /// the signature of the attributes is by the certificate's key (RFC 6488 3, RFC 5652 5.4, 5.6), by one proved call;
+    /// then that the certificate is that of an end entity, as [Cert::inspect_ee] says without being strict. Who issued
+    /// the certificate is not looked at: [SignedObject::process] does that.
     ///
     /// # Errors
     /// The first that doesn't hold.
     pub fn verify_signature(&self) -> Result<(), ObjectVerificationError> {
-        self.verify_signature_with(&RsaProvider)
+        // Who is not strict reads each object that was read here.
+        ffi::object_verify(&self.octets, false).map_err(ObjectVerificationError::from_status)?;
+        self.cert.inspect_ee(false).map_err(ObjectVerificationError::Certificate)
     }
 
-    /// The same, as this provider says of the signature.
+    /// The same, as this provider says of the digest and of the signature.
     ///
     /// # Errors
     /// The first that doesn't hold.
@@ -304,7 +344,7 @@ impl SignedObject {
         if !self.is_type_signed {
             return Err(ObjectVerificationError::ContentType);
         }
-        if self.signed_attrs.message_digest != MessageDigest::of(&self.content) {
+        if self.signed_attrs.message_digest.0 != provider.sha256(&self.content) {
             return Err(ObjectVerificationError::MessageDigest);
         }
         let known = self.cert.known_extensions().map_err(|_| ObjectVerificationError::SubjectKeyIdentifier)?;
@@ -314,6 +354,72 @@ impl SignedObject {
         self.cert
             .subject_public_key_info()
             .verify_with(provider, &self.signed_attrs.encode_verify(), &self.signature)
-            .map_err(|_| ObjectVerificationError::Signature)
+            .map_err(|_| ObjectVerificationError::Signature)?;
+        self.cert.inspect_ee(false).map_err(ObjectVerificationError::Certificate)
+    }
+
+    /// Checks that the key of the certificate has signed the content, and that the authority has issued the certificate,
+    /// which is valid now and that of an end entity (RFC 6488 3), as [Cert::validate_ee] says. Whether it is revoked,
+    /// and what the content says, is not looked at.
+    ///
+    /// # Errors
+    /// The first that doesn't hold.
+    pub fn validate(self, issuer: &ResourceCert, strict: bool) -> Result<ResourceCert, ValidationError> {
+        self.validate_at(issuer, strict, Time::now())
+    }
+
+    /// The same at this moment.
+    ///
+    /// # Errors
+    /// The first that doesn't hold.
+    pub fn validate_at(self, issuer: &ResourceCert, strict: bool, now: Time) -> Result<ResourceCert, ValidationError> {
+        self.verify_signature()?;
+        self.cert.validate_ee_at(issuer, strict, now)
+    }
+
+    /// As [SignedObject::validate], with the content; and `check_crl` says whether the certificate is revoked, as
+    /// [CurrentCrl::verify_not_revoked](super::crl::CurrentCrl::verify_not_revoked) does.
+    ///
+    /// # Errors
+    /// The first that doesn't hold.
+    pub fn process<F>(
+        self,
+        issuer: &ResourceCert,
+        strict: bool,
+        check_crl: F,
+    ) -> Result<(ResourceCert, Bytes), ValidationError>
+    where
+        F: FnOnce(&Cert) -> Result<(), ValidationError>,
+    {
+        self.process_at(issuer, strict, Time::now(), check_crl)
+    }
+
+    /// The same at this moment.
+    ///
+    /// # Errors
+    /// The first that doesn't hold.
+    pub fn process_at<F>(
+        self,
+        issuer: &ResourceCert,
+        strict: bool,
+        now: Time,
+        check_crl: F,
+    ) -> Result<(ResourceCert, Bytes), ValidationError>
+    where
+        F: FnOnce(&Cert) -> Result<(), ValidationError>,
+    {
+        let content = self.content.clone();
+        let cert = self.validate_at(issuer, strict, now)?;
+        check_crl(&cert)?;
+        Ok((cert, content))
+    }
+
+    /// # Errors
+    /// The content is of another type than this one, a number of the library.
+    pub(crate) fn must_be_of(&self, number: u8) -> Result<(), ValidationError> {
+        if ffi::content_type(self.content_type.0.as_ref()) != number {
+            return Err(ValidationError::verification("content of another type"));
+        }
+        Ok(())
     }
 }

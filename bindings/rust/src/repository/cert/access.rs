@@ -65,38 +65,40 @@ fn in_sequence(octets: &Bytes) -> Result<Bytes, DecodeError> {
 
 /// All of the access descriptions that the octets of an extension are, in order; there is one at least.
 fn descriptions(extension: &KnownExtension) -> Result<Vec<AccessDescription>, DecodeError> {
-    let mut rest = in_sequence(&extension.octets)?;
-    if rest.is_empty() {
+    let octets = in_sequence(&extension.octets)?;
+    if octets.is_empty() {
         return Err(DecodeError::Content);
     }
+    let mut rest = &octets[..];
     let mut all = Vec::new();
     while !rest.is_empty() {
-        let found = ffi::access_description(&rest).map_err(DecodeError::from_status)?;
+        let (found, following) = ffi::access_description(rest).map_err(DecodeError::from_status)?;
         all.push(AccessDescription {
             method: AccessMethod::of(found.method),
-            id: rest.slice(found.id.range()),
-            location: found.is_uri.then(|| rest.slice(found.uri.range())),
+            id: octets.slice(found.id.range(&octets)),
+            location: found.is_uri.then(|| octets.slice(found.uri.range(&octets))),
         });
-        rest = rest.slice(found.size..);
+        rest = following;
     }
     Ok(all)
 }
 
 /// The texts of the URIs of a distribution point, in order: there is one at least, and no name of another form.
 fn point_uris(extension: &KnownExtension) -> Result<Vec<Bytes>, DecodeError> {
-    let place = ffi::distribution_point(&extension.octets).map_err(DecodeError::from_status)?;
-    let mut rest = extension.octets.slice(place.range());
+    let octets = &extension.octets;
+    let names = ffi::distribution_point(octets).map_err(DecodeError::from_status)?;
+    let mut rest = names.of(octets);
     if rest.is_empty() {
         return Err(DecodeError::Content);
     }
     let mut all = Vec::new();
     while !rest.is_empty() {
-        let found = ffi::general_name(&rest).map_err(DecodeError::from_status)?;
+        let (found, following) = ffi::general_name(rest).map_err(DecodeError::from_status)?;
         if !found.is_uri {
             return Err(DecodeError::Unexpected);
         }
-        all.push(rest.slice(found.uri.range()));
-        rest = rest.slice(found.size..);
+        all.push(octets.slice(found.uri.range(octets)));
+        rest = following;
     }
     Ok(all)
 }

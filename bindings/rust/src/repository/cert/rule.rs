@@ -89,7 +89,7 @@ pub enum CertRule {
 }
 
 impl CertRule {
-    pub(super) fn from_status(status: Status) -> CertRule {
+    pub(crate) fn from_status(status: Status) -> CertRule {
         match status {
             85 => CertRule::SerialNumber,
             86 => CertRule::CriticalExtensions,
@@ -134,9 +134,10 @@ impl CertRule {
     }
 }
 
-impl fmt::Display for CertRule {
-    fn fmt(&self, f: &mut fmt::Formatter) -> fmt::Result {
-        f.write_str(match self {
+impl CertRule {
+    /// What is said of it.
+    pub(crate) fn text(&self) -> &'static str {
+        match self {
             CertRule::SerialNumber => "serial number is 0",
             CertRule::CriticalExtensions => "unknown critical extension",
             CertRule::Issuer => "issuer has no name of the RPKI",
@@ -175,7 +176,13 @@ impl fmt::Display for CertRule {
             CertRule::IssuerSize => "value of the issuer is not of 1 to 64 characters",
             CertRule::SubjectSize => "value of the subject is not of 1 to 64 characters",
             CertRule::RouterSerialNumber => "serial number of the subject is no PrintableString",
-        })
+        }
+    }
+}
+
+impl fmt::Display for CertRule {
+    fn fmt(&self, f: &mut fmt::Formatter) -> fmt::Result {
+        f.write_str(self.text())
     }
 }
 

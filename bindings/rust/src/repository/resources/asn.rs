@@ -247,6 +247,18 @@ impl AsBlocks {
         self.0.is_empty()
     }
 
+    /// How the blocks are passed to the library.
+    pub(crate) fn entries(&self) -> Vec<ffi::AsBlock> {
+        let entry =
+            |block: AsBlock| ffi::AsBlock { low: block.min().into(), high: block.max().into(), is_inherited: false };
+        self.iter().map(entry).collect()
+    }
+
+    /// The numbers of these entries, none of which is inherited.
+    pub(crate) fn of_entries(entries: &[ffi::AsBlock]) -> Self {
+        AsBlocks(entries.iter().map(|entry| (entry.low.into(), entry.high.into())).collect())
+    }
+
     /// A block as a number or a range (RFC 3779 3.2.3.6 to 3.2.3.8).
     fn encode_block((low, high): &Ends) -> Bytes {
         if low == high {
@@ -337,7 +349,7 @@ impl AsResources {
         if entries.iter().any(|entry| entry.is_inherited) {
             return Ok(AsResources::inherit());
         }
-        Ok(AsResources::blocks(AsBlocks(entries.iter().map(|entry| (entry.low.into(), entry.high.into())).collect())))
+        Ok(AsResources::blocks(AsBlocks::of_entries(&entries)))
     }
 
     /// The contents of the extension (RFC 3779 3.2.3), of which [decode](AsResources::decode) makes these resources; `None`

@@ -28,6 +28,18 @@ impl fmt::Display for FromStrError {
 
 impl Error for FromStrError {}
 
+/// Addresses of IP version 6 where those of IP version 4 are asked for.
+#[derive(Clone, Copy, Debug, PartialEq, Eq)]
+pub struct OtherFamily;
+
+impl fmt::Display for OtherFamily {
+    fn fmt(&self, f: &mut fmt::Formatter) -> fmt::Result {
+        f.write_str("block of another family of addresses")
+    }
+}
+
+impl Error for OtherFamily {}
+
 /// A family of addresses (RFC 3779 2.2.3.3).
 #[derive(Clone, Copy, Debug, PartialEq, Eq, Hash)]
 pub enum AddressFamily {
@@ -263,6 +275,9 @@ impl Prefix {
 
     fn read(family: AddressFamily, s: &str) -> Result<Self, FromStrError> {
         let (address, len) = s.split_once('/').ok_or(FromStrError(()))?;
+        if !len.bytes().all(|digit| digit.is_ascii_digit()) {
+            return Err(FromStrError(()));
+        }
         let len = len.parse().ok().filter(|len| *len <= family.width()).ok_or(FromStrError(()))?;
         Ok(Prefix::new(family.address(address)?, len))
     }
@@ -501,6 +516,20 @@ impl IpBlocks {
         Shown(AddressFamily::Ipv6, self.iter().collect::<Vec<_>>())
     }
 
+    /// How the blocks are passed to the library, as of this family.
+    pub(crate) fn entries(&self, family: AddressFamily) -> impl Iterator<Item = ffi::IpBlock> + '_ {
+        self.0.iter().map(move |(low, high)| family.entry((Addr(*low), Addr(*high))))
+    }
+
+    /// The addresses of these entries, which are of one family; none is inherited.
+    pub(crate) fn of_entries(family: AddressFamily, entries: &[ffi::IpBlock]) -> Self {
+        let ends = |entry: &ffi::IpBlock| {
+            let (low, high) = (u128::from_be_bytes(entry.low), u128::from_be_bytes(entry.high));
+            (low, family.last(Addr(high)).0)
+        };
+        IpBlocks(entries.iter().map(ends).collect())
+    }
+
     fn read(family: AddressFamily, s: &str) -> Result<Self, FromStrError> {
         if s.trim().is_empty() {
             return Ok(IpBlocks::empty());
@@ -592,19 +621,39 @@ impl IpResources {
     /// The contents of the extension (RFC 3779 2.2.3), of which [decode_families](IpResources::decode_families) makes these
     /// resources; `None` where neither family has any.
     ///
+    /// # Errors
+    /// A block of `v4` begins or ends within an address of IP version 4: one of its ends differs in bits behind the
+    /// first 32 from the first and the last such address.
+    ///
     /// ```
-    /// use rpki_proved::repository::resources::{IpResources, Ipv4Blocks};
+    /// use rpki_proved::repository::resources::{IpResources, Ipv4Blocks, Ipv6Blocks, OtherFamily};
     ///
     /// let v4 = IpResources::blocks("10.0.0.0/8".parse::<Ipv4Blocks>()?.into());
-    /// let octets = IpResources::encode_families(&v4, &IpResources::inherit()).unwrap();
+    /// let octets = IpResources::encode_families(&v4, &IpResources::inherit())?.unwrap();
     /// assert_eq!(IpResources::decode_families(&octets), Ok((Some(v4), Some(IpResources::inherit()))));
-    /// # Ok::<(), rpki_proved::repository::resources::FromStrError>(())
+    ///
+    /// let v6 = IpResources::blocks("2001:db8::-2001:db8::5".parse::<Ipv6Blocks>()?.into());
+    /// assert_eq!(IpResources::encode_families(&v6, &v6), Err(OtherFamily));
+    /// # Ok::<(), Box<dyn std::error::Error>>(())
     /// ```
-    pub fn encode_families(v4: &Self, v6: &Self) -> Option<Bytes> {
+    pub fn encode_families(v4: &Self, v6: &Self) -> Result<Option<Bytes>, OtherFamily> {
+        if !v4.is_of(AddressFamily::Ipv4) {
+            return Err(OtherFamily);
+        }
         let families = [(AddressFamily::Ipv4, v4), (AddressFamily::Ipv6, v6)];
         let named: Vec<Bytes> =
             families.into_iter().filter_map(|(family, found)| found.encode_family(family)).collect();
-        (!named.is_empty()).then(|| value(SEQUENCE, &named.concat()))
+        Ok((!named.is_empty()).then(|| value(SEQUENCE, &named.concat())))
+    }
+
+    /// Whether each block begins with the first bit of an address of the family, and ends with the last of one.
+    fn is_of(&self, family: AddressFamily) -> bool {
+        let width = family.width();
+        let is_of = |(low, high): &Ends| Addr(*low).to_min(width).0 == *low && Addr(*high).to_max(width).0 == *high;
+        match &self.0 {
+            ResourcesChoice::Blocks(blocks) => blocks.0.iter().all(is_of),
+            _ => true,
+        }
     }
 
     /// The name of a family, and its addresses.
@@ -620,11 +669,7 @@ impl IpResources {
         if first.is_inherited {
             return Some(IpResources::inherit());
         }
-        let ends = |entry: &ffi::IpBlock| {
-            let (low, high) = (u128::from_be_bytes(entry.low), u128::from_be_bytes(entry.high));
-            (low, family.last(Addr(high)).0)
-        };
-        Some(IpResources::blocks(IpBlocks(entries.iter().map(ends).collect())))
+        Some(IpResources::blocks(IpBlocks::of_entries(family, entries)))
     }
 
     /// None.

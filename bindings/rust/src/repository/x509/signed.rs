@@ -65,9 +65,9 @@ impl SignedData {
         let octets = octets.into();
         let found = ffi::signed_data(&octets).map_err(DecodeError::from_status)?;
         let algorithm = RpkiSignatureAlgorithm { has_parameters: found.has_parameters };
-        let signature = Signature::new(algorithm, octets.slice(found.signature.range()));
+        let signature = Signature::new(algorithm, octets.slice(found.signature.range(&octets)));
         let is_written = found.has_parameters && found.unused == 0;
-        Ok(SignedData { data: octets.slice(found.data.range()), is_written, signature, octets })
+        Ok(SignedData { data: octets.slice(found.data.range(&octets)), is_written, signature, octets })
     }
 
     /// The value, as exactly the octets that are signed.
