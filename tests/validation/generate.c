@@ -20,6 +20,7 @@
 #include <sys/stat.h>
 
 #define POOL 64
+#define FOREVER "360101000000Z"
 
 struct buf {
     uint8_t *at;
@@ -128,7 +129,7 @@ static struct buf extension(const char *oid, int critical, struct buf value) {
 }
 static struct buf name(const char *cn) { return seq(tlv(0x31, seq(cat(2, hexed("0603550403"), text(0x13, cn))))); }
 static struct buf access(const char *oid, const char *uri) { return seq(cat(2, tlv(6, hexed(oid)), text(0x86, uri))); }
-static struct buf period(void) { return seq(cat(2, text(0x17, "260101000000Z"), text(0x17, "360101000000Z"))); }
+static struct buf period(void) { return seq(cat(2, text(0x17, "260101000000Z"), text(0x17, FOREVER))); }
 
 static struct buf prefix(uint32_t address, int length) {
     uint8_t o[5] = {0, (uint8_t)(address >> 24), (uint8_t)(address >> 16), (uint8_t)(address >> 8), (uint8_t)address};
@@ -165,7 +166,7 @@ static struct buf certificate(const struct key *subject, const char *cn, const s
     return seq(cat(3, tbs, sha256rsa(), bits(out)));
 }
 
-static const char *list_until = "360101000000Z", *manifest_until = "20360101000000Z";
+static const char *list_until = FOREVER, *manifest_until = "20360101000000Z";
 
 static struct buf list(const struct key *issuer, const char *cn, int revoked) {
     struct buf tbs, s, entries = {malloc(1), 0};
@@ -410,6 +411,7 @@ int main(int count, char **words) {
             free(x.at);
         }
         listed = cat(3, listed, entries[i].at ? entries[i] : raw("", 0), raw("", 0));
+        if (getenv("LISTOF")) list_until = i == atoi(getenv("LISTOF")) ? getenv("LISTUNTIL") : FOREVER;
         list_octets = list(&keys[i], cn, i ? 3 : 0);
         keep(dir, "l.crl", list_octets);
         listed = cat(2, listed, entry("l.crl", list_octets));

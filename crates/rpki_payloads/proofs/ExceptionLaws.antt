@@ -1,18 +1,22 @@
 -- Payloads with local exceptions, under one locator after another.
 use Rattle.std.proofs.Common.{◌≡◌, ◌↔◌, ℕ, ◌+◌, ◌<◌, List, [], ◌∷◌, ◌++◌, length, get_or, take, sym, subst}
 use Rattle.std.proofs.lemmas.List.{take_more}
+use Rattle.std.specs.Prelude.{Option}
 use Rattle.std.specs.List.{Contains}
 use Rattle.rpki_payloads.specs.declared.exceptions.Exceptions.{Exceptions}
 use Rattle.rpki_payloads.specs.declared.filters.PrefixFilter.{PrefixFilter}
 use Rattle.rpki_payloads.specs.declared.key_filters.KeyFilter.{KeyFilter}
 use Rattle.rpki_payloads.specs.declared.router_key.RouterKey.{RouterKey}
+use Rattle.rpki_payloads.specs.declared.tally.Tally.{Tally}
+use Rattle.rpki_payloads.specs.declared.timed.TimedVrp.{TimedVrp}
 use Rattle.rpki_payloads.specs.declared.vap.CustomerProvider.{CustomerProvider}
 use Rattle.rpki_payloads.specs.declared.vrp.Vrp.{Vrp}
 use Rattle.rpki_payloads.specs.Exceptions.{AreEach, IsWithout}
-use Rattle.rpki_payloads.specs.Filtered.{IsKept, left_by_all}
+use Rattle.rpki_payloads.specs.Filtered.{IsKept, IsKeptTimed, left_by_all}
 use Rattle.rpki_payloads.specs.Payloads.{PayloadParts, payload_parts}
 use Rattle.rpki_payloads.specs.RouterKey.{key_cmp}
 use Rattle.rpki_payloads.specs.Sets.{IsSetOf}
+use Rattle.rpki_payloads.specs.Timed.{timed_cmp}
 use Rattle.rpki_payloads.specs.Vrp.{vrp_cmp}
 use Rattle.rpki_payloads.proofs.OrderLaws.{set-as}
 
@@ -25,6 +29,15 @@ kept-set filters filters2 vrps vrps2 left new e f same set =
     (subst (λ (vs : List Vrp). IsSetOf vrp_cmp (IsKept filters vs) new) f
     (set-as vrp_cmp (Contains left) (IsKept filters vrps) new same set))
 
+-- the same, with their ends
+pub kept-timed : (filters filters2 : List PrefixFilter) (all all2 left new : List TimedVrp) → filters ≡ filters2
+    → all ≡ all2 → ((t : TimedVrp) → Contains left t ↔ IsKeptTimed filters all t)
+    → IsSetOf timed_cmp (Contains left) new → IsSetOf timed_cmp (IsKeptTimed filters2 all2) new
+kept-timed filters filters2 all all2 left new e f same set =
+    subst (λ (fs : List PrefixFilter). IsSetOf timed_cmp (IsKeptTimed fs all2) new) e
+    (subst (λ (ts : List TimedVrp). IsSetOf timed_cmp (IsKeptTimed filters ts) new) f
+    (set-as timed_cmp (Contains left) (IsKeptTimed filters all) new same set))
+
 pub left-set : (filters filters2 : List KeyFilter) (keys keys2 left new : List RouterKey) → filters ≡ filters2
     → keys ≡ keys2 → left ≡ left_by_all filters keys → IsSetOf key_cmp (Contains left) new
     → IsSetOf key_cmp (Contains (left_by_all filters2 keys2)) new
@@ -33,13 +46,16 @@ left-set filters filters2 keys keys2 left new e f is set =
     (subst (λ (ks : List RouterKey). IsSetOf key_cmp (Contains (left_by_all filters ks)) new) f
     (subst (λ (ks : List RouterKey). IsSetOf key_cmp (Contains ks) new) is set))
 
-pub is-without : (e : Exceptions) (old new : PayloadParts) (name : List ℕ) (vrps : List Vrp)
-    (pairs : List CustomerProvider) (keys : List RouterKey) → new ≡ payload_parts name vrps pairs keys
-    → name ≡ old.name → IsSetOf vrp_cmp (IsKept e.prefix_filters.items old.vrps) vrps → pairs ≡ old.pairs
-    → IsSetOf key_cmp (Contains (left_by_all e.key_filters.items old.keys)) keys → IsWithout e old new
-is-without e old new name vrps pairs keys is named kept same left =
+pub is-without : (e : Exceptions) (old new : PayloadParts) (name : List ℕ) (vrps : List Vrp) (timed : List TimedVrp)
+    (pairs : List CustomerProvider) (keys : List RouterKey) (tally : Option Tally)
+    → new ≡ payload_parts name vrps timed pairs keys tally
+    → name ≡ old.name → IsSetOf vrp_cmp (IsKept e.prefix_filters.items old.vrps) vrps
+    → IsSetOf timed_cmp (IsKeptTimed e.prefix_filters.items old.timed) timed → pairs ≡ old.pairs
+    → IsSetOf key_cmp (Contains (left_by_all e.key_filters.items old.keys)) keys → tally ≡ old.tally
+    → IsWithout e old new
+is-without e old new name vrps timed pairs keys tally is named kept ends same left counted =
     subst (λ (p : PayloadParts). IsWithout e old p) (sym is)
-    (record { name = named; vrps = kept; pairs = same; keys = left })
+    (record { name = named; vrps = kept; timed = ends; pairs = same; keys = left; tally = counted })
 
 -- one more
 each-more : {A B : Type 0} (R : A → B → Type 0) (xs : List A) (ys : List B) (x : A) (y : B) → AreEach R xs ys → R x y

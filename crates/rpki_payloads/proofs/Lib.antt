@@ -2,11 +2,13 @@
 --
 -- That payloads which compare as equal are one, and which are among converted ones: OrderLaws. The providers of a
 -- customer together: VapLaws.
--- What is among a list, one by one: AmongLaws. Local exceptions, and how many members an object of JSON has:
---   ExceptionLaws, MemberLaws.
+-- What is among a list, one by one: AmongLaws. The latest end of a payload: TimedLaws. Local exceptions, and how many
+-- members an object of JSON has: ExceptionLaws, MemberLaws. Texts of metrics: MetricLaws.
 
 mod AmongLaws
-mod ExceptionLaws
+pub mod ExceptionLaws
 mod MemberLaws
+mod MetricLaws
 mod OrderLaws
+mod TimedLaws
 mod VapLaws

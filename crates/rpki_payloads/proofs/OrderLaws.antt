@@ -1,6 +1,6 @@
 -- That payloads which compare as equal are one; and which are among converted ones.
 use Rattle.std.proofs.Common.{◌≡◌, ◌↔◌, ◌∙◌, ℕ, zero, suc, List, [], ◌∷◌, ap, refl, sym, subst, map, arith}
-use Rattle.std.specs.Ordering.{nat_cmp}
+use Rattle.std.specs.Ordering.{nat_cmp, ordering_then}
 use Rattle.std.specs.Cmp.Lexicographic.{slice_cmp}
 use Rattle.std.specs.List.{Contains}
 use Rattle.std.specs.List.Sorted.{IsStrictlySortedBy}
@@ -8,16 +8,21 @@ use Rattle.std.specs.declared.cmp.Ordering.{Ordering}
 use Rattle.std.specs.declared.cmp.Ordering.TheVariants.{Less, Equal, Greater}
 use Rattle.std.specs.declared.net.ip_addr.IpAddr.{IpAddr}
 use Rattle.std.specs.declared.net.ip_addr.IpAddr.TheVariants.{V4, V6}
+use Rattle.std.proofs.lemmas.Cmp.{nat_cmp_total, nat_list_cmp_total, on_total, then_total}
+use Rattle.std.specs.Cmp.{IsTotalOrder}
 use Rattle.std.proofs.lemmas.Map.Lookups.{exact_unsigned, exact_bytes, exact_pairs}
 use Rattle.rpki_contents.specs.declared.route_origin.RouteOrigin.{RouteOrigin}
 use Rattle.rpki_payloads.specs.contracts.router_key.RouterKeyOrd.TheImpl as key-order
+use Rattle.rpki_payloads.specs.contracts.timed.TimedVrpOrd.TheImpl as timed-order
 use Rattle.rpki_payloads.specs.contracts.vap.CustomerProviderOrd.TheImpl as pair-order
 use Rattle.rpki_payloads.specs.contracts.vrp.VrpOrd.TheImpl.{ghosts}
 use Rattle.rpki_payloads.specs.declared.router_key.RouterKey.{RouterKey}
+use Rattle.rpki_payloads.specs.declared.timed.TimedVrp.{TimedVrp}
 use Rattle.rpki_payloads.specs.declared.vap.CustomerProvider.{CustomerProvider}
 use Rattle.rpki_payloads.specs.declared.vrp.Vrp.{Vrp}
 use Rattle.rpki_payloads.specs.RouterKey.{key_cmp}
 use Rattle.rpki_payloads.specs.Sets.{IsSetOf}
+use Rattle.rpki_payloads.specs.Timed.{timed_cmp}
 use Rattle.rpki_payloads.specs.Vap.{pair_cmp}
 use Rattle.rpki_payloads.specs.Vrp.{IsExact, ip_cmp, vrp_cmp, vrp_of, origin_of}
 
@@ -101,3 +106,39 @@ origins-from os v h = among-map vrp_of origin_of (λ y. refl) (λ x. refl) os v 
 
 pub origins-to : (os : List RouteOrigin) (v : Vrp) → Contains os (origin_of v) → Contains (map vrp_of os) v
 origins-to os v h = map-among vrp_of origin_of (λ y. refl) os v h
+
+pub exact-timed : IsExact timed_cmp
+exact-timed s t h =
+    ap (λ (p : Vrp × ℕ). record { vrp = p.0; expires = p.1 })
+    (exact_pairs vrp_cmp nat_cmp exact-vrp exact_unsigned (s.vrp, s.expires) (t.vrp, t.expires) h)
+
+pub same-timed : (s t : TimedVrp) → timed-order.ghosts.cmp s t ≡ timed_cmp s t
+same-timed s t = ap (λ (o : Ordering). ordering_then o (nat_cmp s.expires t.expires)) (same-cmp s.vrp t.vrp)
+
+-- ---- the order is total
+
+kind : IpAddr → ℕ
+kind (V4 a) = 0
+kind (V6 a) = 1
+
+parts : IpAddr → List ℕ
+parts (V4 a) = a.octets
+parts (V6 a) = a.segments
+
+same-ip : (a b : IpAddr)
+    → ordering_then (nat_cmp (kind a) (kind b)) (slice_cmp nat_cmp (parts a) (parts b)) ≡ ip_cmp a b
+unfolding kind parts
+same-ip (V4 a) (V4 b) = refl
+same-ip (V4 a) (V6 b) = refl
+same-ip (V6 a) (V4 b) = refl
+same-ip (V6 a) (V6 b) = refl
+
+ip-total : IsTotalOrder ip_cmp
+ip-total =
+    subst (λ (R : IpAddr → IpAddr → Ordering). IsTotalOrder R) (λ i a b. same-ip a b i)
+    (then_total (on_total kind nat_cmp_total) (on_total parts nat_list_cmp_total))
+
+pub vrp-total : IsTotalOrder vrp_cmp
+vrp-total =
+    then_total (on_total (λ v. v.addr) ip-total) (then_total (on_total (λ v. v.len) nat_cmp_total)
+    (then_total (on_total (λ v. v.max_length) nat_cmp_total) (on_total (λ v. v.as_id) nat_cmp_total)))

@@ -1,26 +1,31 @@
 -- Local exceptions (RFC 8416): filters take payloads away, and assertions are added.
-use Rattle.std.specs.Prelude.{◌≡◌, ◌++◌, ℕ, List, [], ◌∷◌}
+use Rattle.std.specs.Prelude.{◌≡◌, ◌++◌, ℕ, List, [], ◌∷◌, None, map}
 use Rattle.std.specs.List.{Contains}
 use Rattle.rpki_payloads.specs.declared.exceptions.Exceptions.{Exceptions}
-use Rattle.rpki_payloads.specs.Filtered.{IsKept, left_by_all}
+use Rattle.rpki_payloads.specs.Filtered.{IsKept, IsKeptTimed, left_by_all}
 use Rattle.rpki_payloads.specs.Payloads.{PayloadParts}
 use Rattle.rpki_payloads.specs.RouterKey.{key_cmp}
 use Rattle.rpki_payloads.specs.Sets.{IsSetOf}
+use Rattle.rpki_payloads.specs.Timed.{endless, timed_cmp}
 use Rattle.rpki_payloads.specs.Vrp.{vrp_cmp}
 
 -- The payloads under a locator that no filter matches. There are no filters of providers.
 pub record IsWithout (e : Exceptions) (old new : PayloadParts) : Type 0 where
   pub name : new.name ≡ old.name
   pub vrps : IsSetOf vrp_cmp (IsKept e.prefix_filters.items old.vrps) new.vrps
+  pub timed : IsSetOf timed_cmp (IsKeptTimed e.prefix_filters.items old.timed) new.timed
   pub pairs : new.pairs ≡ old.pairs
   pub keys : IsSetOf key_cmp (Contains (left_by_all e.key_filters.items old.keys)) new.keys
+  pub tally : new.tally ≡ old.tally
 
--- what is added, under this name
+-- what is added, under this name, with no end
 pub record IsAsserted (e : Exceptions) (name : List ℕ) (p : PayloadParts) : Type 0 where
   pub name_is : p.name ≡ name
   pub vrps : IsSetOf vrp_cmp (Contains e.vrps.items) p.vrps
+  pub timed : p.timed ≡ map endless p.vrps
   pub pairs : p.pairs ≡ []
   pub keys : IsSetOf key_cmp (Contains e.keys.items) p.keys
+  pub tally : p.tally ≡ None
 
 -- R is true of the elements of two lists, one by one
 abbrev pub AreEach : {A B : Type 0} → (A → B → Type 0) → List A → List B → Type 0

@@ -5,6 +5,7 @@ use Rattle.std.specs.List.{Contains, flat_map}
 use Rattle.rpki_payloads.specs.declared.filters.PrefixFilter.{PrefixFilter}
 use Rattle.rpki_payloads.specs.declared.key_filters.KeyFilter.{KeyFilter}
 use Rattle.rpki_payloads.specs.declared.router_key.RouterKey.{RouterKey}
+use Rattle.rpki_payloads.specs.declared.timed.TimedVrp.{TimedVrp}
 use Rattle.rpki_payloads.specs.declared.vrp.Vrp.{Vrp}
 use Rattle.rpki_payloads.specs.RouterKey.{router_key}
 use Rattle.rpki_payloads.specs.Covered.{IsCoveredBy}
@@ -23,6 +24,10 @@ IsFiltered filters v = (f : PrefixFilter) × Contains filters f × IsFilteredBy 
 -- a payload of these that no filter matches
 abbrev pub IsKept : List PrefixFilter → List Vrp → Vrp → Type 0
 IsKept filters vrps v = Contains vrps v × (IsFiltered filters v → ⊥)
+
+-- one with its end
+abbrev pub IsKeptTimed : List PrefixFilter → List TimedVrp → TimedVrp → Type 0
+IsKeptTimed filters all t = Contains all t × (IsFiltered filters t.vrp → ⊥)
 
 -- ---- keys of routers (3.3.2)
 

@@ -3,6 +3,7 @@ pub mod Sets
 pub mod Vrp
 pub mod Vap
 pub mod RouterKey
+pub mod Timed
 pub mod Payloads
 pub mod Covered
 pub mod Filtered
@@ -11,3 +12,4 @@ pub mod ExceptionsText
 pub mod Lines
 pub mod Json
 pub mod Form
+pub mod Metrics

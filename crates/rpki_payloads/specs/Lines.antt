@@ -4,6 +4,7 @@ use Rattle.std.specs.List.{flat_map}
 use Rattle.std.specs.Net.Text.{ip_text}
 use Rattle.rpki_contents.specs.Aspa.{AspaParts}
 use Rattle.rpki_resources.specs.Text.{as_number_text, prefix_text}
+use Rattle.rpki_payloads.specs.declared.timed.TimedVrp.{TimedVrp}
 use Rattle.rpki_payloads.specs.declared.vrp.Vrp.{Vrp}
 use Rattle.rpki_payloads.specs.Payloads.{PayloadParts}
 
@@ -24,6 +25,20 @@ csv_lines p = flat_map (csv_line p.name) p.vrps
 
 abbrev pub csv_text : List PayloadParts → List ℕ
 csv_text all = codes "ASN,IP Prefix,Max Length,Trust Anchor\n" ++ flat_map csv_lines all
+
+-- ---- csv, as of rpki-client: `AS64496,10.0.0.0/8,24,example,1798761599`, with the second that is the end
+
+abbrev pub client_line : List ℕ → TimedVrp → List ℕ
+client_line name t =
+    as_number_text t.vrp.as_id ++ codes "," ++ vrp_prefix t.vrp ++ codes "," ++ decimal t.vrp.max_length ++ codes ","
+    ++ name ++ codes "," ++ decimal t.expires ++ 10 ∷ []
+
+-- those under a locator
+abbrev pub client_lines : PayloadParts → List ℕ
+client_lines p = flat_map (client_line p.name) p.timed
+
+abbrev pub client_text : List PayloadParts → List ℕ
+client_text all = codes "ASN,IP Prefix,Max Length,Trust Anchor,Expires\n" ++ flat_map client_lines all
 
 -- ---- OpenBGPD, bgpd.conf(5): `10.0.0.0/8 maxlen 24 source-as 64496` in a set
 

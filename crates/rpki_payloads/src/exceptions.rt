@@ -3,11 +3,12 @@
 ghost use Rattle.std.specs.Prelude.{◌≡◌, IfOk, string_bytes};
 ghost use Rattle.rpki_payloads.specs.Exceptions.{AreEach, AreExcepted, IsAsserted, IsWithout};
 
-use crate::filters::{PrefixFilter, kept};
+use crate::filters::{PrefixFilter, kept, kept_timed};
 use crate::key_filters::{KeyFilter, left_by_all};
 use crate::order::sort_vrps;
 use crate::payloads::Payloads;
 use crate::router_key::{RouterKey, sort_keys};
+use crate::timed::{endless_of, sort_timed};
 use crate::vap::CustomerProvider;
 use crate::vrp::Vrp;
 use std::alloc::{AllocError, Global};
@@ -39,11 +40,13 @@ impl Exceptions {
     {
         let mut vrps = kept(alloc, self.prefix_filters.as_slice(), one.vrps())?;
         sort_vrps(&mut vrps);
+        let mut timed = kept_timed(alloc, self.prefix_filters.as_slice(), one.timed())?;
+        sort_timed(&mut timed);
         let mut keys = left_by_all(alloc, self.key_filters.as_slice(), one.keys())?;
         sort_keys(&mut keys);
         let pairs = copied(alloc, one.pairs())?;
         let name = one.copied_name(alloc)?;
-        Ok(Payloads::new(name, vrps, pairs, keys))
+        Ok(Payloads::new(name, vrps, timed, pairs, keys, one.tally()))
     }
 
     /// What is left under each locator.
@@ -59,8 +62,8 @@ impl Exceptions {
     }
 
     /// What is added, under this name, each once, in order.
-    fn asserted(self, alloc: Global, name: String) -> Payloads
-        ensures { IsAsserted self (string_bytes name) result }
+    fn asserted(self, alloc: Global, name: String) -> Result<Payloads, AllocError>
+        ensures { IfOk result (IsAsserted self (string_bytes name)) }
     {
         let Exceptions {
             mut vrps,
@@ -69,7 +72,8 @@ impl Exceptions {
         } = self;
         sort_vrps(&mut vrps);
         sort_keys(&mut keys);
-        Payloads::new(name, vrps, Vec::new(alloc), keys)
+        let timed = endless_of(alloc, vrps.as_slice())?;
+        Ok(Payloads::new(name, vrps, timed, Vec::new(alloc), keys, None))
     }
 
     /// The payloads with these exceptions (RFC 8416 4.1): those that no filter matches, under each locator; and then
@@ -85,7 +89,8 @@ impl Exceptions {
         ensures { IfOk result (λ new. AreExcepted self (string_bytes name) all.now new.items) }
     {
         let mut left = self.all_without(alloc, all)?;
-        left.push(self.asserted(alloc, name))?;
+        let added = self.asserted(alloc, name)?;
+        left.push(added)?;
         Ok(left)
     }
 }

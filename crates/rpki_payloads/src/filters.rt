@@ -2,10 +2,12 @@
 
 ghost use Rattle.std.specs.Prelude.{◌≡◌, ◌↔◌, IsTrue, IfOk};
 ghost use Rattle.std.specs.List.{Contains};
+ghost use Rattle.rpki_payloads.specs.declared.timed.TimedVrp.{TimedVrp as T};
 ghost use Rattle.rpki_payloads.specs.declared.vrp.Vrp.{Vrp as V};
-ghost use Rattle.rpki_payloads.specs.Filtered.{IsFiltered, IsFilteredBy, IsKept};
+ghost use Rattle.rpki_payloads.specs.Filtered.{IsFiltered, IsFilteredBy, IsKept, IsKeptTimed};
 
 use crate::covered::is_covered;
+use crate::timed::TimedVrp;
 use crate::vrp::Vrp;
 use rpki_resources::Prefix;
 use std::alloc::{AllocError, Global};
@@ -61,6 +63,25 @@ pub(crate) fn kept(
     let mut rest = vrps;
     'vrps: while let Some((first, following)) = rest.split_first() {
         if !is_filtered(filters, *first) {
+            kept.push(*first)?;
+        }
+        rest = following;
+    }
+    Ok(kept)
+}
+
+/// The payloads that no filter matches, with their ends, in their order.
+pub(crate) fn kept_timed(
+    alloc: Global,
+    filters: &[PrefixFilter],
+    all: &[TimedVrp],
+) -> Result<Vec<TimedVrp>, AllocError>
+    ensures { IfOk result (λ kept. (t : T) → Contains kept.items t ↔ IsKeptTimed filters.now all.now t) }
+{
+    let mut kept = Vec::new(alloc);
+    let mut rest = all;
+    'all: while let Some((first, following)) = rest.split_first() {
+        if !is_filtered(filters, first.vrp) {
             kept.push(*first)?;
         }
         rest = following;

@@ -3,6 +3,7 @@
 ghost use Rattle.std.specs.Prelude.{IfOk};
 ghost use Rattle.rpki_payloads.specs.Form.{IsTextIn};
 
+use crate::client::client_text;
 use crate::json::json_text;
 use crate::lines::{bird_text, csv_text, openbgpd_text};
 use crate::order::{united, united_pairs};
@@ -21,11 +22,15 @@ pub enum Form {
     OpenBgpd,
     /// Routes of a table of origins, as BIRD reads them.
     Bird,
+    /// As [Form::Csv], with a fifth column, as rpki-client writes it: the last second in which the payload is valid,
+    /// since 1970-01-01T00:00:00Z.
+    RpkiClient,
 }
 
 impl Form {
-    /// The text of the payloads of all locators in this form. In csv and JSON each prefix and each key has the name of
-    /// its locator, and those of a locator follow those of the one before; in the others there is each once.
+    /// The text of the payloads of all locators in this form. In csv, of both kinds, and JSON each prefix and each key
+    /// has the name of its locator, and those of a locator follow those of the one before; in the others there is each
+    /// once.
     ///
     /// The providers of a customer are together, whichever attestations say them, and under whichever locators: a
     /// customer has them all (draft-ietf-sidrops-aspa-verification), for both families of addresses
@@ -53,6 +58,7 @@ impl Form {
                 let vrps = united(alloc, all)?;
                 bird_text(alloc, vrps.as_slice())
             }
+            Form::RpkiClient => client_text(alloc, all),
         }
     }
 }

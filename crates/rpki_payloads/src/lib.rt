@@ -1,10 +1,11 @@
 //! Payloads of the RPKI, as validators hand them to routers: each once, in order, and their texts.
 //!
-//! [vrps_of] puts route origins in order, each once; [sort_pairs] and [sort_keys] do so with providers and with keys of
-//! routers, and [vaps_of] puts the providers of a customer together. [Form::text_of] makes a text of the payloads of
-//! several locators.
+//! [vrps_of] puts route origins in order, each once, and [latest_of] does so with their ends; [sort_pairs] and
+//! [sort_keys] do so with providers and with keys of routers, and [vaps_of] puts the providers of a customer together.
+//! [Form::text_of] makes a text of the payloads of several locators, and [metrics_text] one of their numbers.
 #![tactic(auto)]
 
+mod client;
 mod covered;
 mod customers;
 mod exceptions;
@@ -17,9 +18,12 @@ mod json_vaps;
 mod key_filters;
 mod lines;
 mod members;
+mod metrics;
 mod order;
 mod payloads;
 mod router_key;
+mod tally;
+mod timed;
 mod vap;
 mod vrp;
 
@@ -28,8 +32,11 @@ pub use exceptions_text::{ExceptionsError, Member};
 pub use filters::PrefixFilter;
 pub use form::Form;
 pub use key_filters::KeyFilter;
+pub use metrics::metrics_text;
 pub use order::{sort_vrps, united, united_pairs, vrps_of};
 pub use payloads::Payloads;
 pub use router_key::{RouterKey, push_router_keys, sort_keys};
+pub use tally::Tally;
+pub use timed::{TimedVrp, latest_of};
 pub use vap::{CustomerProvider, Vap, push_pairs, sort_pairs, vaps_of};
 pub use vrp::Vrp;

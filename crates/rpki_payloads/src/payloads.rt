@@ -4,6 +4,8 @@ ghost use Rattle.std.specs.Prelude.{◌≡◌, IfOk, string_bytes};
 ghost use Rattle.rpki_payloads.specs.Payloads.{payload_parts};
 
 use crate::router_key::RouterKey;
+use crate::tally::Tally;
+use crate::timed::TimedVrp;
 use crate::vap::CustomerProvider;
 use crate::vrp::Vrp;
 use std::alloc::{AllocError, Global};
@@ -14,8 +16,10 @@ use std::marker::Model;
 pub struct Payloads {
     name: String,
     vrps: Vec<Vrp>,
+    timed: Vec<TimedVrp>,
     pairs: Vec<CustomerProvider>,
     keys: Vec<RouterKey>,
+    tally: Option<Tally>,
 }
 
 impl Model for Payloads {
@@ -24,24 +28,30 @@ impl Model for Payloads {
 
     ghost Value = { PayloadParts };
 
-    ghost view = { λ p. payload_parts (string_bytes p.name) p.vrps.items p.pairs.items p.keys.items };
+    ghost view = { λ p. payload_parts (string_bytes p.name) p.vrps.items p.timed.items p.pairs.items p.keys.items
+        p.tally };
 }
 
 impl Payloads {
-    /// These payloads, under the locator of this name.
+    /// These payloads, under the locator of this name; the prefixes that may be announced without their ends, and with
+    /// them; and what was counted, where a validation found them.
     pub fn new(
         name: String,
         vrps: Vec<Vrp>,
+        timed: Vec<TimedVrp>,
         pairs: Vec<CustomerProvider>,
         keys: Vec<RouterKey>,
+        tally: Option<Tally>,
     ) -> Payloads
-        ensures { result ≡ payload_parts (string_bytes name) vrps.items pairs.items keys.items }
+        ensures { result ≡ payload_parts (string_bytes name) vrps.items timed.items pairs.items keys.items tally }
     {
         Payloads {
             name,
             vrps,
+            timed,
             pairs,
             keys,
+            tally,
         }
     }
 
@@ -68,6 +78,13 @@ impl Payloads {
         self.vrps.as_slice()
     }
 
+    /// The prefixes that may be announced, and until when.
+    pub fn timed(&self) -> &[TimedVrp]
+        ensures { result.now ≡ self.now.timed }
+    {
+        self.timed.as_slice()
+    }
+
     /// The providers of autonomous systems.
     pub fn pairs(&self) -> &[CustomerProvider]
         ensures { result.now ≡ self.now.pairs }
@@ -80,5 +97,12 @@ impl Payloads {
         ensures { result.now ≡ self.now.keys }
     {
         self.keys.as_slice()
+    }
+
+    /// What was counted beside them, where a validation found them.
+    pub fn tally(&self) -> Option<Tally>
+        ensures { result ≡ self.now.tally }
+    {
+        self.tally
     }
 }

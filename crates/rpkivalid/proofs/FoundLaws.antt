@@ -21,13 +21,17 @@ use Rattle.rpki_valid.specs.Verified.{Holder}
 use Rattle.rpki_validation.specs.Basis.{Basis}
 use Rattle.rpki_validation.specs.declared.payload.Payload.{Payload}
 use Rattle.rpki_validation.specs.Finding.{IsNone}
-use Rattle.rpki_validation.specs.Holding.{values}
+use Rattle.rpki_validation.specs.Holding.{IsOriginFor, values}
 use Rattle.rpki_validation.specs.Levels.{Reached}
 use Rattle.rpki_validation.specs.Levels.Reached.{First, Next}
 use Rattle.rpki_validation.specs.Payload.{AreProviders, IsOrigin, IsRouter}
+use Rattle.rpki_validation.specs.declared.outcome.Rejection.{Rejection}
 use Rattle.rpki_validation.specs.Reached.{Counts, IsFirstAnchor}
+use Rattle.rpki_validation.specs.Rejected.{IsNotedUnder, IsRejection}
 use Rattle.rpki_validation.specs.Snapshot.{Published, Where}
 use Rattle.rpki_validation.specs.Validated.{SayProviders}
+use Rattle.rpkivalid.specs.Counted.{tally_of}
+use Rattle.rpkivalid.specs.Ends.{AreEnds}
 use Rattle.rpkivalid.specs.Found.{AreFound, IsFoundIn, IsProvider, IsSetWhere, router_keys}
 use Rattle.rpkivalid.specs.Locators.{Holds, NamedParts}
 use Rattle.rpkivalid.specs.Paths.{copy_in}
@@ -133,13 +137,13 @@ module _ (holds : Holds) (folder : List ℕ) (basis : KeyParts → Basis) (l : N
       subst (λ (us : List AnchorUri). Where (copy_in folder l.name holds) (λ published. P published us)) uris-are
       (subst (λ (n : List ℕ). Where (copy_in folder n holds) (λ published. P published uris)) name-is h)
 
-  module _ (origins : List RouteOrigin) (attestations : List (TypedParts AspaParts)) (routers : List Holder)
-      (vrps-are : AreOrigins origins p.vrps)
+  module _ (origins : List (Payload RouteOrigin)) (attestations : List (TypedParts AspaParts)) (routers : List Holder)
+      (vrps-are : AreOrigins (values origins) p.vrps) (ends-are : AreEnds origins p.timed)
       (pairs-are : IsSetOf pair_cmp (Contains (flat_map (λ x. pairs_of x.content) attestations)) p.pairs)
       (keys-are : IsSetOf key_cmp (Contains (flat_map (router_keys (basis l.key).by.sha1) routers)) p.keys) where
     -- the route origins that are found
     vrps-where : Where (copy_in folder l.name holds)
-        (λ published. (v : RouteOrigin) → Contains origins v ↔ IsOrigin published (basis l.key) l.uris v)
+        (λ published. (v : RouteOrigin) → Contains (values origins) v ↔ IsOrigin published (basis l.key) l.uris v)
         → IsSetWhere (copy_in folder l.name holds) vrp_cmp
         (λ published v. IsOrigin published (basis l.key) l.uris (origin_of v)) p.vrps
     vrps-where there = record {
@@ -174,32 +178,56 @@ module _ (holds : Holds) (folder : List ℕ) (basis : KeyParts → Basis) (l : N
             flat-to (λ x. pairs_of x.content) attestations v s.0 s.1
             (subst (λ (b : AspaParts). Contains (pairs_of b) v) (sym s.2) c)
 
-    pub found-valid : Where (copy_in folder name holds)
-        (λ published. (v : RouteOrigin) → Contains origins v ↔ IsOrigin published (basis l.key) uris v)
+    pub found-valid : (rejections : List Rejection) → Where (copy_in folder name holds)
+        (λ published. (v : RouteOrigin) → Contains (values origins) v ↔ IsOrigin published (basis l.key) uris v)
+        → Where (copy_in folder name holds)
+        (λ published. (v : Payload RouteOrigin) → Contains origins v → IsOriginFor published (basis l.key) uris v)
         → Where (copy_in folder name holds)
         (λ published. (x : AspaParts) → SayProviders attestations x ↔ AreProviders published (basis l.key) uris x)
         → Where (copy_in folder name holds)
         (λ published. (x : Holder) → Contains routers x ↔ IsRouter published (basis l.key) uris x)
         → Where (copy_in folder name holds) (λ published. (x : Holder) × IsFirstAnchor published (basis l.key) uris x)
-        → IsFoundIn holds folder basis l p true
-    found-valid says-origins says-providers says-routers first = record {
+        → Where (copy_in folder name holds)
+        (λ published. (r : Rejection) → Contains rejections r → IsRejection published (basis l.key) uris r)
+        → Where (copy_in folder name holds)
+        (λ published. (x : Holder) → Counts published (basis l.key) uris x
+        → IsNotedUnder published (basis l.key) uris rejections x)
+        → p.tally ≡ Some (tally_of true rejections) → IsFoundIn holds folder basis l p true
+    found-valid rejections says-origins holds-origins says-providers says-routers first each every counted = record {
       name = named ∙ name-is;
       vrps = vrps-where (here (λ published us. (v : RouteOrigin)
-          → Contains origins v ↔ IsOrigin published (basis l.key) us v) says-origins);
+          → Contains (values origins) v ↔ IsOrigin published (basis l.key) us v) says-origins);
+      timed = record {
+        origins = origins;
+        hold = here (λ published us. (v : Payload RouteOrigin) → Contains origins v
+            → IsOriginFor published (basis l.key) us v) holds-origins;
+        each = here (λ published us. (v : RouteOrigin) → Contains (values origins) v
+            ↔ IsOrigin published (basis l.key) us v) says-origins;
+        ends = ends-are;
+      };
       pairs = pairs-where (here (λ published us. (x : AspaParts)
           → SayProviders attestations x ↔ AreProviders published (basis l.key) us x) says-providers);
       keys = set-where (copy_in folder l.name holds) key_cmp (router_keys (basis l.key).by.sha1) routers
           (λ published x. IsRouter published (basis l.key) l.uris x) p.keys keys-are
           (here (λ published us. (x : Holder) → Contains routers x ↔ IsRouter published (basis l.key) us x)
           says-routers);
+      counted = record {
+        rejections = rejections;
+        are = here (λ published us. (r : Rejection) → Contains rejections r
+            → IsRejection published (basis l.key) us r) each;
+        all = here (λ published us. (x : Holder) → Counts published (basis l.key) us x
+            → IsNotedUnder published (basis l.key) us rejections x) every;
+        tally_is = counted;
+      };
       anchor = λ e. here (λ published us. (x : Holder) × IsFirstAnchor published (basis l.key) us x) first;
       none = λ e. let h : true ≡ false = e in absurd (cc);
     }
 
-  pub found-none : AreOrigins [] p.vrps → IsSetOf pair_cmp (Contains []) p.pairs → IsSetOf key_cmp (Contains []) p.keys
+  pub found-none : AreOrigins [] p.vrps → AreEnds [] p.timed → IsSetOf pair_cmp (Contains []) p.pairs
+      → IsSetOf key_cmp (Contains []) p.keys
       → Where (copy_in folder name holds) (λ published. IsNone (IsFirstAnchor published (basis l.key) uris))
-      → IsFoundIn holds folder basis l p false
-  found-none vrps-are pairs-are keys-are none =
+      → p.tally ≡ Some (tally_of false []) → IsFoundIn holds folder basis l p false
+  found-none vrps-are ends-are pairs-are keys-are none counted =
       let there = here (λ published us. IsNone (IsFirstAnchor published (basis l.key) us)) none in
       record {
         name = named ∙ name-is;
@@ -210,12 +238,27 @@ module _ (holds : Holds) (folder : List ℕ) (basis : KeyParts → Basis) (l : N
             λ h. absurd (none-counts published (basis l.key) l.uris h.issuer (there published k) h.counted.counts),
           );
         };
+        timed = record {
+          origins = [];
+          hold = λ published k v h. absurd (none-in v h);
+          each = λ published k v. (
+            λ h. absurd (none-in v h),
+            λ h. absurd (none-counts published (basis l.key) l.uris h.issuer (there published k) h.counted.counts),
+          );
+          ends = ends-are;
+        };
         pairs = none-where (copy_in folder l.name holds) pair_cmp _ p.pairs pairs-are
             (λ published k v h. let a = h.1 in
             none-counts published (basis l.key) l.uris a.issuer (there published k) a.counted.counts);
         keys = none-where (copy_in folder l.name holds) key_cmp _ p.keys keys-are
             (λ published k v h. let a = h.1 in
             none-counts published (basis l.key) l.uris a.issuer (there published k) a.counted.counts);
+        counted = record {
+          rejections = [];
+          are = λ published k r h. absurd (none-in r h);
+          all = λ published k x h. absurd (none-counts published (basis l.key) l.uris x (there published k) h);
+          tally_is = counted;
+        };
         anchor = λ e. let h : false ≡ true = e in absurd (cc);
         none = λ e. there;
       }

@@ -1,5 +1,6 @@
 -- A run of what is asked for.
-use Rattle.std.proofs.Common.{◌≡◌, ℕ, List, sym, subst, inl, inr}
+use Rattle.std.proofs.Common.{◌≡◌, ◌⊎◌, ℕ, List, [], sym, subst, inl, inr}
+use Rattle.std.specs.Io.KnownBytes.{Appends}
 use Rattle.rpki_payloads.specs.Exceptions.{AreExcepted}
 use Rattle.std.specs.Prelude.{Option, Some, None, IfSome}
 use Rattle.jiff.specs.Types.{DateTime}
@@ -13,7 +14,7 @@ use Rattle.rpkivalid.specs.Moment.{IsMomentOf}
 use Rattle.rpkivalid.specs.Request.{Asked}
 use Rattle.rpkivalid.specs.Run.{IsAnswer, IsRunOf}
 use Rattle.rpkivalid.specs.Run.IsRunOf.{Answered, Denied}
-use Rattle.rpkivalid.specs.RunView.{Gives}
+use Rattle.rpkivalid.specs.Words.{Prints}
 
 -- what the clock has
 clock-some : (r : Option DateTime) (clock : Option (Option DateTime)) → IfSome clock (λ at. r ≡ at)
@@ -29,11 +30,13 @@ clock-moment word r clock e h =
 
 -- what is given is a run
 pub given-run : (basis : DateTime → ℕ → KeyParts → Basis) (holds : Holds) (clock : Option (Option DateTime))
-    (old new : Option (List ℕ)) (a : Asked) (text : List ℕ) (wanted status : ℕ)
-    → IsAnswer basis holds clock a text wanted → Gives old new text wanted status
-    → IsRunOf basis holds clock old new status a
-given-run basis holds clock old new a text wanted status h (inl p) = Answered text wanted h p
-given-run basis holds clock old new a text wanted status h (inr k) = Denied k.0 k.1
+    (old new before after : Option (List ℕ)) (a : Asked) (text metrics : List ℕ) (wanted status : ℕ)
+    → IsAnswer basis holds clock a text metrics wanted
+    → (Prints old new text wanted status × Appends before after metrics) ⊎ (Appends old new [] × (status ≡ 2))
+    → IsRunOf basis holds clock old new before after status a
+given-run basis holds clock old new before after a text metrics wanted status h (inl p) =
+    Answered text metrics wanted h p.0 p.1
+given-run basis holds clock old new before after a text metrics wanted status h (inr k) = Denied k.0 k.1
 
 -- what is written is what is found, with the exceptions that are asked for
 pub shown-by : (holds : Holds) (word : Option (List ℕ)) (local : Option Local) (found shown : List PayloadParts)

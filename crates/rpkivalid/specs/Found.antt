@@ -21,6 +21,8 @@ use Rattle.rpki_validation.specs.Finding.{IsNone}
 use Rattle.rpki_validation.specs.Payload.{AreProviders, IsOrigin, IsRouter}
 use Rattle.rpki_validation.specs.Reached.{IsFirstAnchor}
 use Rattle.rpki_validation.specs.Snapshot.{Published, Where}
+use Rattle.rpkivalid.specs.Counted.{IsCounted}
+use Rattle.rpkivalid.specs.Ends.{AreTimed}
 use Rattle.rpkivalid.specs.Locators.{Holds, NamedParts}
 use Rattle.rpkivalid.specs.Paths.{copy_in}
 
@@ -63,8 +65,10 @@ pub record IsFound (known : Option Published) (basis : Basis) (l : NamedParts) (
     : Type 0 where
   pub name : p.name ≡ l.name
   pub vrps : IsSetWhere known vrp_cmp (λ published v. IsOrigin published basis l.uris (origin_of v)) p.vrps
+  pub timed : AreTimed known basis l.uris p.timed
   pub pairs : IsSetWhere known pair_cmp (λ published v. IsProvider published basis l.uris v) p.pairs
   pub keys : IsSetWhere known key_cmp (λ published v. IsRouterKey published basis l.uris v) p.keys
+  pub counted : IsCounted known basis l.uris p.tally anchored
   pub anchor : anchored ≡ true → Where known (λ published. (x : Holder) × IsFirstAnchor published basis l.uris x)
   pub none : anchored ≡ false → Where known (λ published. IsNone (IsFirstAnchor published basis l.uris))
 

@@ -5,6 +5,8 @@ pub mod Request
 pub mod Moment
 pub mod Paths
 pub mod Locators
+pub mod Counted
+pub mod Ends
 pub mod Found
 pub mod Excepted
 pub mod Run

@@ -8,7 +8,7 @@ use Rattle.clap.specs.declared.builder.action.ArgAction.TheVariants.{Append, Set
 use Rattle.rpki_objects.specs.declared.strictness.Strictness.{Strictness}
 use Rattle.rpki_objects.specs.Strictness.{all_strict, none_strict}
 use Rattle.rpki_payloads.specs.declared.form.Form.{Form}
-use Rattle.rpki_payloads.specs.declared.form.Form.TheVariants.{Csv, Json, OpenBgpd, Bird}
+use Rattle.rpki_payloads.specs.declared.form.Form.TheVariants.{Csv, Json, OpenBgpd, Bird, RpkiClient}
 
 -- ---- the command, in the words of `clap`
 
@@ -36,9 +36,9 @@ command_alone =
 abbrev pub command_app : App
 command_app =
     with_rule (with_rule (with_rule (with_rule (with_rule (with_rule (with_rule (with_rule (with_rule (with_rule
-    command_alone help_flag) (flag (codes "version"))) (flag (codes "strict"))) (valued (codes "cache")))
+    (with_rule command_alone help_flag) (flag (codes "version"))) (flag (codes "strict"))) (valued (codes "cache")))
     (valued (codes "at"))) (valued (codes "form"))) (valued (codes "output"))) (valued (codes "depth")))
-    (valued (codes "exceptions"))) (repeated (codes "tal"))
+    (valued (codes "exceptions"))) (valued (codes "metrics"))) (repeated (codes "tal"))
 
 -- what `clap` matches in the words; None where it finds a fault in them
 abbrev pub matched : List (List ℕ) → Option (List Row)
@@ -58,6 +58,7 @@ form_of (Some word) =
     else if bytes_eq word (codes "json") then Some Json
     else if bytes_eq word (codes "openbgpd") then Some OpenBgpd
     else if bytes_eq word (codes "bird") then Some Bird
+    else if bytes_eq word (codes "rpki-client") then Some RpkiClient
     else None
 
 -- the files, of which there is one at least
@@ -72,7 +73,8 @@ strictness_of true = all_strict
 strictness_of false = none_strict
 
 -- how payloads are written, which rules are asked strictly, the folder of the copy, the text of the moment,
--- the file to write, the text of the depth, the file of local exceptions, and the files of locators
+-- the file to write, the text of the depth, the file of local exceptions, the file of metrics, and the
+-- files of locators
 pub record Asked : Type 0 where
   pub form : Form
   pub strictness : Strictness
@@ -81,11 +83,12 @@ pub record Asked : Type 0 where
   pub output : Option (List ℕ)
   pub depth : Option (List ℕ)
   pub exceptions : Option (List ℕ)
+  pub metrics : Option (List ℕ)
   pub locators : List (List ℕ)
 
-abbrev pub asked : Strictness → Option (List ℕ) → Option (List ℕ) → Option (List ℕ) → Option (List ℕ) → Form → List ℕ
-    → List (List ℕ) → Asked
-asked strictness moment output depth exceptions form cache locators = record {
+abbrev pub asked : Strictness → Option (List ℕ) → Option (List ℕ) → Option (List ℕ) → Option (List ℕ)
+    → Option (List ℕ) → Form → List ℕ → List (List ℕ) → Asked
+asked strictness moment output depth exceptions metrics form cache locators = record {
   form = form;
   strictness = strictness;
   cache = cache;
@@ -93,15 +96,18 @@ asked strictness moment output depth exceptions form cache locators = record {
   output = output;
   depth = depth;
   exceptions = exceptions;
+  metrics = metrics;
   locators = locators;
 }
 
--- a form, a folder, and locators; `--strict`, a moment, a file, a depth and local exceptions, perhaps
+-- a form, a folder, and locators; `--strict`, a moment, a file, a depth, local exceptions and a file of metrics,
+-- perhaps
 abbrev pub request_of : List Row → Option Asked
 request_of rows =
     option_and_then (λ form. option_and_then (λ cache. option_map
     (asked (strictness_of (is_given (codes "strict") rows)) (first_of (codes "at") rows)
-    (first_of (codes "output") rows) (first_of (codes "depth") rows) (first_of (codes "exceptions") rows) form cache)
+    (first_of (codes "output") rows) (first_of (codes "depth") rows) (first_of (codes "exceptions") rows)
+    (first_of (codes "metrics") rows) form cache)
     (some_files (all_of (codes "tal") rows)))
     (first_of (codes "cache") rows)) (form_of (first_of (codes "form") rows))
 

@@ -1,10 +1,11 @@
 -- A run of what is asked for.
-use Rattle.std.specs.Prelude.{◌≡◌, ◌&&◌, ℕ, Bool, true, List, [], Option, IfSome, if◌then◌else◌}
+use Rattle.std.specs.Prelude.{◌≡◌, ◌&&◌, ℕ, Bool, true, List, [], Option, Some, None, IfSome, if◌then◌else◌}
 use Rattle.std.specs.Io.KnownBytes.{Appends}
 use Rattle.jiff.specs.Types.{DateTime}
 use Rattle.rpki.specs.Provider.{Check}
 use Rattle.rpki.specs.PublicKey.{KeyParts}
 use Rattle.rpki_payloads.specs.Form.{IsTextIn}
+use Rattle.rpki_payloads.specs.Metrics.{metrics_text}
 use Rattle.rpki_payloads.specs.Payloads.{PayloadParts}
 use Rattle.rpki_validation.specs.Basis.{Basis}
 use Rattle.rpkivalid.specs.Excepted.{AreShown}
@@ -18,10 +19,15 @@ use Rattle.rpkivalid.specs.Words.{Prints}
 abbrev pub status_of : (anchored read : Bool) → ℕ
 status_of anchored read = if anchored && read then 0 else 1
 
+-- the metrics of what is written, where a file of them is asked for
+abbrev pub metrics_for : Option (List ℕ) → List PayloadParts → List ℕ
+metrics_for None shown = []
+metrics_for (Some file) shown = metrics_text shown
+
 -- The text is that of the payloads under the locators that are asked for, at the moment that is asked for, with the
--- local exceptions that are asked for; and this is the status.
+-- local exceptions that are asked for; and these are its metrics, and the status.
 pub record IsAnswer (basis : DateTime → ℕ → KeyParts → Basis) (holds : Holds) (clock : Option (Option DateTime))
-    (a : Asked) (text : List ℕ) (status : ℕ) : Type 0 where
+    (a : Asked) (text metrics : List ℕ) (status : ℕ) : Type 0 where
   pub at : DateTime
   pub moment : IsMomentOf clock a.moment at
   pub depth : ℕ
@@ -34,24 +40,30 @@ pub record IsAnswer (basis : DateTime → ℕ → KeyParts → Basis) (holds : H
   pub shown : List PayloadParts
   pub excepted : AreShown holds a.exceptions found shown
   pub written : IsTextIn a.form shown text
+  pub metrics_are : metrics ≡ metrics_for a.metrics shown
   pub read : Bool
   pub known : IfSome holds (λ files. read ≡ true)
   pub status_is : status ≡ status_of anchored read
 
--- The run of what is asked for: the answer, with its status, of which a beginning is written where the output fails; or
--- nothing, with the status 2.
+-- The run of what is asked for: the answer, with its metrics and its status, of which a beginning is written where the
+-- output fails; or nothing, with the status 2.
 pub data IsRunOf (basis : DateTime → ℕ → KeyParts → Basis) (holds : Holds) (clock : Option (Option DateTime))
-    (old new : Option (List ℕ)) (status : ℕ) (a : Asked) : Type 0 where
-  Answered : (text : List ℕ) (wanted : ℕ) → IsAnswer basis holds clock a text wanted → Prints old new text wanted status
-      → IsRunOf basis holds clock old new status a
-  Denied : Appends old new [] → status ≡ 2 → IsRunOf basis holds clock old new status a
+    (old new before after : Option (List ℕ)) (status : ℕ) (a : Asked) : Type 0 where
+  Answered : (text metrics : List ℕ) (wanted : ℕ) → IsAnswer basis holds clock a text metrics wanted
+      → Prints old new text wanted status → Appends before after metrics
+      → IsRunOf basis holds clock old new before after status a
+  Denied : Appends old new [] → status ≡ 2 → IsRunOf basis holds clock old new before after status a
 
 module _ {X : Type 0} (rsa ecdsa : X → Check) (sha1 sha256 : X → List ℕ → List ℕ) (provider : X) (holds : Holds)
     (clock : Option (Option DateTime)) where
   -- the answer, by a provider's signatures and digests
-  abbrev pub Answers : Asked → List ℕ → ℕ → Type 0
+  abbrev pub Answers : Asked → List ℕ → List ℕ → ℕ → Type 0
   Answers a = IsAnswer (basis_with rsa ecdsa sha1 sha256 provider a.strictness) holds clock a
 
-  -- the run, by a provider's signatures and digests
-  abbrev pub Runs : (old new : Option (List ℕ)) → ℕ → Asked → Type 0
-  Runs old new status a = IsRunOf (basis_with rsa ecdsa sha1 sha256 provider a.strictness) holds clock old new status a
+-- the run, by a provider's signatures and digests, of what sources hold, into two outputs
+abbrev pub Runs : {X S A B : Type 0} → (X → Check) → (X → Check) → (X → List ℕ → List ℕ) → (X → List ℕ → List ℕ) → X
+    → (S → Holds) → (S → Option (Option DateTime)) → S → (A → Option (List ℕ)) → A → A → (B → Option (List ℕ)) → B → B
+    → ℕ → Asked → Type 0
+Runs rsa ecdsa sha1 sha256 provider holds clock host out old new sink before after status a =
+    IsRunOf (basis_with rsa ecdsa sha1 sha256 provider a.strictness) (holds host) (clock host) (out old) (out new)
+    (sink before) (sink after) status a

@@ -10,12 +10,17 @@ use Rattle.rpkivalid.specs.RequestView.{asked_of}
 use Rattle.rpkivalid.specs.Run.{Answers}
 use Rattle.rpkivalid.specs.Words.{Prints}
 
--- the text is written, or a beginning of it where the output fails; or nothing, where the faults fail
-abbrev pub Gives : (old new : Option (List ℕ)) → List ℕ → (wanted status : ℕ) → Type 0
-Gives old new text wanted status = Prints old new text wanted status ⊎ (Appends old new [] × (status ≡ 2))
+-- the metrics and the text are written, or a beginning of the text where the output fails; or no text, where the faults
+-- or the metrics fail
+abbrev pub Gives : {A B : Type 0} → (A → Option (List ℕ)) → A → A → (B → Option (List ℕ)) → B → B
+    → (text metrics : List ℕ) → (wanted status : ℕ) → Type 0
+Gives out old new counts before after text metrics wanted status =
+    (Prints (out old) (out new) text wanted status × Appends (counts before) (counts after) metrics)
+    ⊎ (Appends (out old) (out new) [] × (status ≡ 2))
 
 -- the answer to a request, by a provider's signatures and digests
 abbrev pub AnswersTo : {X : Type 0} → (X → Check) → (X → Check) → (X → List ℕ → List ℕ) → (X → List ℕ → List ℕ) → X
     → Holds → Option (Option DateTime) → Request → Answer → Type 0
 AnswersTo rsa ecdsa sha1 sha256 provider holds clock request answer =
-    Answers rsa ecdsa sha1 sha256 provider holds clock (asked_of request) answer.text.items answer.status
+    Answers rsa ecdsa sha1 sha256 provider holds clock (asked_of request) answer.text.items answer.metrics.items
+    answer.status

@@ -8,9 +8,9 @@ abbrev pub Prints : Option (List ℕ) → Option (List ℕ) → List ℕ → ℕ
 Prints old new text wanted status =
     (Appends old new text × (status ≡ wanted)) ⊎ (AppendsCut old new text × (status ≡ 2))
 
--- the same, and another stream stays as it was
-abbrev pub PrintsAlone : Option (List ℕ) → Option (List ℕ) → List ℕ → ℕ → ℕ → Type 0 → Type 0
-PrintsAlone old new text wanted status Stays = Prints old new text wanted status × Stays
+-- the same, of what a stream contains; and other streams stay as they were
+abbrev pub PrintsAlone : {A : Type 0} → (A → Option (List ℕ)) → A → A → List ℕ → ℕ → ℕ → Type 0 → Type 0
+PrintsAlone contents old new text wanted status Stays = Prints (contents old) (contents new) text wanted status × Stays
 
 abbrev pub memory_text : List ℕ
 memory_text = codes "rpkivalid: out of memory\n"
@@ -18,5 +18,5 @@ memory_text = codes "rpkivalid: out of memory\n"
 -- how the program is used
 abbrev pub usage_text : List ℕ
 usage_text =
-    codes "usage: rpkivalid --tal FILE.. --cache FOLDER [--at MOMENT] [--form csv|json|openbgpd|bird] "
-    ++ codes "[--output FILE] [--exceptions FILE] [--depth N] [--strict]\n"
+    codes "usage: rpkivalid --tal FILE.. --cache FOLDER [--at MOMENT] [--form csv|json|rpki-client|openbgpd|bird] "
+    ++ codes "[--output FILE] [--exceptions FILE] [--metrics FILE] [--depth N] [--strict]\n"

@@ -4,6 +4,7 @@ ghost use Rattle.std.specs.Prelude.{◌≡◌, ◌&&◌, IfOk};
 ghost use Rattle.rpkivalid.specs.FoundView.{AreFoundBy, IsFoundBy};
 
 use crate::cache::Cache;
+use crate::counted::tally_of;
 use crate::gathered::payloads_of;
 use crate::locators::Named;
 use crate::report::{push_missing, push_rejections};
@@ -52,12 +53,21 @@ fn found_under<S: Sources, P: Provider>(
                 outcome.origins.as_slice(),
                 outcome.providers.as_slice(),
                 outcome.routers.as_slice(),
+                tally_of(true, outcome.rejections.as_slice()),
             )?;
             Ok((payloads, true))
         }
         Err(Stop::Rejected(reason)) => {
             push_missing(report, named.name.as_str(), &reason)?;
-            let payloads = payloads_of(alloc, provider, named.name.as_str(), &[], &[], &[])?;
+            let payloads = payloads_of(
+                alloc,
+                provider,
+                named.name.as_str(),
+                &[],
+                &[],
+                &[],
+                tally_of(false, &[]),
+            )?;
             Ok((payloads, false))
         }
         Err(Stop::OutOfMemory) => Err(AllocError),

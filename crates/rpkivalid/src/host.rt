@@ -8,7 +8,7 @@ use std::alloc::{AllocError, Global};
 use std::cell::Cell;
 use std::fs;
 use std::fs::OpenFile;
-use std::io::{ErrorKind, Read};
+use std::io::{ErrorKind, IsTerminal, Read};
 use std::time::{SystemTime, UNIX_EPOCH};
 
 /// How many octets a file has at most.
@@ -21,9 +21,24 @@ pub struct Host<'a> {
     pub rt: &'a HostRuntime,
     /// Whether each file that is there could be read, until now.
     pub read: Cell<bool>,
+    /// How many files were read, until now.
+    pub files: Cell<u64>,
 }
 
+/// After how many files a terminal is told how many there were.
+const STEP: u64 = 1000;
+
 impl Host<'_> {
+    /// Counts a file that was read. Standard error, where it is a terminal, has the number after each [STEP] files, in
+    /// a line that the next one is written over.
+    fn count(&self) {
+        let files = self.files.get().wrapping_add(1);
+        self.files.set(files);
+        if files % STEP == 0 && self.rt.stderr().is_terminal() {
+            let _ = eprint!(self.rt; "rpkivalid: {files} files\r");
+        }
+    }
+
     /// Nothing, since a file could not be read: of a file that isn't there nothing is noted.
     fn without(&self, kind: ErrorKind) -> Result<Option<Bytes>, AllocError> {
         match kind {
@@ -59,7 +74,10 @@ impl Sources for Host<'_> {
         let mut octets = Vec::with_capacity(alloc, size as usize + 1)?;
         match file.read_to_end(&mut octets) {
             Ok(_) => match Bytes::from_vec(octets) {
-                Ok(octets) => Ok(Some(octets)),
+                Ok(octets) => {
+                    self.count();
+                    Ok(Some(octets))
+                }
                 Err(_) => Err(AllocError),
             },
             Err(e) => self.without(e.kind()),

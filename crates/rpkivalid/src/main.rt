@@ -3,6 +3,7 @@
 
 mod arguments;
 mod cache;
+mod counted;
 mod denial;
 mod excepted;
 mod found;
@@ -30,6 +31,7 @@ fn main(rt: HostRuntime) -> ExitCode {
     let host = Host {
         rt: &rt,
         read: Cell::new(true),
+        files: Cell::new(0),
     };
     let status = match words_of(rt.alloc(), env::args(&rt)) {
         Ok(words) => match run_to(&rt, words.as_slice(), &host) {

@@ -1,65 +1,107 @@
-//! Where a run writes: standard output, or a file, which is written beside and then takes the place of the old one.
+//! Where a run writes: standard output, or a file; and a file of metrics. A file is written beside and then takes the
+//! place of the old one.
 
 use crate::host::Host;
 use crate::request::{Request, is_given, matched};
 use crate::run::run;
 use rpki_digests::RsaProvider;
 use std::alloc::{AllocError, Global};
-use std::fs;
+use std::fs::File;
+use std::io::Write;
+use std::{fs, io};
 
-/// The name of the file that the words ask to be written. None if they ask for none, or for no payloads.
-fn output_of<'a>(alloc: Global, words: &'a [String]) -> Result<Option<&'a str>, AllocError> {
+/// The files that a run writes.
+#[derive(Clone, Copy)]
+struct Files<'a> {
+    /// Instead of standard output.
+    output: Option<&'a str>,
+    /// The metrics.
+    metrics: Option<&'a str>,
+}
+
+/// The names of the files that the words ask to be written.
+fn files_of<'a>(alloc: Global, words: &'a [String]) -> Result<Files<'a>, AllocError> {
+    let none = Files {
+        output: None,
+        metrics: None,
+    };
     let Some(matches) = matched(alloc, words)? else {
-        return Ok(None);
+        return Ok(none);
     };
     if is_given(&matches, "help") || is_given(&matches, "version") {
-        return Ok(None);
+        return Ok(none);
     }
     match Request::of(&matches) {
-        Some(request) => Ok(request.output),
-        None => Ok(None),
+        Some(request) => Ok(Files {
+            output: request.output,
+            metrics: request.metrics,
+        }),
+        None => Ok(none),
     }
 }
 
-/// Runs what the words ask for, to a file beside the one of this name, and lets it take the place of that where all is
-/// written. Returns the exit status.
-fn run_to_file(
+/// A file beside the one of this name. None, and a line to the faults, if it can't be made.
+fn made(rt: &HostRuntime, name: &str) -> Result<Option<(File, String)>, AllocError> {
+    let beside = format!(in rt.alloc(); "{name}.new")?;
+    match fs::create(rt, beside.as_str()) {
+        Ok(file) => Ok(Some((file, beside))),
+        Err(_) => {
+            let _ = eprintln!(rt; "rpkivalid: {name}: cannot be written");
+            Ok(None)
+        }
+    }
+}
+
+/// Lets the file beside the one of this name take its place, if all of it is written; else takes it away. Returns the
+/// exit status.
+fn settled(
+    rt: &HostRuntime,
+    file: &File,
+    beside: &str,
+    name: &str,
+    status: Result<u8, AllocError>,
+) -> Result<u8, AllocError> {
+    if let Ok(0 | 1) = status {
+        if file.sync_all().is_ok() && fs::rename(rt, beside, name).is_ok() {
+            return status;
+        }
+    }
+    let _ = fs::remove_file(rt, beside);
+    match status {
+        Ok(_) => Ok(2),
+        Err(e) => Err(e),
+    }
+}
+
+/// Runs what the words ask for, to this output, and writes metrics to the file of this name. Returns the exit status.
+fn run_with<W: Write>(
     rt: &HostRuntime,
     words: &[String],
     host: &Host<'_>,
-    name: &str,
+    out: &mut W,
+    metrics: Option<&str>,
 ) -> Result<u8, AllocError> {
-    let beside = format!(in rt.alloc(); "{name}.new")?;
-    let Ok(mut file) = fs::create(rt, beside.as_str()) else {
-        let _ = eprintln!(rt; "rpkivalid: {name}: cannot be written");
+    let alloc = rt.alloc();
+    let err = &mut rt.stderr();
+    let Some(name) = metrics else {
+        return run(alloc, words, host, &RsaProvider, out, &mut io::sink(), err);
+    };
+    let Some((mut file, beside)) = made(rt, name)? else {
         return Ok(2);
     };
-    let status = run(
-        rt.alloc(),
-        words,
-        host,
-        &RsaProvider,
-        &mut file,
-        &mut rt.stderr(),
-    )?;
-    if status > 1 || file.sync_all().is_err() || fs::rename(rt, beside.as_str(), name).is_err() {
-        let _ = fs::remove_file(rt, beside.as_str());
-        return Ok(2);
-    }
-    Ok(status)
+    let status = run(alloc, words, host, &RsaProvider, out, &mut file, err);
+    settled(rt, &file, beside.as_str(), name, status)
 }
 
 /// Runs what the words ask for, and returns the exit status.
 pub fn run_to(rt: &HostRuntime, words: &[String], host: &Host<'_>) -> Result<u8, AllocError> {
-    match output_of(rt.alloc(), words)? {
-        Some(name) => run_to_file(rt, words, host, name),
-        None => run(
-            rt.alloc(),
-            words,
-            host,
-            &RsaProvider,
-            &mut rt.stdout(),
-            &mut rt.stderr(),
-        ),
-    }
+    let files = files_of(rt.alloc(), words)?;
+    let Some(name) = files.output else {
+        return run_with(rt, words, host, &mut rt.stdout(), files.metrics);
+    };
+    let Some((mut file, beside)) = made(rt, name)? else {
+        return Ok(2);
+    };
+    let status = run_with(rt, words, host, &mut file, files.metrics);
+    settled(rt, &file, beside.as_str(), name, status)
 }

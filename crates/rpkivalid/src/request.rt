@@ -29,6 +29,8 @@ pub struct Request<'m, 'a> {
     pub depth: Option<&'a str>,
     /// The name of the file of local exceptions.
     pub exceptions: Option<&'a str>,
+    /// The name of the file of metrics to write.
+    pub metrics: Option<&'a str>,
     /// The names of the files of locators.
     pub locators: &'m [&'a str],
 }
@@ -84,6 +86,7 @@ fn command<'a>(alloc: Global) -> Result<Command<'a>, AllocError>
         .arg(valued(alloc, "output"))?
         .arg(valued(alloc, "depth"))?
         .arg(valued(alloc, "exceptions"))?
+        .arg(valued(alloc, "metrics"))?
         .arg(repeated(alloc, "tal"))
 }
 
@@ -132,6 +135,9 @@ fn form_of(name: Option<&str>) -> Option<Form>
             if name == "bird" {
                 return Some(Form::Bird);
             }
+            if name == "rpki-client" {
+                return Some(Form::RpkiClient);
+            }
             None
         }
     }
@@ -159,8 +165,8 @@ fn strictness_of(strict: bool) -> Strictness
 }
 
 impl<'m, 'a> Request<'m, 'a> {
-    /// What is asked for: a form, the folder of a copy, and locators; and a moment, a file, a depth, and local
-    /// exceptions, perhaps. None if there is no folder, no locator, or no such form.
+    /// What is asked for: a form, the folder of a copy, and locators; and a moment, a file, a depth, local
+    /// exceptions, and a file of metrics, perhaps. None if there is no folder, no locator, or no such form.
     pub fn of(matches: &'m ArgMatches<'a>) -> Option<Request<'m, 'a>>
         ensures { option_map asked_of result ≡ request_of (rows_in matches.entry.now) }
     {
@@ -175,6 +181,7 @@ impl<'m, 'a> Request<'m, 'a> {
             output: matches.get_str("output"),
             depth: matches.get_str("depth"),
             exceptions: matches.get_str("exceptions"),
+            metrics: matches.get_str("metrics"),
             locators,
         })
     }

@@ -6,7 +6,7 @@ ghost use Rattle.rpkivalid.specs.Arguments.{wordless_text};
 ghost use Rattle.rpkivalid.specs.Moment.{IsDepth, IsMomentOf, IsNoDepth};
 ghost use Rattle.rpkivalid.specs.Request.{help, version};
 ghost use Rattle.rpkivalid.specs.RequestView.{asked_of, wanted_by, Asks, AskHelp, AskVersion, AskRun, AskNothing};
-ghost use Rattle.rpkivalid.specs.Run.{status_of, Runs};
+ghost use Rattle.rpkivalid.specs.Run.{metrics_for, status_of, Runs};
 ghost use Rattle.rpkivalid.specs.RunView.{AnswersTo, Gives};
 ghost use Rattle.rpkivalid.specs.Words.{Prints, PrintsAlone, usage_text};
 
@@ -24,6 +24,7 @@ use clap::ArgMatches;
 use rpki::crypto::Provider;
 use rpki::der::write_whole;
 use rpki::repository::x509::Time;
+use rpki_payloads::{Payloads, metrics_text};
 use std::alloc::{AllocError, Global};
 use std::io::Write;
 
@@ -64,8 +65,20 @@ fn status_of(have_anchors: bool, is_read: bool) -> u8
 pub struct Answer {
     /// The text.
     pub text: Vec<u8>,
+    /// The metrics, if they are asked for.
+    pub metrics: Vec<u8>,
     /// The status.
     pub status: u8,
+}
+
+/// The metrics of what is written, where a file of them is asked for.
+fn metrics_of(alloc: Global, file: Option<&str>, shown: &[Payloads]) -> Result<Vec<u8>, AllocError>
+    ensures { IfOk result (λ text. text.items ≡ metrics_for (option_map (λ name. name.now) file.entry) shown.now) }
+{
+    match file {
+        Some(_) => metrics_text(alloc, shown),
+        None => Ok(Vec::new(alloc)),
+    }
 }
 
 /// What is asked for, at this moment and to this depth. Adds to the report what is rejected.
@@ -102,9 +115,14 @@ fn answer_at<S: Sources, P: Provider>(
     } = found;
     let shown = shown_of(alloc, local, payloads)?;
     let text = request.form.text_of(alloc, shown.as_slice())?;
+    let metrics = metrics_of(alloc, request.metrics, shown.as_slice())?;
     push_counts(report, shown.as_slice())?;
     let status = status_of(have_anchors, host.is_read());
-    Ok(Answer { text, status })
+    Ok(Answer {
+        text,
+        metrics,
+        status,
+    })
 }
 
 /// What is asked for. Adds to the report what is rejected.
@@ -162,52 +180,66 @@ fn deny<F: Write>(alloc: Global, denial: Denial, request: &Request<'_, '_>, err:
     2
 }
 
-/// Writes the report to the faults, and then the text to the output. Returns the exit status; 2 if either fails.
-fn give<W: Write, F: Write>(answer: &Answer, report: &[u8], out: &mut W, err: &mut F) -> u8
-    ensures { Gives (W.contents out.old) (W.contents out.new) answer.now.text.items answer.now.status result }
+/// Writes the report to the faults, then the metrics, and then the text to the output. Returns the exit status; 2 if
+/// one of them fails.
+fn give<W: Write, M: Write, F: Write>(
+    answer: &Answer,
+    report: &[u8],
+    out: &mut W,
+    sink: &mut M,
+    err: &mut F,
+) -> u8
+    ensures { Gives W.contents out.old out.new M.contents sink.old sink.new
+        answer.now.text.items answer.now.metrics.items answer.now.status result }
 {
-    match write_whole(err, report) {
+    if write_whole(err, report).is_err() {
+        return 2;
+    }
+    match write_whole(sink, answer.metrics.as_slice()) {
         Ok(()) => print(answer.text.as_slice(), out, answer.status),
         Err(_) => 2,
     }
 }
 
-/// Writes what is asked for, and what is rejected to the faults; or why there is nothing. Returns the exit status.
-fn validate_all<S: Sources, P: Provider, W: Write, F: Write>(
+/// Writes what is asked for, its metrics, and what is rejected to the faults; or why there is nothing. Returns the exit
+/// status.
+fn validate_all<S: Sources, P: Provider, W: Write, M: Write, F: Write>(
     alloc: Global,
     request: &Request<'_, '_>,
     host: &S,
     crypto: &P,
     out: &mut W,
+    sink: &mut M,
     err: &mut F,
 ) -> u8
-    ensures { Runs P.rsa_of P.ecdsa_of P.sha1_of P.sha256_of crypto.now (S.holds host.now) (S.clock host.now)
-        (W.contents out.old) (W.contents out.new) result (asked_of request.now) }
+    ensures { Runs P.rsa_of P.ecdsa_of P.sha1_of P.sha256_of crypto.now S.holds S.clock host.now
+        W.contents out.old out.new M.contents sink.old sink.new result (asked_of request.now) }
 {
     let mut report = Vec::new(alloc);
     match answer_of(alloc, request, host, crypto, &mut report) {
-        Ok(answer) => give(&answer, report.as_slice(), out, err),
+        Ok(answer) => give(&answer, report.as_slice(), out, sink, err),
         Err(denial) => deny(alloc, denial, request, err),
     }
 }
 
 /// Does what was asked for by these words, and returns the exit status.
-fn respond<S: Sources, P: Provider, W: Write, F: Write>(
+fn respond<S: Sources, P: Provider, W: Write, M: Write, F: Write>(
     alloc: Global,
     matches: &ArgMatches<'_>,
     host: &S,
     crypto: &P,
     out: &mut W,
+    sink: &mut M,
     err: &mut F,
 ) -> u8
-    ensures help { wanted_by matches.now ≡ Some help → PrintsAlone (W.contents out.old) (W.contents out.new)
-        HELP.now 0 result (err.new ≡ err.old) }
-    ensures version { wanted_by matches.now ≡ Some version → PrintsAlone (W.contents out.old) (W.contents out.new)
-        VERSION.now 0 result (err.new ≡ err.old) }
-    ensures run { Asks matches.now (Runs P.rsa_of P.ecdsa_of P.sha1_of P.sha256_of crypto.now
-        (S.holds host.now) (S.clock host.now) (W.contents out.old) (W.contents out.new) result) }
-    ensures usage { wanted_by matches.now ≡ None → PrintsAlone (F.contents err.old) (F.contents err.new) usage_text 2
-        result (out.new ≡ out.old) }
+    ensures help { wanted_by matches.now ≡ Some help → PrintsAlone W.contents out.old out.new
+        HELP.now 0 result ((sink.new ≡ sink.old) × (err.new ≡ err.old)) }
+    ensures version { wanted_by matches.now ≡ Some version → PrintsAlone W.contents out.old out.new
+        VERSION.now 0 result ((sink.new ≡ sink.old) × (err.new ≡ err.old)) }
+    ensures run { Asks matches.now (Runs P.rsa_of P.ecdsa_of P.sha1_of P.sha256_of crypto.now S.holds S.clock
+        host.now W.contents out.old out.new M.contents sink.old sink.new result) }
+    ensures usage { wanted_by matches.now ≡ None → PrintsAlone F.contents err.old err.new usage_text 2
+        result ((out.new ≡ out.old) × (sink.new ≡ sink.old)) }
 {
     if is_given(matches, "help") {
         return print(HELP, out, 0);
@@ -216,42 +248,46 @@ fn respond<S: Sources, P: Provider, W: Write, F: Write>(
         return print(VERSION, out, 0);
     }
     match Request::of(matches) {
-        Some(request) => validate_all(alloc, &request, host, crypto, out, err),
+        Some(request) => validate_all(alloc, &request, host, crypto, out, sink, err),
         None => print(USAGE, err, 2),
     }
 }
 
-/// Runs what the words, which are the program's arguments, ask for, and returns the exit status.
+/// Runs what the words, which are the program's arguments, ask for, and returns the exit status. Metrics go to the
+/// sink.
 ///
 /// `--help` and `--version` print a text. Else what is written to the output are the payloads that are valid at the
 /// moment in the copy, under the locators, with the local exceptions that are asked for: exactly these, each once, in
-/// order, in the form that is asked for; all of them or, where the output fails, a beginning. To the faults goes a line
+/// order, in the form that is asked for; all of them or, where the output fails, a beginning. Before that
+/// their metrics are written, where they are asked for. To the faults goes a line
 /// for each object that is rejected, or why there are no payloads. Of other words it is how the program is used.
 ///
 /// The status is 0 if all is written; 1 if all is, but a locator has no trust anchor, or a file that is there could not
-/// be read; 2 for other words, without a moment or a locator, if allocation fails, if the output or the faults fail,
-/// and where the file of local exceptions can't be read, or is none. Returns `AllocError` if there is no memory to read
-/// the words; then nothing is written.
-pub fn run<S: Sources, P: Provider, W: Write, F: Write>(
+/// be read; 2 for other words, without a moment or a locator, if allocation fails, if the output, the metrics or the
+/// faults fail, and where the file of local exceptions can't be read, or is none. Returns `AllocError` if there is no
+/// memory to read the words; then nothing is written.
+pub fn run<S: Sources, P: Provider, W: Write, M: Write, F: Write>(
     alloc: Global,
     words: &[String],
     host: &S,
     crypto: &P,
     out: &mut W,
+    sink: &mut M,
     err: &mut F,
 ) -> Result<u8, AllocError>
-    ensures help { AskHelp words.now → IfOk result (λ n. PrintsAlone (W.contents out.old) (W.contents out.new)
-        HELP.now 0 n (err.new ≡ err.old)) }
-    ensures version { AskVersion words.now → IfOk result (λ n. PrintsAlone (W.contents out.old) (W.contents out.new)
-        VERSION.now 0 n (err.new ≡ err.old)) }
-    ensures run { AskRun words.now result (Runs P.rsa_of P.ecdsa_of P.sha1_of P.sha256_of crypto.now
-        (S.holds host.now) (S.clock host.now) (W.contents out.old) (W.contents out.new)) }
-    ensures usage { AskNothing words.now → IfOk result (λ n. PrintsAlone (F.contents err.old) (F.contents err.new)
-        usage_text 2 n (out.new ≡ out.old)) }
-    ensures kept { IfErr result (λ _. (out.new ≡ out.old) × (err.new ≡ err.old)) }
+    ensures help { AskHelp words.now → IfOk result (λ n. PrintsAlone W.contents out.old out.new
+        HELP.now 0 n ((sink.new ≡ sink.old) × (err.new ≡ err.old))) }
+    ensures version { AskVersion words.now → IfOk result (λ n. PrintsAlone W.contents out.old out.new
+        VERSION.now 0 n ((sink.new ≡ sink.old) × (err.new ≡ err.old))) }
+    ensures run { AskRun words.now result (Runs P.rsa_of P.ecdsa_of P.sha1_of P.sha256_of crypto.now S.holds
+        S.clock host.now W.contents out.old out.new M.contents sink.old sink.new) }
+    ensures usage { AskNothing words.now → IfOk result (λ n. PrintsAlone F.contents err.old err.new
+        usage_text 2 n ((out.new ≡ out.old) × (sink.new ≡ sink.old))) }
+    ensures kept { IfErr result (λ _. (out.new ≡ out.old) × (sink.new ≡ sink.old)
+        × (err.new ≡ err.old)) }
 {
     match matched(alloc, words) {
-        Ok(Some(matches)) => Ok(respond(alloc, &matches, host, crypto, out, err)),
+        Ok(Some(matches)) => Ok(respond(alloc, &matches, host, crypto, out, sink, err)),
         Ok(None) => Ok(print(USAGE, err, 2)),
         Err(e) => Err(e),
     }

@@ -1,9 +1,9 @@
 //! The texts of a run that are no payloads.
 
 /// How the program is used.
-pub const USAGE: &[u8] =
-    b"usage: rpkivalid --tal FILE.. --cache FOLDER [--at MOMENT] [--form csv|json|openbgpd|bird] \
-[--output FILE] [--exceptions FILE] [--depth N] [--strict]\n";
+pub const USAGE: &[u8] = b"usage: rpkivalid --tal FILE.. --cache FOLDER [--at MOMENT] \
+[--form csv|json|rpki-client|openbgpd|bird] [--output FILE] \
+[--exceptions FILE] [--metrics FILE] [--depth N] [--strict]\n";
 
 /// The program's name and version.
 pub const VERSION: &[u8] = b"rpkivalid 0.2.0\n";
@@ -25,8 +25,8 @@ pub const HELP: &[u8] = b"\
 rpkivalid - validate a local copy of a repository of the RPKI
 
 usage: rpkivalid --tal FILE.. --cache FOLDER [--at MOMENT]
-                 [--form csv|json|openbgpd|bird] [--output FILE]
-                 [--exceptions FILE] [--depth N] [--strict]
+                 [--form csv|json|rpki-client|openbgpd|bird] [--output FILE]
+                 [--exceptions FILE] [--metrics FILE] [--depth N] [--strict]
        rpkivalid -h | --help
        rpkivalid --version
 
@@ -42,12 +42,15 @@ line, and how many payloads there are.
                   rsync, rpki-client and Routinator leave it; a trust anchor at an
                   https URI is FOLDER/ta/NAME/FILE
   --at MOMENT     such as 2026-11-27T12:00:00Z (RFC 3339); else the clock's
-  --form F        csv (the default) or json, as of Routinator, with each payload
-                  once for each locator; openbgpd or bird, with each once
+  --form F        csv (the default) or json, as of Routinator, or rpki-client, its
+                  csv with the second that each ends in, with each payload once
+                  for each locator; openbgpd or bird, with each once
   --output FILE   write to FILE, whole or not at all; else to standard output
   --exceptions FILE
                   local exceptions (RFC 8416): take away what its filters match,
                   and add its assertions, under the name of the file
+  --metrics FILE  write to FILE what is counted for each locator (OpenMetrics): its
+                  trust anchor, payloads, and what is rejected
   --depth N       at most N authorities below a trust anchor; 32 by default
   --strict        hold names to their profile, signed objects to RFC 9589, and
                   the families of a route origin to their order

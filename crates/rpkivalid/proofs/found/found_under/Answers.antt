@@ -1,4 +1,5 @@
-use Rattle.std.proofs.Common.{◌∙◌, List, subst, sym}
+use Rattle.std.proofs.Common.{◌∙◌, true, List, ap, subst, sym}
+use Rattle.std.specs.Prelude.{Some}
 use Rattle.std.specs.List.{Contains, flat_map}
 use Rattle.rpki_contents.specs.Aspa.{AspaParts}
 use Rattle.rpki_contents.specs.declared.route_origin.RouteOrigin.{RouteOrigin}
@@ -10,6 +11,8 @@ use Rattle.rpki_payloads.specs.Vrp.{AreOrigins}
 use Rattle.rpki_valid.specs.Verified.{Holder}
 use Rattle.rpki_validation.specs.declared.payload.Payload.{Payload}
 use Rattle.rpki_validation.specs.Holding.{values}
+use Rattle.rpkivalid.specs.Counted.{tally_of}
+use Rattle.rpkivalid.specs.Ends.{AreEnds}
 use Rattle.rpkivalid.specs.Found.{basis_with, router_keys}
 use Rattle.rpkivalid.specs.LocatorsView.{named_of}
 use Rattle.rpkivalid.proofs.FoundLaws.{flat-values, found-valid, found-none}
@@ -24,10 +27,10 @@ returns-in_ok-payloads-in-Ok g c =
     (basis_with g.P.Provider.rsa_of g.P.Provider.ecdsa_of g.P.Provider.sha1_of g.P.Provider.sha256_of
     c.args.provider.now c.args.strictness c.args.at c.args.depth)
     (named_of c.args.named.now) payloads _ _ c.as_str.ensures.value c.as_slice-uris.ensures.value named
-    (values c.in-Ok.outcome.origins.items) (values c.in-Ok.outcome.providers.items)
-    (values c.in-Ok.outcome.routers.items)
+    c.in-Ok.outcome.origins.items (values c.in-Ok.outcome.providers.items) (values c.in-Ok.outcome.routers.items)
     (subst (λ (o : List (Payload RouteOrigin)). AreOrigins (values o) payloads.vrps) c.as_slice-in-Ok.ensures.value
     told.vrps)
+    (subst (λ (o : List (Payload RouteOrigin)). AreEnds o payloads.timed) c.as_slice-in-Ok.ensures.value told.timed)
     (subst (λ w. IsSetOf pair_cmp (Contains w) payloads.pairs)
     (flat-values (λ x. pairs_of x.content) c.in-Ok.outcome.providers.items)
     (subst (λ (o : List (Payload (TypedParts AspaParts))). IsSetOf pair_cmp (Contains (flat_map (λ p.
@@ -36,10 +39,15 @@ returns-in_ok-payloads-in-Ok g c =
     (flat-values (router_keys (g.P.Provider.sha1_of c.args.provider.now)) c.in-Ok.outcome.routers.items)
     (subst (λ (o : List (Payload Holder)). IsSetOf key_cmp (Contains (flat_map (λ p. router_keys
     (g.P.Provider.sha1_of c.args.provider.now) p.value) o)) payloads.keys) c.as_slice-in-Ok-3.ensures.value told.keys))
+    c.in-Ok.outcome.rejections.items
     (λ published k. (c.in-Ok.ensures published k).origins)
+    (λ published k. (c.in-Ok.ensures published k).origins_hold)
     (λ published k. (c.in-Ok.ensures published k).providers)
     (λ published k. (c.in-Ok.ensures published k).routers)
     (λ published k. let v = c.in-Ok.ensures published k in (v.anchor, v.first))
+    (λ published k. (c.in-Ok.ensures published k).rejections)
+    (λ published k. (c.in-Ok.ensures published k).rejected)
+    (told.tally ∙ ap Some (c.tally_of.ensures ∙ ap (tally_of true) c.as_slice-in-Ok-4.ensures.value))
 
 pub returns-in_ok-payloads-in-Err-Rejected : goal.returns-in_ok-payloads-in-Err-Rejected
 returns-in_ok-payloads-in-Err-Rejected g c =
@@ -50,5 +58,6 @@ returns-in_ok-payloads-in-Err-Rejected g c =
     (basis_with g.P.Provider.rsa_of g.P.Provider.ecdsa_of g.P.Provider.sha1_of g.P.Provider.sha256_of
     c.args.provider.now c.args.strictness c.args.at c.args.depth)
     (named_of c.args.named.now) payloads _ _ c.as_str.ensures.value c.as_slice-uris.ensures.value named told.vrps
-    told.pairs told.keys
+    told.timed told.pairs told.keys
     (λ published k. let h = rw c.in-Err-Rejected.field-0-is at c.in-Err-Rejected.ensures published k in h.0)
+    (told.tally ∙ ap Some c.tally_of-in-Err-Rejected.ensures)

@@ -23,5 +23,7 @@ returns c =
     let depth = c.in_ok-arg-8.ensures.shape c.valued-5.ensures.local ∙ ap₂ with_rule output c.valued-5.ensures.rule in
     let exceptions = c.in_ok-arg-9.ensures.shape c.valued-6.ensures.local
     ∙ ap₂ with_rule depth c.valued-6.ensures.rule in
-    IfOk-weaker c.arg-10.result _ _ (λ r h. h.shape c.repeated.ensures.local
-    ∙ ap₂ with_rule exceptions c.repeated.ensures.rule) c.arg-10.ensures
+    let metrics = c.in_ok-arg-10.ensures.shape c.valued-7.ensures.local
+    ∙ ap₂ with_rule exceptions c.valued-7.ensures.rule in
+    IfOk-weaker c.arg-11.result _ _ (λ r h. h.shape c.repeated.ensures.local
+    ∙ ap₂ with_rule metrics c.repeated.ensures.rule) c.arg-11.ensures

@@ -17,6 +17,7 @@ returns g c = record {
   shown = c.in_ok-shown.shown.items;
   excepted = shown-by _ _ _ _ _ c.in_ok-local.ensures c.in_ok-shown.ensures;
   written = rw c.as_slice-2.ensures.value at c.in_ok-text.ensures;
+  metrics_are = rw c.as_slice-3.ensures.value at c.in_ok-metrics.ensures;
   read = c.is_read.result;
   known = c.is_read.ensures;
   status_is = c.status_of-status.ensures;

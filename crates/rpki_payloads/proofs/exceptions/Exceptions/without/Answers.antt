@@ -1,13 +1,16 @@
 use Rattle.std.proofs.Common.{◌∙◌}
-use Rattle.rpki_payloads.proofs.ExceptionLaws.{is-without, kept-set, left-set}
+use Rattle.rpki_payloads.proofs.ExceptionLaws.{is-without, kept-set, kept-timed, left-set}
 use Rattle.rpki_payloads.proofs.exceptions.Exceptions.without.Goals as goal
 
 pub returns : goal.returns
 returns c =
-    is-without c.args.self.now c.args.one.now c.new.result _ c.sort_vrps.new.vrps.items c.in_ok-pairs.pairs.items
-    c.sort_keys.new.keys.items c.new.ensures c.in_ok-name.ensures
+    is-without c.args.self.now c.args.one.now c.new.result _ c.sort_vrps.new.vrps.items c.sort_timed.new.all.items
+    c.in_ok-pairs.pairs.items c.sort_keys.new.keys.items c.tally.result c.new.ensures c.in_ok-name.ensures
     (kept-set _ _ _ _ c.in_ok-vrps.vrps.items c.sort_vrps.new.vrps.items c.as_slice.ensures.value c.vrps.ensures
     c.in_ok-vrps.ensures c.sort_vrps.ensures)
+    (kept-timed _ _ _ _ c.in_ok-timed.timed.items c.sort_timed.new.all.items c.as_slice-2.ensures.value c.timed.ensures
+    c.in_ok-timed.ensures c.sort_timed.ensures)
     (c.in_ok-pairs.ensures ∙ c.pairs.ensures)
-    (left-set _ _ _ _ c.in_ok-keys.keys.items c.sort_keys.new.keys.items c.as_slice-2.ensures.value c.keys.ensures
+    (left-set _ _ _ _ c.in_ok-keys.keys.items c.sort_keys.new.keys.items c.as_slice-3.ensures.value c.keys.ensures
     c.in_ok-keys.ensures c.sort_keys.ensures)
+    c.tally.ensures

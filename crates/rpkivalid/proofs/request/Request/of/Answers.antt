@@ -55,7 +55,8 @@ returns c =
     let output = c.get_str-4.ensures ∙ first_value-rows (found_of c.args.matches.now) (codes "output") in
     let depth = c.get_str-5.ensures ∙ first_value-rows (found_of c.args.matches.now) (codes "depth") in
     let exceptions = c.get_str-6.ensures ∙ first_value-rows (found_of c.args.matches.now) (codes "exceptions") in
-    of-all rows _ _ _ _ _ c.in_ok-form.form c.in_ok-cache.cache.now
+    let metrics = c.get_str-7.ensures ∙ first_value-rows (found_of c.args.matches.now) (codes "metrics") in
+    of-all rows _ _ _ _ _ _ c.in_ok-form.form c.in_ok-cache.cache.now
     (map (λ file. file.now) c.in_ok-locators.locators.now)
-    (c.strictness_of.ensures ∙ ap strictness_of c.is_given.ensures) moment output depth exceptions
+    (c.strictness_of.ensures ∙ ap strictness_of c.is_given.ensures) moment output depth exceptions metrics
     (sym form ∙ named) (rw cache at folder) (rw files at all)

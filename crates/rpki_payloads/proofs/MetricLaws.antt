@@ -1,0 +1,9 @@
+-- Texts that are added one after another.
+use Rattle.std.proofs.Common.{◌≡◌, ◌∙◌, ℕ, List, ◌++◌, ap, append_assoc}
+
+pub then-two : (old a b x y : List ℕ) → x ≡ old ++ a → y ≡ x ++ b → y ≡ old ++ (a ++ b)
+then-two old a b x y first second = second ∙ ap (λ (w : List ℕ). w ++ b) first ∙ append_assoc old a b
+
+pub then-three : (old a b c x y z : List ℕ) → x ≡ old ++ a → y ≡ x ++ b → z ≡ y ++ c → z ≡ old ++ (a ++ b ++ c)
+then-three old a b c x y z first second third =
+    then-two old (a ++ b) c y z (then-two old a b x y first second) third

@@ -1,0 +1,7 @@
+use Rattle.std.proofs.Common.{◌≡◌, ◌++◌, take}
+use Rattle.std.specs.List.{flat_map}
+use Rattle.rpki_payloads.specs.Lines.{client_lines}
+use Rattle.rpki_payloads.proofs.client.push_client_payloads.Given as goal
+
+abbrev pub invariant-all : goal.invariant-all
+invariant-all l = l.text.items ≡ l.initial.text.items ++ flat_map client_lines (take l.one-index l.all)

@@ -1,0 +1,77 @@
+-- Counts as metrics, in the text format of OpenMetrics 1.0.
+use Rattle.std.specs.Prelude.{◌==◌, ◌||◌, ◌++◌, ℕ, Bool, List, [], ◌∷◌, Option, Some, None, codes, decimal, length}
+use Rattle.std.specs.Prelude.{if◌then◌else◌}
+use Rattle.std.specs.List.{flat_map}
+use Rattle.rpki_payloads.specs.declared.tally.Tally.{Tally}
+use Rattle.rpki_payloads.specs.Payloads.{PayloadParts}
+
+-- an octet of the value of a label: a line feed as `\n`, a quotation mark and a backslash behind a backslash
+abbrev pub escaped : ℕ → List ℕ
+escaped octet =
+    if octet == 10 then 92 ∷ 110 ∷ []
+    else if octet == 34 || octet == 92 then 92 ∷ octet ∷ []
+    else octet ∷ []
+
+-- a sample of a family, with the name of a locator, and more labels: `family{ta="name",type="x"} 7`
+unfoldable pub sample : List ℕ → List ℕ → List ℕ → ℕ → List ℕ
+sample family name more n =
+    family ++ codes "{ta=\"" ++ flat_map escaped name ++ codes "\"" ++ more ++ codes "} " ++ decimal n ++ 10 ∷ []
+
+abbrev pub bit : Bool → ℕ
+bit b = if b then 1 else 0
+
+-- whether the locator has a trust anchor
+unfoldable pub anchor_in : List ℕ → Option Tally → List ℕ
+anchor_in name None = []
+anchor_in name (Some t) = sample (codes "rpkivalid_trust_anchor") name [] (bit t.is_anchored)
+
+abbrev pub anchor_samples : PayloadParts → List ℕ
+anchor_samples p = anchor_in p.name p.tally
+
+-- how many payloads there are of each kind
+unfoldable pub kind_samples : List ℕ → (origins providers keys : ℕ) → List ℕ
+kind_samples name origins providers keys =
+    sample (codes "rpkivalid_payloads") name (codes ",type=\"origin\"") origins
+    ++ sample (codes "rpkivalid_payloads") name (codes ",type=\"provider\"") providers
+    ++ sample (codes "rpkivalid_payloads") name (codes ",type=\"router_key\"") keys
+
+abbrev pub payload_samples : PayloadParts → List ℕ
+payload_samples p = kind_samples p.name (length p.vrps) (length p.pairs) (length p.keys)
+
+-- how many publication points and objects are rejected
+unfoldable pub tally_samples : List ℕ → Tally → List ℕ
+tally_samples name t =
+    sample (codes "rpkivalid_rejected") name (codes ",type=\"point\"") t.points
+    ++ sample (codes "rpkivalid_rejected") name (codes ",type=\"object\"") t.objects
+
+abbrev pub rejected_in : List ℕ → Option Tally → List ℕ
+rejected_in name None = []
+rejected_in name (Some t) = tally_samples name t
+
+abbrev pub rejected_samples : PayloadParts → List ℕ
+rejected_samples p = rejected_in p.name p.tally
+
+-- ---- families, each under its type and what it says
+
+abbrev pub anchor_titles : List ℕ
+anchor_titles =
+    codes "# TYPE rpkivalid_trust_anchor gauge\n# HELP rpkivalid_trust_anchor Whether the locator has a trust anchor.\n"
+
+abbrev pub payload_titles : List ℕ
+payload_titles = codes "# TYPE rpkivalid_payloads gauge\n# HELP rpkivalid_payloads How many payloads are written.\n"
+
+abbrev pub rejected_titles : List ℕ
+rejected_titles =
+    codes "# TYPE rpkivalid_rejected gauge\n# HELP rpkivalid_rejected How many points and objects are rejected.\n"
+
+unfoldable pub anchor_family : List PayloadParts → List ℕ
+anchor_family all = anchor_titles ++ flat_map anchor_samples all
+
+unfoldable pub payload_family : List PayloadParts → List ℕ
+payload_family all = payload_titles ++ flat_map payload_samples all
+
+unfoldable pub rejected_family : List PayloadParts → List ℕ
+rejected_family all = rejected_titles ++ flat_map rejected_samples all
+
+abbrev pub metrics_text : List PayloadParts → List ℕ
+metrics_text all = anchor_family all ++ payload_family all ++ rejected_family all ++ codes "# EOF\n"

@@ -1,0 +1,241 @@
+//! Counts as metrics, in the text format of OpenMetrics 1.0.
+
+ghost use Rattle.std.specs.Prelude.{◌≡◌, ◌++◌, OnOk, IfOk};
+ghost use Rattle.std.specs.List.{flat_map};
+ghost use Rattle.rpki_payloads.specs.Metrics.{anchor_family, anchor_samples, bit, escaped, metrics_text};
+ghost use Rattle.rpki_payloads.specs.Metrics.{payload_family, payload_samples, rejected_family, rejected_samples};
+ghost use Rattle.rpki_payloads.specs.Metrics.{kind_samples, sample, tally_samples};
+
+use crate::payloads::Payloads;
+use crate::tally::Tally;
+use std::alloc::{AllocError, Global};
+
+/// Adds an octet of the value of a label: a quotation mark, a backslash and a line feed by a backslash.
+fn push_escaped(text: &mut Vec<u8>, octet: u8) -> Result<(), AllocError>
+    ensures { OnOk result (text.new.items ≡ text.old.items ++ escaped octet) }
+{
+    if octet == b'\n' {
+        return text.extend_from_slice(b"\\n");
+    }
+    if octet == b'"' || octet == b'\\' {
+        text.push(b'\\')?;
+    }
+    text.push(octet)?;
+    Ok(())
+}
+
+/// Adds the value of a label.
+fn push_value(text: &mut Vec<u8>, value: &[u8]) -> Result<(), AllocError>
+    ensures { OnOk result (text.new.items ≡ text.old.items ++ flat_map escaped value.now) }
+{
+    'octets: for octet in value {
+        push_escaped(text, *octet)?;
+    }
+    Ok(())
+}
+
+/// Adds a sample of a family: of the locator of this name, with more labels.
+#[tactic(auto, unfolding(crate::specs::Metrics::sample))]
+fn push_sample(
+    text: &mut Vec<u8>,
+    family: &[u8],
+    name: &[u8],
+    more: &[u8],
+    count: usize,
+) -> Result<(), AllocError>
+    ensures { OnOk result (text.new.items ≡ text.old.items ++ sample family.now name.now more.now count) }
+{
+    let alloc = *text.allocator();
+    let end = format!(in alloc; "}} {count}\n")?;
+    text.extend_from_slice(family)?;
+    text.extend_from_slice(b"{ta=\"")?;
+    push_value(text, name)?;
+    text.extend_from_slice(b"\"")?;
+    text.extend_from_slice(more)?;
+    text.extend_from_slice(end.as_bytes())
+}
+
+/// 1 where it is so.
+fn bit(is_so: bool) -> usize
+    ensures { result ≡ bit is_so }
+{
+    if is_so { 1 } else { 0 }
+}
+
+/// Adds whether the locator has a trust anchor.
+#[tactic(auto, unfolding(crate::specs::Metrics::anchor_in))]
+fn push_anchor(text: &mut Vec<u8>, one: &Payloads) -> Result<(), AllocError>
+    ensures { OnOk result (text.new.items ≡ text.old.items ++ anchor_samples one.now) }
+{
+    match one.tally() {
+        Some(tally) => push_sample(
+            text,
+            b"rpkivalid_trust_anchor",
+            one.name(),
+            b"",
+            bit(tally.is_anchored),
+        ),
+        None => Ok(()),
+    }
+}
+
+/// Adds these numbers of payloads, by kind.
+#[tactic(auto, unfolding(crate::specs::Metrics::kind_samples))]
+fn push_kinds(
+    text: &mut Vec<u8>,
+    name: &[u8],
+    origins: usize,
+    providers: usize,
+    keys: usize,
+) -> Result<(), AllocError>
+    ensures { OnOk result (text.new.items ≡ text.old.items ++ kind_samples name.now origins providers keys) }
+{
+    push_sample(
+        text,
+        b"rpkivalid_payloads",
+        name,
+        b",type=\"origin\"",
+        origins,
+    )?;
+    push_sample(
+        text,
+        b"rpkivalid_payloads",
+        name,
+        b",type=\"provider\"",
+        providers,
+    )?;
+    push_sample(
+        text,
+        b"rpkivalid_payloads",
+        name,
+        b",type=\"router_key\"",
+        keys,
+    )?;
+    Ok(())
+}
+
+/// Adds how many payloads there are of each kind.
+fn push_payloads(text: &mut Vec<u8>, one: &Payloads) -> Result<(), AllocError>
+    ensures { OnOk result (text.new.items ≡ text.old.items ++ payload_samples one.now) }
+{
+    let origins = one.vrps().len();
+    let providers = one.pairs().len();
+    let keys = one.keys().len();
+    push_kinds(text, one.name(), origins, providers, keys)
+}
+
+/// Adds how many publication points and objects are rejected.
+#[tactic(auto, unfolding(crate::specs::Metrics::tally_samples))]
+fn push_tally(text: &mut Vec<u8>, name: &[u8], tally: Tally) -> Result<(), AllocError>
+    ensures { OnOk result (text.new.items ≡ text.old.items ++ tally_samples name.now tally) }
+{
+    push_sample(
+        text,
+        b"rpkivalid_rejected",
+        name,
+        b",type=\"point\"",
+        tally.points,
+    )?;
+    push_sample(
+        text,
+        b"rpkivalid_rejected",
+        name,
+        b",type=\"object\"",
+        tally.objects,
+    )?;
+    Ok(())
+}
+
+/// Adds how much is rejected, where it was counted.
+fn push_rejected(text: &mut Vec<u8>, one: &Payloads) -> Result<(), AllocError>
+    ensures { OnOk result (text.new.items ≡ text.old.items ++ rejected_samples one.now) }
+{
+    match one.tally() {
+        Some(tally) => push_tally(text, one.name(), tally),
+        None => Ok(()),
+    }
+}
+
+/// Adds which locators have a trust anchor.
+fn push_anchors(text: &mut Vec<u8>, all: &[Payloads]) -> Result<(), AllocError>
+    ensures { OnOk result (text.new.items ≡ text.old.items ++ flat_map anchor_samples all.now) }
+{
+    'all: for one in all {
+        push_anchor(text, one)?;
+    }
+    Ok(())
+}
+
+/// Adds how many payloads there are under each locator.
+fn push_all_payloads(text: &mut Vec<u8>, all: &[Payloads]) -> Result<(), AllocError>
+    ensures { OnOk result (text.new.items ≡ text.old.items ++ flat_map payload_samples all.now) }
+{
+    'all: for one in all {
+        push_payloads(text, one)?;
+    }
+    Ok(())
+}
+
+/// Adds how much is rejected under each locator.
+fn push_all_rejected(text: &mut Vec<u8>, all: &[Payloads]) -> Result<(), AllocError>
+    ensures { OnOk result (text.new.items ≡ text.old.items ++ flat_map rejected_samples all.now) }
+{
+    'all: for one in all {
+        push_rejected(text, one)?;
+    }
+    Ok(())
+}
+
+/// Adds the family that says which locators have a trust anchor.
+#[tactic(auto, unfolding(crate::specs::Metrics::anchor_family))]
+fn push_anchor_family(text: &mut Vec<u8>, all: &[Payloads]) -> Result<(), AllocError>
+    ensures { OnOk result (text.new.items ≡ text.old.items ++ anchor_family all.now) }
+{
+    text.extend_from_slice(
+        b"# TYPE rpkivalid_trust_anchor gauge\n\
+# HELP rpkivalid_trust_anchor Whether the locator has a trust anchor.\n",
+    )?;
+    push_anchors(text, all)?;
+    Ok(())
+}
+
+/// Adds the family that says how many payloads there are.
+#[tactic(auto, unfolding(crate::specs::Metrics::payload_family))]
+fn push_payload_family(text: &mut Vec<u8>, all: &[Payloads]) -> Result<(), AllocError>
+    ensures { OnOk result (text.new.items ≡ text.old.items ++ payload_family all.now) }
+{
+    text.extend_from_slice(
+        b"# TYPE rpkivalid_payloads gauge\n\
+# HELP rpkivalid_payloads How many payloads are written.\n",
+    )?;
+    push_all_payloads(text, all)?;
+    Ok(())
+}
+
+/// Adds the family that says how much is rejected.
+#[tactic(auto, unfolding(crate::specs::Metrics::rejected_family))]
+fn push_rejected_family(text: &mut Vec<u8>, all: &[Payloads]) -> Result<(), AllocError>
+    ensures { OnOk result (text.new.items ≡ text.old.items ++ rejected_family all.now) }
+{
+    text.extend_from_slice(
+        b"# TYPE rpkivalid_rejected gauge\n\
+# HELP rpkivalid_rejected How many points and objects are rejected.\n",
+    )?;
+    push_all_rejected(text, all)?;
+    Ok(())
+}
+
+/// What is counted under each locator: whether it has a trust anchor; how many payloads there are of each kind; and how
+/// many publication points and objects are rejected. What local exceptions add has payloads alone.
+///
+/// Returns `AllocError` if allocation fails.
+pub fn metrics_text(alloc: Global, all: &[Payloads]) -> Result<Vec<u8>, AllocError>
+    ensures { IfOk result (λ text. text.items ≡ metrics_text all.now) }
+{
+    let mut text = Vec::new(alloc);
+    push_anchor_family(&mut text, all)?;
+    push_payload_family(&mut text, all)?;
+    push_rejected_family(&mut text, all)?;
+    text.extend_from_slice(b"# EOF\n")?;
+    Ok(text)
+}
