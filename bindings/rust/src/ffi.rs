@@ -356,6 +356,21 @@ pub(crate) fn certificate_inspect(octets: &[u8], profile: u8, strict: bool) -> R
     done(unsafe { rpki_certificate_inspect(octets.as_ptr(), octets.len(), profile, strict) })
 }
 
+/// The parts of a certificate that keeps the profile of this number, and its extensions.
+pub(crate) fn certificate_checked(
+    octets: &[u8],
+    profile: u8,
+    strict: bool,
+) -> Result<(CertificateParts, KnownExtensions), Status> {
+    let mut extensions = KnownExtensions::default();
+    // SAFETY: pointer and size are those of one slice, which is borrowed for the call; `extensions` is this function's
+    // own.
+    let parts = told(|out| unsafe {
+        rpki_certificate_checked(octets.as_ptr(), octets.len(), profile, strict, out, &mut extensions)
+    })?;
+    Ok((parts, extensions))
+}
+
 /// The part of a certificate that is wrong, and what is wrong with it, as statuses.
 pub(crate) fn certificate_error(octets: &[u8]) -> Result<(), (Status, Status)> {
     compared();
@@ -484,10 +499,34 @@ pub(crate) trait Parts: Copy {
     fn of(text: &[u8]) -> Result<Self, Status>;
 }
 
+/// Where the scheme and the authority of a text end, and whether they are in lower case: in one number, since a struct of
+/// few numbers is copied at once.
+#[derive(Clone, Copy)]
+struct Front(usize);
+
+impl Front {
+    #[inline]
+    fn of(text: &[u8], end: usize) -> Self {
+        // All are looked at, several at a time.
+        let is_lower = !text[..end].iter().fold(false, |found, octet| found | octet.is_ascii_uppercase());
+        Front(end << 1 | usize::from(is_lower))
+    }
+
+    #[inline]
+    fn end(self) -> usize {
+        self.0 >> 1
+    }
+
+    #[inline]
+    fn is_lower(self) -> bool {
+        self.0 & 1 == 1
+    }
+}
+
 /// Where the first parts of an rsync URI end, `rsync://AUTHORITY/MODULE/PATH`: what is left is the path.
 #[derive(Clone, Copy)]
 pub(crate) struct RsyncEnds {
-    authority: usize,
+    front: Front,
     module_name: usize,
 }
 
@@ -498,7 +537,19 @@ impl RsyncEnds {
     /// The end of the authority.
     #[inline]
     pub(crate) fn authority(self) -> usize {
-        self.authority
+        self.front.end()
+    }
+
+    /// Whether the scheme and the authority are in lower case.
+    #[inline]
+    pub(crate) fn is_lower(self) -> bool {
+        self.front.is_lower()
+    }
+
+    /// Where the authority and the name of the module end.
+    #[inline]
+    pub(crate) fn places_of_module(self) -> (usize, usize) {
+        (self.authority(), self.module_name)
     }
 
     /// The end of the name of the module.
@@ -526,21 +577,28 @@ fn place(start: usize, end: usize) -> Place {
 impl Parts for RsyncEnds {
     fn of(text: &[u8]) -> Result<Self, Status> {
         let RsyncParts { authority, module_name, .. } = rsync_parse(text)?;
-        Ok(RsyncEnds { authority: authority.range().end, module_name: module_name.range().end })
+        let (authority, module_name) = (authority.range().end, module_name.range().end);
+        Ok(RsyncEnds { front: Front::of(text, authority), module_name })
     }
 }
 
 /// Where the authority of an https URI ends: what is left is the path.
 #[derive(Clone, Copy)]
 pub(crate) struct HttpsEnds {
-    authority: usize,
+    front: Front,
 }
 
 impl HttpsEnds {
     /// The end of the authority.
     #[inline]
     pub(crate) fn authority(self) -> usize {
-        self.authority
+        self.front.end()
+    }
+
+    /// Whether the scheme and the authority are in lower case.
+    #[inline]
+    pub(crate) fn is_lower(self) -> bool {
+        self.front.is_lower()
     }
 
     /// The places of the parts of a text of this size.
@@ -552,7 +610,8 @@ impl HttpsEnds {
 
 impl Parts for HttpsEnds {
     fn of(text: &[u8]) -> Result<Self, Status> {
-        Ok(HttpsEnds { authority: https_parse(text)?.authority.range().end })
+        let authority = https_parse(text)?.authority.range().end;
+        Ok(HttpsEnds { front: Front::of(text, authority) })
     }
 }
 
@@ -642,7 +701,8 @@ impl<P: Parts> Parsed<P> {
 
 /// The calls on texts with places of their parts.
 macro_rules! calls_on {
-    ($ends:ident: canonical($canonical:ident), parent($parent:ident), join($join:ident), into_dir($into_dir:ident);
+    ($ends:ident: canonical($canonical:ident), parent($(#[$if:meta])* $parent:ident), join($join:ident),
+     into_dir($into_dir:ident);
      $($(#[$when:meta])* $tell:ident($two:ident) -> $told:ty),*) => {
         impl Parsed<$ends> {
             $($(#[$when])*
@@ -666,6 +726,7 @@ macro_rules! calls_on {
             }
 
             /// How many octets of the text are its parent's.
+            $(#[$if])*
             pub(crate) fn parent(&self) -> Result<usize, Status> {
                 let (text, parts) = (&self.text, self.ends.places(self.text.len()));
                 // SAFETY: as above.
@@ -701,8 +762,8 @@ macro_rules! calls_on {
 }
 
 calls_on! {
-    RsyncEnds: canonical(rpki_rsync_parts_canonical), parent(rpki_rsync_parts_parent), join(rpki_rsync_parts_join),
-    into_dir(rpki_rsync_parts_into_dir);
+    RsyncEnds: canonical(rpki_rsync_parts_canonical), parent(#[cfg(test)] rpki_rsync_parts_parent),
+    join(rpki_rsync_parts_join), into_dir(rpki_rsync_parts_into_dir);
     #[cfg(test)]
     relative_to(rpki_rsync_parts_relative_to) -> Place,
     #[cfg(test)]
@@ -733,7 +794,7 @@ unsafe fn write(writer: Writer, octets: &[u8], guess: usize) -> Result<Vec<u8>, 
 }
 
 /// Writes the octets in hexadecimal digits to the front of the buffer, and says how many they are.
-#[inline]
+#[cfg(test)]
 pub(crate) fn hex_into(octets: &[u8], out: &mut [u8]) -> Result<usize, Status> {
     // SAFETY: pointers and sizes are those of slices, which are borrowed for the call.
     placed(out, |out, capacity, written| unsafe { rpki_hex(octets.as_ptr(), octets.len(), out, capacity, written) })

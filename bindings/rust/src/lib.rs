@@ -5,8 +5,8 @@
 //! forever. It is linked as a static library, `librpki.a`; README.md says where the build looks for it, and what each
 //! type rests on. What is in this crate is not proved: it passes slices, and turns spans of them into slices again.
 //!
-//! The modules `crypto`, `oid`, `repository`, `uri` and `util` have the types of the crate rpki 0.20, which own their
-//! octets and share them; `view` has the calls of the library on borrowed octets.
+//! The modules `crypto`, `oid`, `repository`, `resources`, `uri` and `util` have the types of the crate rpki 0.20,
+//! which own their octets and share them; `view` has the calls of the library on borrowed octets.
 //!
 //! ```
 //! use rpki_proved as rpki;
@@ -28,8 +28,10 @@ pub mod crypto;
 mod encode;
 #[allow(unsafe_code)]
 mod ffi;
+mod octets;
 pub mod oid;
 pub mod repository;
+pub mod resources;
 #[cfg(feature = "serde")]
 mod texts;
 pub mod uri;
@@ -37,6 +39,7 @@ pub mod util;
 mod version;
 pub mod view;
 
+pub use octets::IntoOctets;
 pub use version::{library_version, Version};
 pub use view::DecodeError;
 

@@ -55,3 +55,45 @@ pub(crate) fn octets<'de, T, E: fmt::Display, D: Deserializer<'de>>(
         read(octets).map_err(|error| error.to_string())
     })
 }
+
+/// Serialized as its text, and read from it.
+macro_rules! serialized_as_text {
+    ($($name:ty, $expected:literal;)*) => {
+        $(
+            impl serde::Serialize for $name {
+                /// Writes the text.
+                fn serialize<S: serde::Serializer>(&self, serializer: S) -> Result<S::Ok, S::Error> {
+                    serializer.collect_str(self)
+                }
+            }
+
+            impl<'de> serde::Deserialize<'de> for $name {
+                /// Reads the text.
+                fn deserialize<D: serde::Deserializer<'de>>(deserializer: D) -> Result<Self, D::Error> {
+                    crate::texts::borrowed(deserializer, $expected, str::parse)
+                }
+            }
+        )*
+    };
+}
+pub(crate) use serialized_as_text;
+
+/// Serialized as its octets in base 64, and read from them.
+macro_rules! serialized_as_octets {
+    ($name:ty, $expected:literal) => {
+        impl serde::Serialize for $name {
+            /// Writes the octets in base 64. Panics if allocation fails.
+            fn serialize<S: serde::Serializer>(&self, serializer: S) -> Result<S::Ok, S::Error> {
+                serializer.serialize_str(&crate::util::base64::Serde.encode(&self.to_bytes()))
+            }
+        }
+
+        impl<'de> serde::Deserialize<'de> for $name {
+            /// Reads octets in base 64.
+            fn deserialize<D: serde::Deserializer<'de>>(deserializer: D) -> Result<Self, D::Error> {
+                crate::texts::octets(deserializer, $expected, <$name>::decode)
+            }
+        }
+    };
+}
+pub(crate) use serialized_as_octets;

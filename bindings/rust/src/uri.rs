@@ -49,38 +49,36 @@ fn is_text(text: &[u8], front: usize, octets: &[u8]) -> bool {
         return false;
     }
     let ((front, rest), (octets, others)) = (text.split_at(front), octets.split_at(front));
-    rest == others && front.eq_ignore_ascii_case(octets)
+    rest == others && is_alike(front, octets)
 }
 
-/// Hashes the text with its first `front` octets in lower case, which are 263 at most, and an octet that no text has.
+/// Whether both are the same without regard to case. Most are spelled alike, which takes a step for many octets.
 #[inline]
-fn hash_text<H: Hasher>(text: &[u8], front: usize, state: &mut H) {
-    if text.len() < 128 {
-        // At once, since a hasher takes as long for each part as for a dozen of octets.
-        let mut room = [0xff; 128];
-        room[..text.len()].copy_from_slice(text);
-        room[..front].make_ascii_lowercase();
-        return state.write(&room[..=text.len()]);
+fn is_alike(one: &[u8], other: &[u8]) -> bool {
+    one == other || one.eq_ignore_ascii_case(other)
+}
+
+/// Hashes the text with its first `front` octets in lower case, and an octet that no text has; `is_lower` says whether
+/// they are spelled so.
+#[inline]
+fn hash_text<H: Hasher>(text: &[u8], front: usize, is_lower: bool, state: &mut H) {
+    if is_lower {
+        state.write(text);
+    } else {
+        let mut lower = text.to_vec();
+        lower[..front].make_ascii_lowercase();
+        state.write(&lower);
     }
-    let (front, rest) = text.split_at(front);
-    let mut room = [0; 264];
-    let lower = &mut room[..front.len()];
-    lower.copy_from_slice(front);
-    lower.make_ascii_lowercase();
-    state.write(lower);
-    state.write(rest);
     state.write_u8(0xff);
 }
 
 /// The text in lower case, borrowed where it is spelled so.
 #[inline]
-fn in_lower_case(text: &str) -> Cow<'_, str> {
-    let is_upper = |octet: u8| octet.is_ascii_uppercase();
-    // Behind the first all octets are looked at, several at a time.
-    if text.bytes().next().map_or(false, is_upper) || text.bytes().fold(false, |found, octet| found | is_upper(octet)) {
-        Cow::Owned(text.to_ascii_lowercase())
-    } else {
+fn in_lower_case(text: &str, is_lower: bool) -> Cow<'_, str> {
+    if is_lower || !text.bytes().any(|octet| octet.is_ascii_uppercase()) {
         Cow::Borrowed(text)
+    } else {
+        Cow::Owned(text.to_ascii_lowercase())
     }
 }
 
@@ -158,7 +156,7 @@ impl Rsync {
 
     /// The authority in lower case.
     pub fn canonical_authority(&self) -> Cow<'_, str> {
-        in_lower_case(self.authority())
+        in_lower_case(self.authority(), self.parsed.ends().is_lower())
     }
 
     /// The name of the module. Not empty.
@@ -174,11 +172,12 @@ impl Rsync {
 
     /// The text up to the path, with the scheme and the authority in lower case.
     pub fn canonical_module(&self) -> Cow<'_, str> {
-        let (module, front) = (self.module(), self.parsed.ends().authority());
-        match in_lower_case(&module[..front]) {
-            Cow::Borrowed(_) => Cow::Borrowed(module),
-            Cow::Owned(lower) => Cow::Owned(lower + &module[front..]),
+        let (module, ends) = (self.module(), self.parsed.ends());
+        if ends.is_lower() {
+            return Cow::Borrowed(module);
         }
+        let (front, name) = module.split_at(ends.authority());
+        Cow::Owned(front.to_ascii_lowercase() + name)
     }
 
     /// Where the path begins: after the slash after the module.
@@ -217,11 +216,11 @@ impl Rsync {
     /// The URI without its last segment, with the slash before that; `None` where the path is empty. It shares this
     /// one's text.
     pub fn parent(&self) -> Option<Self> {
-        match self.parsed.parent() {
-            Ok(size) => Some(Rsync { parsed: self.parsed.front(size) }),
-            Err(ffi::NO_ANSWER) => None,
-            Err(status) => known(Err(status)),
-        }
+        let (text, start) = (self.as_str(), self.path_start());
+        // The last octet is of the last segment, also where it is a slash.
+        let above = text.get(start..text.len() - 1)?;
+        let size = above.rfind('/').map_or(0, |slash| slash + 1);
+        Some(Rsync { parsed: self.parsed.front(start + size) })
     }
 
     /// The URI with the path after it, with a slash between them where this one ends with none; a copy where the path
@@ -243,29 +242,33 @@ impl Rsync {
     /// The path that leads from the other URI to this one: its segments after those of the other, with the last slash.
     /// `None` where they are in two modules or the other's segments do not begin this one's. Authorities are compared
     /// without regard to case, all else exactly.
+    #[inline]
     pub fn relative_to(&self, other: &Rsync) -> Option<&str> {
-        if !self.has_module_of(other) {
+        let ends = self.parsed.ends();
+        if other.parsed.ends().places_of_module() != ends.places_of_module() {
             return None;
         }
-        let (path, below) = (self.path(), other.path());
-        let below = below.strip_suffix('/').unwrap_or(below);
-        if below.is_empty() {
-            return Some(path);
+        // The other's text, without a slash behind its path.
+        let base = match other.as_slice() {
+            [base @ .., b'/'] if base.len() > ends.module_name() => base,
+            base => base,
+        };
+        let (front, base_rest) = base.split_at(ends.authority());
+        let rest = self.as_slice()[ends.authority()..].strip_prefix(base_rest)?;
+        if !is_alike(front, &self.as_slice()[..ends.authority()]) {
+            return None;
         }
-        match path.strip_prefix(below)? {
-            rest if rest.is_empty() => Some(rest),
-            rest => rest.strip_prefix('/'),
+        let at = self.as_slice().len() - rest.len();
+        match rest {
+            [] => Some(""),
+            _ if at == self.path_start() => Some(self.path()),
+            [b'/', ..] => Some(&self.as_str()[at + 1..]),
+            _ => None,
         }
-    }
-
-    /// Whether both are in the same module of the same authority.
-    #[inline]
-    fn has_module_of(&self, other: &Self) -> bool {
-        let front = self.parsed.ends().authority();
-        other.parsed.ends().authority() == front && is_text(self.module().as_bytes(), front, other.module().as_bytes())
     }
 
     /// Whether the other URI lies below this one: in the same module, with more segments that begin with this one's.
+    #[inline]
     pub fn is_parent_of(&self, other: &Self) -> bool {
         other.relative_to(self).map_or(false, |path| !path.is_empty())
     }
@@ -351,14 +354,14 @@ impl Https {
 
     /// The authority in lower case.
     pub fn canonical_authority(&self) -> Cow<'_, str> {
-        in_lower_case(self.authority())
+        in_lower_case(self.authority(), self.parsed.ends().is_lower())
     }
 
     /// Whether both have the same authority, without regard to case.
     pub fn eq_authority(&self, other: &Self) -> bool {
         // Both have the same scheme.
         let (end, other_end) = (self.parsed.ends().authority(), other.parsed.ends().authority());
-        self.as_slice()[..end].eq_ignore_ascii_case(&other.as_slice()[..other_end])
+        is_alike(&self.as_slice()[..end], &other.as_slice()[..other_end])
     }
 
     /// The path: empty, or with its slash in front.
@@ -480,7 +483,8 @@ macro_rules! conversions {
         impl Hash for $uri {
             /// Hashes the text with its scheme and its authority in lower case.
             fn hash<H: Hasher>(&self, state: &mut H) {
-                hash_text(self.as_slice(), self.parsed.ends().authority(), state)
+                let ends = self.parsed.ends();
+                hash_text(self.as_slice(), ends.authority(), ends.is_lower(), state)
             }
         }
 
@@ -553,7 +557,8 @@ mod tests {
     use std::hash::{Hash, Hasher};
 
     const PATHS: [&str; 9] = ["", "a", "a/", "A", "ab", "a/b", "a/b/", "a/b/c", "a/B"];
-    const FRONTS: [&str; 5] = ["://host/m/", "://HOST/m/", "://host/M/", "://host/mm/", "://hos/tm/"];
+    const FRONTS: [&str; 6] =
+        ["://host/m/", "://HOST/m/", "://host/M/", "://host/mm/", "://hos/tm/", "://host.longer.than.other.texts/m/"];
 
     fn texts(scheme: &str) -> Vec<String> {
         let schemes = [scheme.to_string(), scheme.to_ascii_uppercase()];
@@ -578,6 +583,8 @@ mod tests {
             let canonical = one.parsed.canonical().unwrap();
             assert_eq!(one.canonical_module().as_bytes(), &canonical[..one.module().len()]);
             assert_eq!(one.canonical_authority().as_bytes(), &canonical[8..8 + one.authority().len()]);
+            let parent = one.parent().map(|parent| parent.as_slice().len());
+            assert_eq!(parent, one.parsed.parent().ok(), "{one}");
             for other in &uris {
                 let (parsed, others) = (&one.parsed, &other.parsed);
                 assert_eq!(one == other, parsed.equal(others).unwrap(), "{one} {other}");

@@ -1,16 +1,22 @@
 //! Where things are, as the certificate of examples/ says; the URIs are those that `openssl x509 -text` prints.
 
-use rpki_proved::repository::cert::{AccessMethod, Cert, KnownExtensions};
+use rpki_proved::repository::cert::{AccessMethod, Cert, ExtensionError, KeyUsage, KnownExtensions, Overclaim};
+use rpki_proved::repository::resources::{AsResources, IpResources, ResourceSet};
 use rpki_proved::view::DecodeError;
 
 const REPOSITORY: &str = "rsync://rpki.example.net/repository/ca/";
 
-/// The extensions of the certificate, in which the first of these octets are others.
-fn with(octets: &[u8], others: &[u8]) -> KnownExtensions {
+/// The certificate, in which the first of these octets are others.
+fn changed(octets: &[u8], others: &[u8]) -> Cert {
     let mut changed = include_bytes!("certificate.der").to_vec();
     let place = changed.windows(octets.len()).position(|window| window == octets).unwrap();
     changed[place..place + octets.len()].copy_from_slice(others);
-    Cert::decode(changed).unwrap().known_extensions().unwrap()
+    Cert::decode(changed).unwrap()
+}
+
+/// Its extensions.
+fn with(octets: &[u8], others: &[u8]) -> KnownExtensions {
+    changed(octets, others).known_extensions().unwrap().clone()
 }
 
 fn text(uri: Option<impl ToString>) -> Option<String> {
@@ -33,6 +39,71 @@ fn uris_are_those_of_openssl() {
     assert_eq!(authority[0].method, AccessMethod::CaIssuers);
     assert_eq!(authority[0].id[..], [43, 6, 1, 5, 5, 7, 48, 2]);
     assert_eq!(authority[0].location.as_deref(), Some(&b"rsync://rpki.example.net/anchor/anchor.cer"[..]));
+}
+
+/// What a certificate claims, by either version of the extensions (RFC 8360 4.2.2).
+#[test]
+fn claims_are_those_of_openssl() {
+    let (ip, numbers) = (b"\x06\x08\x2b\x06\x01\x05\x05\x07\x01\x07", b"\x06\x08\x2b\x06\x01\x05\x05\x07\x01\x08");
+    let (other_ip, others) = (b"\x06\x08\x2b\x06\x01\x05\x05\x07\x01\x1c", b"\x06\x08\x2b\x06\x01\x05\x05\x07\x01\x1d");
+    let wanted = ResourceSet::from_strs("AS64496-AS64511, AS65551", "192.0.2.0/24, 198.51.100.0/24", "2001:db8::/32");
+    for cert in [changed(ip, ip), changed(ip, other_ip), changed(numbers, others)] {
+        assert_eq!(ResourceSet::try_from(&cert), Ok(wanted.clone().unwrap()));
+        assert!(cert.has_ip_resources());
+    }
+    // Another extension: nothing is claimed.
+    let none = changed(ip, b"\x06\x08\x2b\x06\x01\x05\x05\x07\x01\x7f");
+    assert!(!none.has_ip_resources() && none.v4_resources() == IpResources::missing());
+    let none = changed(numbers, b"\x06\x08\x2b\x06\x01\x05\x05\x07\x01\x7f");
+    assert_eq!(none.as_resources(), AsResources::missing());
+}
+
+/// Addresses of IP version 6 alone are claimed too.
+#[test]
+fn claims_of_one_family() {
+    let octets = with(b"\x30", b"\x30").ip_resources.unwrap().octets;
+    let last = [&[0, 0xff][..], &[0; 10], &[1]].concat();
+    let prefixes = [value(3, &[0, 0x20, 0, 2]), value(3, &[0, 0x20, 1, 2]), value(3, &last)].concat();
+    let addresses = value(0x30, &[value(4, &[0, 2]), value(0x30, &prefixes)].concat());
+    let cert = changed(&octets, &value(0x30, &addresses));
+    assert!(cert.has_ip_resources() && !cert.v4_resources().is_present());
+    let blocks = cert.v6_resources().to_blocks().unwrap();
+    assert_eq!(blocks.as_v6().to_string(), "2000:200::/24, 2001:200::/24, ff00::1:0:0/96");
+}
+
+#[test]
+fn accessors_are_those_of_openssl() {
+    let cert = changed(b"\x30", b"\x30");
+    let (key, issuer) = ("30B4C672D6D2E57D8765688E65F4C38012C7072D", "032E5C33D3C929DA46E8FC5E9C5486FC2DF40D0B");
+    assert_eq!(cert.subject_key_identifier().to_string(), key);
+    assert_eq!(cert.authority_key_identifier().unwrap().to_string(), issuer);
+    assert_eq!((cert.basic_ca(), cert.key_usage(), cert.overclaim()), (Some(true), KeyUsage::Ca, Overclaim::Refuse));
+    assert_eq!(text(cert.crl_uri()).unwrap(), "rsync://rpki.example.net/anchor/anchor.crl");
+    assert_eq!(text(cert.ca_issuer()).unwrap(), "rsync://rpki.example.net/anchor/anchor.cer");
+    assert_eq!(text(cert.ca_repository()).unwrap(), REPOSITORY);
+    assert_eq!(text(cert.rpki_manifest()).unwrap(), "rsync://rpki.example.net/repository/ca/ca.mft");
+    assert_eq!(text(cert.rpki_notify()).unwrap(), "https://rrdp.example.net/notification.xml");
+    assert_eq!(cert.signed_object(), None);
+}
+
+/// Where one of the five extensions is malformed, nothing is said of any, and of a missing one what is safe.
+#[test]
+fn accessors_of_malformed_extensions() {
+    let cert = changed(b"\x30\x03\x01\x01\xff", b"\x30\x03\x02\x01\xff");
+    assert_eq!(cert.known_extensions(), Err(ExtensionError::BasicConstraints));
+    assert_eq!(cert.subject_key_identifier(), cert.subject_public_key_info().key_identifier());
+    assert_eq!((cert.basic_ca(), cert.key_usage(), cert.overclaim()), (None, KeyUsage::Ee, Overclaim::Refuse));
+    assert_eq!((cert.authority_key_identifier(), cert.has_ip_resources()), (None, false));
+    let uris = [cert.crl_uri(), cert.ca_issuer(), cert.ca_repository(), cert.rpki_manifest(), cert.signed_object()];
+    assert_eq!((uris, cert.rpki_notify()), ([None; 5], None));
+    assert_eq!(ResourceSet::try_from(&cert), Ok(ResourceSet::empty()));
+
+    // Other identifiers in place of those of the key usage and of the subject key identifier.
+    let other = changed(b"\x06\x03\x55\x1d\x0f", b"\x06\x03\x55\x1d\x7f");
+    assert_eq!((other.key_usage(), other.basic_ca()), (KeyUsage::Ee, Some(true)));
+    let other = changed(b"\x06\x03\x55\x1d\x0e", b"\x06\x03\x55\x1d\x7f");
+    assert_eq!(other.subject_key_identifier(), cert.subject_key_identifier());
+    assert_eq!(other.known_extensions().unwrap().subject_key, None);
 }
 
 #[test]
@@ -123,7 +194,8 @@ fn first_uris() {
     assert_eq!(known.crl_uri().unwrap_err(), DecodeError::Content);
     known.crl_distribution_points.as_mut().unwrap().octets = [point(&uris.concat()), vec![5, 0]].concat().into();
     assert_eq!(known.crl_uri().unwrap_err(), DecodeError::Trailing);
-    known.authority_info_access.as_mut().unwrap().octets =
-        value(0x30, &["rsync://a/m/1", "rsync://a/m/2"].map(|uri| description(2, uri)).concat()).into();
+    let issuers = ["rsync://a/m/1", "rsync://a/m/2"].map(|uri| description(2, uri)).concat();
+    let other = description(5, "rsync://a/m/0");
+    known.authority_info_access.as_mut().unwrap().octets = value(0x30, &[other, issuers].concat()).into();
     assert_eq!(text(known.ca_issuer().unwrap()), first);
 }

@@ -2,8 +2,10 @@
 //! tests/linked/samples.py picks of them for rows/certificates.txt, and all, where the variable `RPKI_CERTIFICATE_ROWS`
 //! names their file.
 
-use rpki_proved::crypto::{RpkiSignatureAlgorithm, SignatureAlgorithm};
-use rpki_proved::repository::cert::{Cert, CertPart, CertRule, ExtensionError, KeyUsage, Overclaim};
+use rpki_proved::crypto::{PublicKey, RpkiSignatureAlgorithm, SignatureAlgorithm};
+use rpki_proved::repository::cert::{Cert, CertPart, CertRule, ExtensionError, KeyUsage, KnownExtensions, Overclaim};
+use rpki_proved::repository::resources::{AsResources, IpResources};
+use rpki_proved::uri::Rsync;
 use rpki_proved::view::DecodeError;
 
 const PARTS: [CertPart; 16] = [
@@ -104,7 +106,8 @@ fn compare(number: usize, octets: &[u8], cert: &Cert, words: &[&str]) {
     assert_eq!(&cert.signature().value()[..], part(2), "row {number}");
     assert_eq!(cert.issuer().as_slice(), part(3), "row {number}");
     assert_eq!(cert.subject().as_slice(), part(4), "row {number}");
-    assert_eq!(cert.subject_public_key_info().to_info_bytes(), part(5), "row {number}");
+    let key = cert.subject_public_key_info();
+    assert_eq!((&key.to_info_bytes()[..], key), (part(5), &PublicKey::decode(part(5)).unwrap()), "row {number}");
     assert_eq!(cert.extension_octets(), part(6), "row {number}");
     assert_eq!(&cert.serial_number().into_array()[..], octets_of(words[14]), "row {number}");
     let length: usize = cert.extensions().map(|extension| extension.octets().len()).sum();
@@ -151,8 +154,43 @@ fn compare_extensions(number: usize, octets: &[u8], cert: &Cert, words: &[&str])
     assert_eq!(found.overclaim, policies[words[57].parse::<usize>().unwrap()], "row {number}");
 }
 
-/// The certificate breaks the rules of the row, of the first four profiles, strict, and then of the same not strict; and
-/// of the fifth, strict and not.
+/// What it says under the names of the crate rpki is what its extensions say, and of malformed ones nothing.
+fn compare_accessors(number: usize, cert: &Cert) {
+    let known = cert.known_extensions().ok();
+    let basic_ca = known.and_then(|it| it.basic_constraints.as_ref().map(|_| it.basic_ca));
+    assert_eq!(cert.basic_ca(), basic_ca, "row {number}");
+    let key = known.and_then(|it| it.subject_key).unwrap_or_else(|| cert.subject_public_key_info().key_identifier());
+    assert_eq!(cert.subject_key_identifier(), key, "row {number}");
+    assert_eq!(cert.authority_key_identifier(), known.and_then(|it| it.authority_key), "row {number}");
+    assert_eq!(cert.key_usage(), known.and_then(|it| it.usage).unwrap_or(KeyUsage::Ee), "row {number}");
+    assert_eq!(cert.overclaim(), known.and_then(|it| it.overclaim).unwrap_or(Overclaim::Refuse), "row {number}");
+    let uris: [Read; 5] = [
+        (cert.crl_uri(), KnownExtensions::crl_uri),
+        (cert.ca_issuer(), KnownExtensions::ca_issuer),
+        (cert.ca_repository(), KnownExtensions::ca_repository),
+        (cert.rpki_manifest(), KnownExtensions::rpki_manifest),
+        (cert.signed_object(), KnownExtensions::signed_object),
+    ];
+    for (found, read) in uris {
+        assert_eq!(found.cloned(), known.and_then(|known| read(known).ok()).flatten(), "row {number}");
+    }
+    let notify = known.and_then(|known| known.rpki_notify().ok()).flatten();
+    assert_eq!(cert.rpki_notify().cloned(), notify, "row {number}");
+    let ip = known.and_then(|it| it.ip_resources.clone().or_else(|| it.ip_resources_v2.clone()));
+    let (v4, v6) = ip.and_then(|it| IpResources::decode_families(&it.octets).ok()).unwrap_or_default();
+    assert_eq!(cert.has_ip_resources(), v4.is_some() || v6.is_some(), "row {number}");
+    assert_eq!(cert.v4_resources(), v4.unwrap_or_else(IpResources::missing), "row {number}");
+    assert_eq!(cert.v6_resources(), v6.unwrap_or_else(IpResources::missing), "row {number}");
+    let numbers = known.and_then(|it| it.as_resources.clone().or_else(|| it.as_resources_v2.clone()));
+    let numbers = numbers.and_then(|it| AsResources::decode(&it.octets).ok());
+    assert_eq!(cert.as_resources(), numbers.unwrap_or_else(AsResources::missing), "row {number}");
+}
+
+/// A URI that a certificate says, and what reads it of the extensions.
+type Read<'a> = (Option<&'a Rsync>, fn(&KnownExtensions) -> Result<Option<Rsync>, DecodeError>);
+
+/// The certificate breaks the rules of the row, of the first four profiles, strict, and then of the same not strict;
+/// and of the fifth, strict and not.
 fn compare_inspections(number: usize, cert: &Cert, words: &[&str]) {
     let wanted = words.iter().map(|word| match word.parse::<usize>().unwrap() {
         0 => Ok(()),
@@ -201,6 +239,7 @@ fn compare_rows(rows: &str) {
             (Ok(cert), 0) => {
                 compare(number, &octets, &cert, &words[2..]);
                 compare_extensions(number, &octets, &cert, &extensions.split(' ').collect::<Vec<_>>());
+                compare_accessors(number, &cert);
                 compare_inspections(number, &cert, &inspections.split(' ').collect::<Vec<_>>());
             }
             (Err(error), status) if status >= 64 => {

@@ -6,7 +6,7 @@ use rpki_proved::crypto::{Provider, RpkiSignatureAlgorithm};
 use rpki_proved::oid::Oid;
 use rpki_proved::repository::cert::{Cert, CertPart, CertRule};
 use rpki_proved::repository::error::ValidationError;
-use rpki_proved::repository::sigobj::{ObjectVerificationError, SignedObject, SignedObjectError};
+use rpki_proved::repository::sigobj::{MessageDigest, ObjectVerificationError, SignedObject, SignedObjectError};
 
 /// The errors by their statuses, and their texts.
 const ERRORS: [(usize, SignedObjectError, &str); 15] = [
@@ -86,6 +86,20 @@ fn expected<'a>(all: &[u8], words: &'a [&'a str]) -> Result<&'a [&'a str], Signe
     }
 }
 
+/// The certificate of an object says what it says alone.
+fn compare_certificates(row: &str, cert: &Cert) {
+    let alone = Cert::decode(cert.to_bytes()).unwrap();
+    assert_eq!(cert, &alone, "{row}");
+    assert_eq!(cert.known_extensions(), alone.known_extensions(), "{row}");
+    let inspected = |cert: &Cert| {
+        [true, false].map(|strict| {
+            let authorities = [cert.inspect_ta(strict), cert.inspect_ca(strict)];
+            (authorities, cert.inspect_ee(strict), cert.inspect_detached_ee(strict), cert.inspect_router(strict))
+        })
+    };
+    assert_eq!(inspected(cert), inspected(&alone), "{row}");
+}
+
 /// How many objects of the rows were read, how many refused, and of how many only the certificate is wrong.
 fn compare_rows(rows: &str) -> (usize, usize, usize) {
     let (mut read, mut refused, mut verified) = (0, 0, 0);
@@ -97,6 +111,7 @@ fn compare_rows(rows: &str) -> (usize, usize, usize) {
             Ok(said) => {
                 let object = found.unwrap();
                 compare(&all, &object, said);
+                compare_certificates(row, object.cert());
                 read += 1;
                 let verdict = object.verify_signature();
                 verified += usize::from(matches!(verdict, Err(ObjectVerificationError::Certificate(_))));
@@ -206,6 +221,20 @@ fn certificates_of_signers() {
         // The signature is of the attributes, and not of the certificate.
         assert_eq!(other.verify_signature(), Err(error));
         assert!(!error.to_string().is_empty());
+    }
+}
+
+/// The examples of FIPS 180-4.
+#[test]
+fn digests() {
+    for (octets, digits) in [
+        (&b"abc"[..], "ba7816bf8f01cfea414140de5dae2223b00361a396177a9cb410ff61f20015ad"),
+        (
+            b"abcdbcdecdefdefgefghfghighijhijkijkljklmklmnlmnomnopnopq",
+            "248d6a61d20638b8e5c026930c3e6039a33ce45964ff2167f6ecedd419db06c1",
+        ),
+    ] {
+        assert_eq!(MessageDigest::of(octets).as_slice(), self::octets(digits));
     }
 }
 

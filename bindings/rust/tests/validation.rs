@@ -1,6 +1,7 @@
 //! A repository that tests/linked/repository/make makes with openssl, validated from its locator on; and each thing
 //! changed that has to hold.
 
+use rpki_proved::crypto::RsaProvider;
 use rpki_proved::repository::aspa::AspaError;
 use rpki_proved::repository::cert::{CertPart, CertRule, ExtensionError};
 use rpki_proved::repository::crl::CrlError;
@@ -152,7 +153,7 @@ fn authorities() {
     let key = |cert: &ResourceCert| cert.subject_public_key_info().key_identifier();
     assert_eq!(found.subject_key_identifier(), key(&found));
     assert_eq!(anchor.subject_key_identifier(), key(&anchor));
-    assert_eq!(found.kept_extensions().authority_key, Some(key(&anchor)));
+    assert_eq!(found.authority_key_identifier(), Some(key(&anchor)));
     let base = "rsync://rpki.example/repo";
     for (uri, wanted) in [
         (found.crl_uri(), Some("ta/ta.crl")),
@@ -240,6 +241,10 @@ fn lists() {
     assert!(list.verify_signature(Cert::decode(ANCHOR).unwrap().subject_public_key_info()).is_err());
     let other = Crl::decode(changed(LIST, LIST.len() - 1)).unwrap();
     assert!(other.verify_signature(issuer.subject_public_key_info()).is_err());
+    for (list, is_good) in [(&list, true), (&other, false)] {
+        let verified = list.verify_signature_with(&RsaProvider, issuer.subject_public_key_info());
+        assert_eq!(verified.is_ok(), is_good);
+    }
 }
 
 #[test]

@@ -5,6 +5,7 @@ pub use crate::crypto::signature::SignatureVerificationError;
 use crate::crypto::signature::{Provider, RpkiSignatureAlgorithm, Signature, SignatureAlgorithm};
 use crate::encode;
 use crate::ffi;
+use crate::octets::IntoOctets;
 use crate::repository::x509::Name;
 use crate::util::hex;
 use crate::view::{DecodeError, Header};
@@ -25,6 +26,15 @@ pub enum PublicKeyFormat {
 }
 
 impl PublicKeyFormat {
+    /// That of this number.
+    fn of(number: u8) -> Self {
+        if number == ffi::RSA {
+            PublicKeyFormat::Rsa
+        } else {
+            PublicKeyFormat::EcdsaP256
+        }
+    }
+
     /// Whether keys of certificates of the RPKI have it: RSA alone (RFC 7935 3).
     pub fn allow_rpki_cert(self) -> bool {
         self == PublicKeyFormat::Rsa
@@ -138,12 +148,20 @@ impl PublicKey {
     /// # Errors
     /// `OtherAlgorithm` where the algorithm identifier is well formed and another one; `Trailing` where octets follow a
     /// key, and else why no beginning of the octets is a key.
-    pub fn decode(octets: impl Into<Bytes>) -> Result<Self, DecodeError> {
-        let octets = octets.into();
+    pub fn decode(octets: impl IntoOctets) -> Result<Self, DecodeError> {
+        let octets = octets.into_octets();
         let found = ffi::public_key(&octets).map_err(DecodeError::from_status)?;
-        let algorithm = if found.format == 0 { PublicKeyFormat::Rsa } else { PublicKeyFormat::EcdsaP256 };
         let bits = octets.slice(found.bits.range(&octets));
-        Ok(PublicKey { octets, bits, algorithm, unused: found.unused })
+        Ok(PublicKey { octets, bits, algorithm: PublicKeyFormat::of(found.format), unused: found.unused })
+    }
+
+    /// The key of octets that a call has found to be one, of this format, with so many unused bits.
+    pub(crate) fn read(octets: Bytes, format: u8, unused: u8) -> Self {
+        // A SEQUENCE of an algorithm identifier and a BIT STRING, of which the first octet counts unused bits.
+        let identifier = header_size(&octets);
+        let string = identifier + header_size(&octets[identifier..]) + usize::from(octets[identifier + 1]);
+        let bits = octets.slice(string + header_size(&octets[string..]) + 1..);
+        PublicKey { octets, bits, algorithm: PublicKeyFormat::of(format), unused }
     }
 
     /// The format.
@@ -254,6 +272,14 @@ impl PublicKey {
     }
 }
 
+/// How many octets the header of a value has, of which the tag has one (X.690 8.1.3).
+fn header_size(octets: &[u8]) -> usize {
+    match octets[1] {
+        0..=0x7f => 2,
+        first => 2 + usize::from(first & 0x7f),
+    }
+}
+
 /// What a call tells of a key that was read already.
 pub(crate) fn known<T>(answer: Result<T, ffi::Status>) -> T {
     answer.unwrap_or_else(|status| panic!("{}", DecodeError::from_status(status)))
@@ -316,7 +342,7 @@ impl KeyIdentifier {
     /// The 40 digits.
     pub fn into_hex(self) -> [u8; 40] {
         let mut digits = [0; 40];
-        hex::encode(&self.0, &mut digits);
+        hex::write(&self.0, &mut digits);
         digits
     }
 

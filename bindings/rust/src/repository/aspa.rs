@@ -1,11 +1,13 @@
 //! Attestations of the providers of an autonomous system (draft-ietf-sidrops-aspa-profile, version 1).
 
 use crate::ffi::{self, Status};
+use crate::octets::IntoOctets;
 use crate::repository::cert::{Cert, ResourceCert};
 use crate::repository::error::ValidationError;
 use crate::repository::resources::Asn;
 use crate::repository::sigobj::SignedObject;
 use crate::repository::x509::Time;
+use crate::resources::SmallAsnSet;
 use bytes::Bytes;
 use std::error::Error;
 use std::fmt;
@@ -69,7 +71,7 @@ impl Error for AspaError {}
 /// assert_eq!(providers, [5, 7]);
 /// assert_eq!(AsProviderAttestation::decode(&b"\x30\x00"[..]).unwrap_err(), AspaError::Version);
 /// ```
-#[derive(Clone, Debug)]
+#[derive(Clone, Debug, PartialEq, Eq, Hash)]
 pub struct AsProviderAttestation {
     customer_as: Asn,
     provider_as_set: ProviderAsSet,
@@ -80,8 +82,8 @@ impl AsProviderAttestation {
     ///
     /// # Errors
     /// The part that is wrong.
-    pub fn decode(octets: impl Into<Bytes>) -> Result<Self, AspaError> {
-        let octets = octets.into();
+    pub fn decode(octets: impl IntoOctets) -> Result<Self, AspaError> {
+        let octets = octets.into_octets();
         let found = ffi::aspa(&octets).map_err(AspaError::from_status)?;
         let providers = ProviderAsSet { octets: octets.slice(found.providers.range(&octets)), len: found.count };
         Ok(AsProviderAttestation { customer_as: Asn::from_u32(found.customer), provider_as_set: providers })
@@ -99,7 +101,7 @@ impl AsProviderAttestation {
 }
 
 /// The providers of a customer: one at least, ascending, and none is the customer.
-#[derive(Clone, Debug)]
+#[derive(Clone, Debug, PartialEq, Eq, Hash)]
 pub struct ProviderAsSet {
     octets: Bytes,
     len: usize,
@@ -124,6 +126,11 @@ impl ProviderAsSet {
     /// The providers, ascending.
     pub fn iter(&self) -> Providers<'_> {
         Providers { rest: &self.octets }
+    }
+
+    /// The providers as a set.
+    pub fn to_set(&self) -> SmallAsnSet {
+        self.iter().collect()
     }
 }
 
@@ -163,11 +170,12 @@ pub struct Aspa {
 }
 
 impl Aspa {
-    /// Reads a signed object, and its content, of this type; `strict` is as of [SignedObject::decode]. Nothing is verified.
+    /// Reads a signed object, and its content, of this type; `strict` is as of [SignedObject::decode]. Nothing is
+    /// verified.
     ///
     /// # Errors
     /// The part that is wrong; the content is of another type.
-    pub fn decode(octets: impl Into<Bytes>, strict: bool) -> Result<Self, ValidationError> {
+    pub fn decode(octets: impl IntoOctets, strict: bool) -> Result<Self, ValidationError> {
         let object = SignedObject::decode(octets, strict)?;
         object.must_be_of(ffi::TYPE_ASPA)?;
         let content = AsProviderAttestation::decode(object.content().clone())?;

@@ -1,19 +1,25 @@
 //! Resource certificates (RFC 5280 4.1, RFC 6487 4).
 
-use crate::crypto::keys::{KeyIdentifier, PublicKey};
+use crate::crypto::keys::PublicKey;
 use crate::crypto::signature::{RpkiSignature, RpkiSignatureAlgorithm, Signature};
 use crate::ffi::{self, Status};
+use crate::octets::IntoOctets;
 use crate::repository::x509::{Name, Serial, Validity};
 use crate::view::{DecodeError, Extension};
 use bytes::Bytes;
 use std::error::Error;
 use std::fmt;
+use std::sync::Arc;
 
 mod access;
+mod extensions;
 mod rule;
 mod valid;
 
+use extensions::Kept;
+
 pub use access::{AccessDescription, AccessMethod};
+pub use extensions::{ExtensionError, KeyUsage, KnownExtension, KnownExtensions, Overclaim};
 pub use rule::CertRule;
 pub use valid::ResourceCert;
 
@@ -144,9 +150,10 @@ impl fmt::Display for CertError {
 
 impl Error for CertError {}
 
-/// A resource certificate: its octets, and what they say. Names and the key share the octets that it was read from.
-/// [Cert::inspect_ca] and its kin say whether the extensions are those of a profile; [Cert::validate_ta],
-/// [Cert::validate_ca] and their kin whether the certificate is valid, which a [ResourceCert] is.
+/// A resource certificate: its octets, and what they say, extensions included, read once. Names, the key and URIs share
+/// the octets that it was read from. Two are equal where their octets are. [Cert::inspect_ca] and its kin say whether
+/// the extensions are those of a profile; [Cert::validate_ta], [Cert::validate_ca] and their kin whether the
+/// certificate is valid, which a [ResourceCert] is.
 ///
 /// ```
 /// use rpki_proved::repository::cert::{Cert, CertPart};
@@ -169,6 +176,9 @@ pub struct Cert {
     subject: Name,
     subject_public_key_info: PublicKey,
     extensions: Bytes,
+    kept: Result<Arc<Kept>, ExtensionError>,
+    /// The profile that the certificate was found to keep when it was read, names included.
+    profile: Option<u8>,
 }
 
 impl Cert {
@@ -176,23 +186,37 @@ impl Cert {
     ///
     /// # Errors
     /// The part that is wrong, and what is wrong with it.
-    pub fn decode(octets: impl Into<Bytes>) -> Result<Self, CertError> {
-        let octets = octets.into();
-        let found =
-            ffi::certificate(&octets).map_err(|_| CertError::of(&octets).expect("octets that were rejected"))?;
-        // What the call has found to be names and a key is that.
+    pub fn decode(octets: impl IntoOctets) -> Result<Self, CertError> {
+        Cert::read(octets.into_octets(), ffi::CERTIFICATE_CA)
+    }
+
+    /// Reads a certificate, in one call where it keeps the profile of this number.
+    pub(crate) fn read(octets: Bytes, profile: u8) -> Result<Self, CertError> {
+        let rejected = |_| CertError::of(&octets).expect("octets that were rejected");
+        let keep = |found: ffi::KnownExtensions| Arc::new(Kept::of(&octets, &found));
+        let (found, kept, profile) = match ffi::certificate_checked(&octets, profile, true) {
+            Ok((found, extensions)) => (found, Ok(keep(extensions)), Some(profile)),
+            // What is not of the profile is a certificate, perhaps, and perhaps with good extensions.
+            Err(_) => {
+                let found = ffi::certificate(&octets).map_err(rejected)?;
+                let extensions = ffi::certificate_extensions(&octets).map(keep);
+                (found, extensions.map_err(ExtensionError::from_status), None)
+            }
+        };
+        // What the call has found to be names, a key and a number is that.
         let part = |part: ffi::Span| octets.slice(part.range(&octets));
-        let key = PublicKey::decode(part(found.public_key)).expect("a key that was read");
         let algorithm = RpkiSignatureAlgorithm { has_parameters: found.has_parameters };
         Ok(Cert {
             signed: part(found.data),
             signature: Signature::new(algorithm, part(found.signature)),
-            serial_number: Serial::from_array(found.serial_number).expect("a serial number that was read"),
+            serial_number: Serial::read(found.serial_number),
             issuer: Name::read(part(found.issuer)),
             validity: Validity::from(found.validity),
             subject: Name::read(part(found.subject)),
-            subject_public_key_info: key,
+            subject_public_key_info: PublicKey::read(part(found.public_key), found.key_format, found.key_unused),
             extensions: part(found.extensions),
+            kept,
+            profile,
             octets,
         })
     }
@@ -247,18 +271,18 @@ impl Cert {
         &self.extensions
     }
 
-    /// The extensions that certificates of the RPKI have, and what five of them say.
+    /// The extensions that certificates of the RPKI have, and what five of them say: read with the certificate.
     ///
     /// # Errors
     /// The first of the five that is there, but malformed, or not as critical as it has to be.
-    pub fn known_extensions(&self) -> Result<KnownExtensions, ExtensionError> {
-        match ffi::certificate_extensions(&self.octets) {
-            Ok(found) => Ok(KnownExtensions::of(&self.octets, &found)),
-            Err(status) => Err(ExtensionError::from_status(status)),
-        }
+    pub fn known_extensions(&self) -> Result<&KnownExtensions, ExtensionError> {
+        self.kept.as_ref().map(|kept| &kept.known).map_err(|error| *error)
     }
 
     fn inspect(&self, profile: u8, strict: bool) -> Result<(), CertRule> {
+        if self.profile == Some(profile) {
+            return Ok(());
+        }
         ffi::certificate_inspect(&self.octets, profile, strict).map_err(CertRule::from_status)
     }
 
@@ -269,7 +293,7 @@ impl Cert {
     /// # Errors
     /// The rule that it breaks first.
     pub fn inspect_ta(&self, strict: bool) -> Result<(), CertRule> {
-        self.inspect(0, strict)
+        self.inspect(ffi::CERTIFICATE_TA, strict)
     }
 
     /// Holds the certificate to the profile of certification authorities (RFC 6487 4), as [Cert::inspect_ta] does to
@@ -278,7 +302,7 @@ impl Cert {
     /// # Errors
     /// The rule that it breaks first.
     pub fn inspect_ca(&self, strict: bool) -> Result<(), CertRule> {
-        self.inspect(1, strict)
+        self.inspect(ffi::CERTIFICATE_CA, strict)
     }
 
     /// Holds the certificate to the profile of end entities that sign an object (RFC 6487 4), as [Cert::inspect_ta]
@@ -287,7 +311,7 @@ impl Cert {
     /// # Errors
     /// The rule that it breaks first.
     pub fn inspect_ee(&self, strict: bool) -> Result<(), CertRule> {
-        self.inspect(2, strict)
+        self.inspect(ffi::CERTIFICATE_EE, strict)
     }
 
     /// Holds the certificate to the profile of end entities without subject information access, whose key signs what is
@@ -296,7 +320,7 @@ impl Cert {
     /// # Errors
     /// The rule that it breaks first.
     pub fn inspect_detached_ee(&self, strict: bool) -> Result<(), CertRule> {
-        self.inspect(4, strict)
+        self.inspect(ffi::CERTIFICATE_DETACHED_EE, strict)
     }
 
     /// Holds the certificate to the profile of BGPsec routers (RFC 8209 3.1), as [Cert::inspect_ta] does to another.
@@ -304,166 +328,20 @@ impl Cert {
     /// # Errors
     /// The rule that it breaks first.
     pub fn inspect_router(&self, strict: bool) -> Result<(), CertRule> {
-        self.inspect(3, strict)
+        self.inspect(ffi::CERTIFICATE_ROUTER, strict)
     }
 }
 
-/// An extension that is there, but malformed, or not as critical as it has to be (RFC 6487 4.8).
-#[derive(Clone, Copy, Debug, PartialEq, Eq, Hash)]
-#[non_exhaustive]
-pub enum ExtensionError {
-    /// The basic constraints are not critical, or not cA alone.
-    BasicConstraints,
-    /// The subject key identifier is critical, or has not twenty octets.
-    SubjectKeyIdentifier,
-    /// The authority key identifier is critical, or is not one of twenty octets alone.
-    AuthorityKeyIdentifier,
-    /// The key usage is not critical, or not exactly one of the two uses.
-    KeyUsage,
-    /// The certificate policies are not critical, or not exactly one of the RPKI, with one qualifier at most.
-    CertificatePolicies,
-}
-
-impl ExtensionError {
-    pub(crate) fn from_status(status: Status) -> ExtensionError {
-        match status {
-            80 => ExtensionError::BasicConstraints,
-            81 => ExtensionError::SubjectKeyIdentifier,
-            82 => ExtensionError::AuthorityKeyIdentifier,
-            83 => ExtensionError::KeyUsage,
-            84 => ExtensionError::CertificatePolicies,
-            _ => unreachable!("{status} is no status of the extensions of a certificate"),
-        }
+impl PartialEq for Cert {
+    fn eq(&self, other: &Cert) -> bool {
+        self.octets == other.octets
     }
 }
 
-impl ExtensionError {
-    /// What is said of it.
-    pub(crate) fn text(&self) -> &'static str {
-        match self {
-            ExtensionError::BasicConstraints => "wrong basic constraints",
-            ExtensionError::SubjectKeyIdentifier => "wrong subject key identifier",
-            ExtensionError::AuthorityKeyIdentifier => "wrong authority key identifier",
-            ExtensionError::KeyUsage => "wrong key usage",
-            ExtensionError::CertificatePolicies => "wrong certificate policies",
-        }
-    }
-}
+impl Eq for Cert {}
 
-impl fmt::Display for ExtensionError {
-    fn fmt(&self, f: &mut fmt::Formatter) -> fmt::Result {
-        f.write_str(self.text())
-    }
-}
-
-impl Error for ExtensionError {}
-
-/// What the subject's key may be used for (RFC 6487 4.8.4).
-#[derive(Clone, Copy, Debug, PartialEq, Eq, Hash)]
-pub enum KeyUsage {
-    /// To sign certificates and revocation lists: keyCertSign and cRLSign, of a certification authority.
-    Ca,
-    /// To sign objects: digitalSignature, of an end entity.
-    Ee,
-}
-
-/// What is done where a certificate claims resources that its issuer's hasn't, as its policy says (RFC 8360 4).
-#[derive(Clone, Copy, Debug, PartialEq, Eq, Hash)]
-pub enum Overclaim {
-    /// The certificate is rejected (RFC 6484 1.2).
-    Refuse,
-    /// The resources that both have remain (RFC 8360 4.2.1).
-    Trim,
-}
-
-/// An extension of a certificate.
-#[derive(Clone, Debug, PartialEq, Eq)]
-#[non_exhaustive]
-pub struct KnownExtension {
-    /// Whether it is critical.
-    pub critical: bool,
-    /// The octets of its OCTET STRING, which share those of the certificate.
-    pub octets: Bytes,
-}
-
-/// The extensions that certificates of the RPKI have, where they are there (RFC 6487 4.8), and what five of them say.
-#[derive(Clone, Debug, PartialEq, Eq)]
-#[non_exhaustive]
-pub struct KnownExtensions {
-    /// The basic constraints.
-    pub basic_constraints: Option<KnownExtension>,
-    /// The subject key identifier.
-    pub subject_key_identifier: Option<KnownExtension>,
-    /// The authority key identifier.
-    pub authority_key_identifier: Option<KnownExtension>,
-    /// The key usage.
-    pub key_usage: Option<KnownExtension>,
-    /// The extended key usage.
-    pub extended_key_usage: Option<KnownExtension>,
-    /// The CRL distribution points.
-    pub crl_distribution_points: Option<KnownExtension>,
-    /// The authority information access.
-    pub authority_info_access: Option<KnownExtension>,
-    /// The subject information access.
-    pub subject_info_access: Option<KnownExtension>,
-    /// The certificate policies.
-    pub certificate_policies: Option<KnownExtension>,
-    /// The IP resources.
-    pub ip_resources: Option<KnownExtension>,
-    /// The IP resources with validation reconsidered (RFC 8360 4.2.2.1).
-    pub ip_resources_v2: Option<KnownExtension>,
-    /// The AS resources.
-    pub as_resources: Option<KnownExtension>,
-    /// The AS resources with validation reconsidered (RFC 8360 4.2.2.3).
-    pub as_resources_v2: Option<KnownExtension>,
-    /// Whether the subject is a certification authority, by the basic constraints.
-    pub basic_ca: bool,
-    /// The identifier of the subject's key.
-    pub subject_key: Option<KeyIdentifier>,
-    /// The identifier of the issuer's key.
-    pub authority_key: Option<KeyIdentifier>,
-    /// What the subject's key may be used for.
-    pub usage: Option<KeyUsage>,
-    /// What the policy says of resources that the issuer's certificate hasn't.
-    pub overclaim: Option<Overclaim>,
-}
-
-impl KnownExtensions {
-    fn of(octets: &Bytes, found: &ffi::KnownExtensions) -> KnownExtensions {
-        let known = |it: ffi::KnownExtension| {
-            it.is_there.then(|| KnownExtension { critical: it.critical, octets: octets.slice(it.octets.range(octets)) })
-        };
-        let key = |it: ffi::KnownExtension, key: [u8; 20]| it.is_there.then(|| KeyIdentifier::from(key));
-        KnownExtensions {
-            basic_constraints: known(found.basic_constraints),
-            subject_key_identifier: known(found.subject_key_identifier),
-            authority_key_identifier: known(found.authority_key_identifier),
-            key_usage: known(found.key_usage),
-            extended_key_usage: known(found.extended_key_usage),
-            crl_distribution_points: known(found.crl_distribution_points),
-            authority_info_access: known(found.authority_info_access),
-            subject_info_access: known(found.subject_info_access),
-            certificate_policies: known(found.certificate_policies),
-            ip_resources: known(found.ip_resources),
-            ip_resources_v2: known(found.ip_resources_v2),
-            as_resources: known(found.as_resources),
-            as_resources_v2: known(found.as_resources_v2),
-            basic_ca: found.is_ca,
-            subject_key: key(found.subject_key_identifier, found.subject_key),
-            authority_key: key(found.authority_key_identifier, found.authority_key),
-            usage: match found.usage {
-                1 => Some(KeyUsage::Ca),
-                2 => Some(KeyUsage::Ee),
-                _ => None,
-            },
-            overclaim: match found.policy {
-                1 => Some(Overclaim::Refuse),
-                2 => Some(Overclaim::Trim),
-                _ => None,
-            },
-        }
-    }
-}
+#[cfg(feature = "serde")]
+crate::texts::serialized_as_octets!(Cert, "a certificate in base 64");
 
 /// The extensions of a certificate.
 #[derive(Clone, Debug)]

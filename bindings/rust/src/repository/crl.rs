@@ -5,6 +5,7 @@ use crate::crypto::signature::{
     Provider, RpkiSignature, RpkiSignatureAlgorithm, Signature, SignatureVerificationError,
 };
 use crate::ffi::{self, Status};
+use crate::octets::IntoOctets;
 use crate::repository::cert::{Cert, ResourceCert};
 use crate::repository::error::ValidationError;
 use crate::repository::x509::{Name, Serial, Time};
@@ -99,8 +100,8 @@ impl fmt::Display for CrlError {
 impl Error for CrlError {}
 
 /// A revocation list: its octets, and what they say. The issuer and the entries share the octets that it was read from.
-/// Whether the signature is that of a key, [Crl::verify_signature] says; [Crl::validate], whether it is the current list
-/// of an authority.
+/// Two are equal where their octets are. Whether the signature is that of a key, [Crl::verify_signature] says;
+/// [Crl::validate], whether it is the current list of an authority.
 ///
 /// ```
 /// use rpki_proved::repository::crl::{Crl, CrlError};
@@ -127,8 +128,8 @@ impl Crl {
     ///
     /// # Errors
     /// The part that is wrong.
-    pub fn decode(octets: impl Into<Bytes>) -> Result<Self, CrlError> {
-        let octets = octets.into();
+    pub fn decode(octets: impl IntoOctets) -> Result<Self, CrlError> {
+        let octets = octets.into_octets();
         let found = ffi::crl(&octets).map_err(CrlError::from_status)?;
         let algorithm = RpkiSignatureAlgorithm { has_parameters: found.has_parameters };
         Ok(Crl {
@@ -140,7 +141,7 @@ impl Crl {
             next_update: Time::from(found.next_update),
             revoked_certs: RevokedCertificates(octets.slice(found.revoked_certs.range(&octets))),
             authority_key_identifier: KeyIdentifier::from(found.authority_key_identifier),
-            crl_number: Serial::from_array(found.crl_number).expect("a number that was read"),
+            crl_number: Serial::read(found.crl_number),
             serials: None,
             octets,
         })
@@ -202,8 +203,8 @@ impl Crl {
         self.serials = Some(self.revoked_certs.iter().map(|entry| entry.user_certificate).collect());
     }
 
-    /// Whether the list has a certificate of this serial number: in one step after [Crl::cache_serials], and else in one
-    /// an entry.
+    /// Whether the list has a certificate of this serial number: in one step after [Crl::cache_serials], and else in
+    /// one an entry.
     pub fn contains(&self, serial: Serial) -> bool {
         match &self.serials {
             Some(serials) => serials.contains(&serial),
@@ -254,6 +255,17 @@ impl Crl {
         Ok(CurrentCrl(self))
     }
 }
+
+impl PartialEq for Crl {
+    fn eq(&self, other: &Crl) -> bool {
+        self.octets == other.octets
+    }
+}
+
+impl Eq for Crl {}
+
+#[cfg(feature = "serde")]
+crate::texts::serialized_as_octets!(Crl, "a revocation list in base 64");
 
 /// The list of an authority, current when [Crl::validate] made this of it: nothing else does.
 #[derive(Clone, Debug)]
@@ -359,7 +371,7 @@ impl Iterator for Entries<'_> {
         }
         let (found, rest) = ffi::crl_entry(self.rest).expect("an entry that was read");
         self.rest = rest;
-        let user_certificate = Serial::from_array(found.serial_number).expect("a serial number that was read");
+        let user_certificate = Serial::read(found.serial_number);
         Some(CrlEntry::new(user_certificate, Time::from(found.revocation_date)))
     }
 }

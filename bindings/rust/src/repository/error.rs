@@ -25,6 +25,12 @@ impl ContentError {
     }
 }
 
+impl From<&'static str> for ContentError {
+    fn from(text: &'static str) -> Self {
+        ContentError(text)
+    }
+}
+
 impl fmt::Display for ContentError {
     fn fmt(&self, f: &mut fmt::Formatter) -> fmt::Result {
         f.write_str(self.0)

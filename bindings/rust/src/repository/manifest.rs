@@ -1,6 +1,8 @@
 //! Manifests (RFC 9286 4.2).
 
+use crate::crypto::DigestAlgorithm;
 use crate::ffi::{self, Status};
+use crate::octets::IntoOctets;
 use crate::repository::cert::{Cert, ResourceCert};
 use crate::repository::error::ValidationError;
 use crate::repository::sigobj::{MessageDigest, SignedObject};
@@ -80,7 +82,7 @@ impl Error for ManifestError {}
 /// assert_eq!(ManifestContent::decode(&b""[..]).unwrap_err(), ManifestError::Manifest);
 /// assert_eq!(ManifestContent::decode(&b"\x30\x00"[..]).unwrap_err(), ManifestError::Number);
 /// ```
-#[derive(Clone, Debug)]
+#[derive(Clone, Debug, PartialEq, Eq)]
 pub struct ManifestContent {
     manifest_number: Serial,
     this_update: Time,
@@ -95,11 +97,11 @@ impl ManifestContent {
     ///
     /// # Errors
     /// The part that is wrong.
-    pub fn decode(octets: impl Into<Bytes>) -> Result<Self, ManifestError> {
-        let octets = octets.into();
+    pub fn decode(octets: impl IntoOctets) -> Result<Self, ManifestError> {
+        let octets = octets.into_octets();
         let found = ffi::manifest(&octets).map_err(ManifestError::from_status)?;
         let content = ManifestContent {
-            manifest_number: Serial::from_array(found.manifest_number).expect("a number that was read"),
+            manifest_number: Serial::read(found.manifest_number),
             this_update: Time::from(found.this_update),
             next_update: Time::from(found.next_update),
             files: octets.slice(found.files.range(&octets)),
@@ -129,6 +131,11 @@ impl ManifestContent {
     /// Whether the next manifest is due by now, by the machine's clock.
     pub fn is_stale(&self) -> bool {
         self.next_update < Time::now()
+    }
+
+    /// The algorithm of the digests of the files.
+    pub fn file_hash_alg(&self) -> DigestAlgorithm {
+        DigestAlgorithm::sha256()
     }
 
     /// How many files there are.
@@ -167,6 +174,9 @@ impl IntoIterator for &ManifestContent {
     }
 }
 
+/// The digest of a file, as the crate rpki calls it.
+pub type ManifestHash = MessageDigest;
+
 /// A file that a manifest lists (RFC 9286 4.2.1). Its name is ASCII: letters, digits, `-` and `_`, one at least, a dot,
 /// and three small letters.
 #[derive(Clone, Debug, PartialEq, Eq, Hash)]
@@ -176,6 +186,11 @@ pub struct FileAndHash {
 }
 
 impl FileAndHash {
+    /// A file of this name, with this digest.
+    pub fn new(file: Bytes, hash: MessageDigest) -> Self {
+        FileAndHash { file, hash }
+    }
+
     /// The octets of the name.
     pub fn file(&self) -> &[u8] {
         &self.file
@@ -228,11 +243,12 @@ pub struct Manifest {
 }
 
 impl Manifest {
-    /// Reads a signed object, and its content, of this type; `strict` is as of [SignedObject::decode]. Nothing is verified.
+    /// Reads a signed object, and its content, of this type; `strict` is as of [SignedObject::decode]. Nothing is
+    /// verified.
     ///
     /// # Errors
     /// The part that is wrong; the content is of another type.
-    pub fn decode(octets: impl Into<Bytes>, strict: bool) -> Result<Self, ValidationError> {
+    pub fn decode(octets: impl IntoOctets, strict: bool) -> Result<Self, ValidationError> {
         let object = SignedObject::decode(octets, strict)?;
         object.must_be_of(ffi::TYPE_MANIFEST)?;
         let content = ManifestContent::decode(object.content().clone())?;
@@ -254,8 +270,8 @@ impl Manifest {
         &self.content
     }
 
-    /// As [Manifest::process], where a revocation list is only known by the manifest: whether the certificate is revoked
-    /// is then to be asked, by [CurrentCrl::verify_not_revoked](super::crl::CurrentCrl::verify_not_revoked).
+    /// As [Manifest::process], where a revocation list is only known by the manifest: whether the certificate is
+    /// revoked is then to be asked, by [CurrentCrl::verify_not_revoked](super::crl::CurrentCrl::verify_not_revoked).
     ///
     /// # Errors
     /// The first that doesn't hold.

@@ -10,41 +10,19 @@ mod ip;
 mod numbers;
 mod set;
 
-pub use asn::{AsBlock, AsBlocks, AsRange, AsResources, Asn, ParseAsnError};
+pub use asn::{AsBlock, AsBlocks, AsBlocksBuilder, AsRange, AsResources, AsResourcesBuilder, Asn, ParseAsnError};
 pub use choice::{InheritedResources, ResourcesChoice};
 pub use ip::{
-    Addr, AddressFamily, AddressRange, FromStrError, IpBlock, IpBlocks, IpResources, Ipv4Blocks, Ipv6Blocks,
-    OtherFamily, Prefix,
+    Addr, AddressFamily, AddressRange, FromStrError, IpBlock, IpBlocks, IpBlocksBuilder, IpResources,
+    IpResourcesBuilder, Ipv4Blocks, Ipv6Blocks, OtherFamily, Prefix,
 };
-pub use set::ResourceSet;
+pub use set::{ParseResourcesError, ResourceSet};
 
 use crate::ffi;
 use crate::view::DecodeError;
 
-/// Serialized as its text, and read from it.
 #[cfg(feature = "serde")]
-macro_rules! serialized_as_text {
-    ($($name:ty, $expected:literal;)*) => {
-        $(
-            impl serde::Serialize for $name {
-                /// Writes the text.
-                fn serialize<S: serde::Serializer>(&self, serializer: S) -> Result<S::Ok, S::Error> {
-                    serializer.collect_str(self)
-                }
-            }
-
-            impl<'de> serde::Deserialize<'de> for $name {
-                /// Reads the text.
-                fn deserialize<D: serde::Deserializer<'de>>(deserializer: D) -> Result<Self, D::Error> {
-                    crate::texts::borrowed(deserializer, $expected, str::parse)
-                }
-            }
-        )*
-    };
-}
-
-#[cfg(feature = "serde")]
-serialized_as_text! {
+crate::texts::serialized_as_text! {
     AsBlock, "a block of AS numbers";
     AsBlocks, "a list of blocks of AS numbers";
     Ipv4Blocks, "a list of blocks of IPv4 addresses";

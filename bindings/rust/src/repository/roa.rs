@@ -1,11 +1,13 @@
 //! Route origin attestations (RFC 9582 4).
 
 use crate::ffi::{self, Status};
+use crate::octets::IntoOctets;
 use crate::repository::cert::{Cert, ResourceCert};
 use crate::repository::error::ValidationError;
 use crate::repository::resources::{Addr, AddressFamily, Asn, Prefix};
 use crate::repository::sigobj::SignedObject;
 use crate::repository::x509::Time;
+use crate::resources::{addr, MaxLenPrefix};
 use bytes::Bytes;
 use std::error::Error;
 use std::fmt;
@@ -67,7 +69,7 @@ impl Error for RoaError {}
 /// assert_eq!(texts, ["10.0.0.0/8-24"]);
 /// assert_eq!(RouteOriginAttestation::decode(&b"\x30\x00"[..], true).unwrap_err(), RoaError::AsId);
 /// ```
-#[derive(Clone, Debug)]
+#[derive(Clone, Debug, PartialEq, Eq, Hash)]
 pub struct RouteOriginAttestation {
     as_id: Asn,
     v4_addrs: RoaIpAddresses,
@@ -80,8 +82,8 @@ impl RouteOriginAttestation {
     ///
     /// # Errors
     /// The part that is wrong.
-    pub fn decode(octets: impl Into<Bytes>, strict: bool) -> Result<Self, RoaError> {
-        let octets = octets.into();
+    pub fn decode(octets: impl IntoOctets, strict: bool) -> Result<Self, RoaError> {
+        let octets = octets.into_octets();
         let found = ffi::roa(&octets, strict).map_err(RoaError::from_status)?;
         let addresses =
             |family, part: ffi::Span, len| RoaIpAddresses { family, octets: octets.slice(part.range(&octets)), len };
@@ -114,10 +116,24 @@ impl RouteOriginAttestation {
             .map(|address| FriendlyRoaIpAddress::new(address, true))
             .chain(self.v6_addrs.iter().map(|address| FriendlyRoaIpAddress::new(address, false)))
     }
+
+    /// What may be announced, in the same order.
+    pub fn iter_origins(&self) -> impl Iterator<Item = RouteOrigin> + '_ {
+        self.iter().map(move |address| RouteOrigin { prefix: address.into(), asn: self.as_id })
+    }
+}
+
+/// A prefix, and an AS number that may announce it. The crate rpki has it in `rtr::payload`.
+#[derive(Clone, Copy, Debug, PartialEq, Eq, Hash, PartialOrd, Ord)]
+pub struct RouteOrigin {
+    /// The prefix, and how long those in it may be.
+    pub prefix: MaxLenPrefix,
+    /// The AS number.
+    pub asn: Asn,
 }
 
 /// The prefixes of one family, in the order of the attestation.
-#[derive(Clone, Debug)]
+#[derive(Clone, Debug, PartialEq, Eq, Hash)]
 pub struct RoaIpAddresses {
     family: AddressFamily,
     octets: Bytes,
@@ -198,6 +214,11 @@ impl RoaIpAddress {
         RoaIpAddress { prefix, max_length }
     }
 
+    /// The prefix of so many first bits of an address, with a maximum length in bits.
+    pub fn new_addr(addr: IpAddr, len: u8, max_length: Option<u8>) -> Self {
+        RoaIpAddress::new(Prefix::new(addr, len), max_length)
+    }
+
     /// The prefix.
     pub fn prefix(self) -> Prefix {
         self.prefix
@@ -257,6 +278,14 @@ impl FriendlyRoaIpAddress {
     }
 }
 
+/// A prefix that was read has a length of its family, and its maximum length is not below that; of others each is made
+/// so.
+impl From<FriendlyRoaIpAddress> for MaxLenPrefix {
+    fn from(address: FriendlyRoaIpAddress) -> Self {
+        MaxLenPrefix::saturating_new(addr::Prefix::saturating_new(address), address.addr.max_length)
+    }
+}
+
 impl fmt::Display for FriendlyRoaIpAddress {
     /// `10.0.0.0/8`, and behind it `-24` where the maximum length is there.
     fn fmt(&self, f: &mut fmt::Formatter) -> fmt::Result {
@@ -281,7 +310,7 @@ impl Roa {
     ///
     /// # Errors
     /// The part that is wrong; the content is of another type.
-    pub fn decode(octets: impl Into<Bytes>, strict: bool) -> Result<Self, ValidationError> {
+    pub fn decode(octets: impl IntoOctets, strict: bool) -> Result<Self, ValidationError> {
         let object = SignedObject::decode(octets, strict)?;
         object.must_be_of(ffi::TYPE_ROA)?;
         let content = RouteOriginAttestation::decode(object.content().clone(), strict)?;

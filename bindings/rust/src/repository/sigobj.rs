@@ -2,7 +2,9 @@
 
 use crate::crypto::keys::KeyIdentifier;
 use crate::crypto::signature::{Provider, RpkiSignature, RpkiSignatureAlgorithm, Signature};
+use crate::crypto::DigestAlgorithm;
 use crate::ffi::{self, Status};
+use crate::octets::IntoOctets;
 use crate::oid::Oid;
 use crate::repository::cert::{Cert, CertPart, CertRule, ResourceCert};
 use crate::repository::error::ValidationError;
@@ -112,6 +114,16 @@ impl MessageDigest {
     /// The digest of the octets.
     pub fn of(octets: &[u8]) -> MessageDigest {
         MessageDigest(ffi::sha256(octets))
+    }
+
+    /// This digest, which is by this algorithm: there is no other.
+    pub fn new(digest: impl Into<MessageDigest>, _: DigestAlgorithm) -> Self {
+        digest.into()
+    }
+
+    /// The algorithm of the digest.
+    pub fn algorithm(&self) -> DigestAlgorithm {
+        DigestAlgorithm::sha256()
     }
 
     /// Checks that these octets have this digest (RFC 9286 6.5).
@@ -249,15 +261,15 @@ impl SignedObject {
     ///
     /// # Errors
     /// The part that is wrong.
-    pub fn decode(octets: impl Into<Bytes>, strict: bool) -> Result<Self, SignedObjectError> {
-        let octets = octets.into();
+    pub fn decode(octets: impl IntoOctets, strict: bool) -> Result<Self, SignedObjectError> {
+        let octets = octets.into_octets();
         let found = ffi::signed_object(&octets, strict).map_err(SignedObjectError::from_status)?;
         let part = |part: ffi::Span| octets.slice(part.range(&octets));
         let algorithm = RpkiSignatureAlgorithm { has_parameters: found.has_parameters };
         Ok(SignedObject {
             content_type: Oid(part(found.content_type)),
             content: part(found.content),
-            cert: Cert::decode(part(found.certificate))
+            cert: Cert::read(part(found.certificate), ffi::CERTIFICATE_EE)
                 .map_err(|error| SignedObjectError::Certificate(error.part()))?,
             sid: KeyIdentifier::from(found.signer_identifier),
             signed_attrs: SignedAttrs {
@@ -358,9 +370,9 @@ impl SignedObject {
         self.cert.inspect_ee(false).map_err(ObjectVerificationError::Certificate)
     }
 
-    /// Checks that the key of the certificate has signed the content, and that the authority has issued the certificate,
-    /// which is valid now and that of an end entity (RFC 6488 3), as [Cert::validate_ee] says. Whether it is revoked,
-    /// and what the content says, is not looked at.
+    /// Checks that the key of the certificate has signed the content, and that the authority has issued the
+    /// certificate, which is valid now and that of an end entity (RFC 6488 3), as [Cert::validate_ee] says. Whether it
+    /// is revoked, and what the content says, is not looked at.
     ///
     /// # Errors
     /// The first that doesn't hold.

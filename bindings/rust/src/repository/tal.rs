@@ -132,8 +132,9 @@ impl Tal {
         Tal::read_named(name, reader)
     }
 
-    /// Reads a locator, to be called so (RFC 8630 2.2): lines that begin with `#`, lines of one URI each, an empty line,
-    /// and a SubjectPublicKeyInfo in base 64. Lines end with a line feed, with a carriage return before it or without.
+    /// Reads a locator, to be called so (RFC 8630 2.2): lines that begin with `#`, lines of one URI each, an empty
+    /// line, and a SubjectPublicKeyInfo in base 64. Lines end with a line feed, with a carriage return before it or
+    /// without.
     ///
     /// # Errors
     /// What is wrong first.

@@ -63,44 +63,127 @@ fn in_sequence(octets: &Bytes) -> Result<Bytes, DecodeError> {
     }
 }
 
-/// All of the access descriptions that the octets of an extension are, in order; there is one at least.
-fn descriptions(extension: &KnownExtension) -> Result<Vec<AccessDescription>, DecodeError> {
+/// Hands each of the access descriptions that the octets of an extension are to the function, in order; there is one at
+/// least.
+fn each_description(extension: &KnownExtension, mut take: impl FnMut(AccessDescription)) -> Result<(), DecodeError> {
     let octets = in_sequence(&extension.octets)?;
     if octets.is_empty() {
         return Err(DecodeError::Content);
     }
     let mut rest = &octets[..];
-    let mut all = Vec::new();
     while !rest.is_empty() {
         let (found, following) = ffi::access_description(rest).map_err(DecodeError::from_status)?;
-        all.push(AccessDescription {
+        take(AccessDescription {
             method: AccessMethod::of(found.method),
             id: octets.slice(found.id.range(&octets)),
             location: found.is_uri.then(|| octets.slice(found.uri.range(&octets))),
         });
         rest = following;
     }
+    Ok(())
+}
+
+/// All of the access descriptions; none where the extension isn't there.
+fn descriptions(extension: Option<&KnownExtension>) -> Result<Vec<AccessDescription>, DecodeError> {
+    let mut all = Vec::new();
+    if let Some(extension) = extension {
+        each_description(extension, |it| all.push(it))?;
+    }
     Ok(all)
 }
 
-/// The texts of the URIs of a distribution point, in order: there is one at least, and no name of another form.
-fn point_uris(extension: &KnownExtension) -> Result<Vec<Bytes>, DecodeError> {
+/// The first rsync URI among the names of a distribution point, of which there is one at least, and each a URI.
+fn point_uri(extension: &KnownExtension) -> Result<Option<Rsync>, DecodeError> {
     let octets = &extension.octets;
     let names = ffi::distribution_point(octets).map_err(DecodeError::from_status)?;
     let mut rest = names.of(octets);
     if rest.is_empty() {
         return Err(DecodeError::Content);
     }
-    let mut all = Vec::new();
+    let mut first = None;
     while !rest.is_empty() {
         let (found, following) = ffi::general_name(rest).map_err(DecodeError::from_status)?;
         if !found.is_uri {
             return Err(DecodeError::Unexpected);
         }
-        all.push(octets.slice(found.uri.range(octets)));
+        read_first(&mut first, || Rsync::from_bytes(octets.slice(found.uri.range(octets))));
         rest = following;
     }
-    Ok(all)
+    Ok(first)
+}
+
+/// Reads a URI, unless there was one before.
+fn read_first<T, E>(first: &mut Option<T>, read: impl FnOnce() -> Result<T, E>) {
+    if first.is_none() {
+        *first = read().ok();
+    }
+}
+
+/// The first URIs of each method of a subject's access descriptions.
+#[derive(Default)]
+struct SubjectPlaces {
+    ca_repository: Option<Rsync>,
+    rpki_manifest: Option<Rsync>,
+    signed_object: Option<Rsync>,
+    rpki_notify: Option<Https>,
+}
+
+impl SubjectPlaces {
+    fn of(extension: &KnownExtension) -> Result<Self, DecodeError> {
+        let mut places = SubjectPlaces::default();
+        each_description(extension, |it| places.take(it))?;
+        Ok(places)
+    }
+
+    fn take(&mut self, it: AccessDescription) {
+        let text = match it.location {
+            Some(text) => text,
+            None => return,
+        };
+        match it.method {
+            AccessMethod::CaRepository => read_first(&mut self.ca_repository, || Rsync::from_bytes(text)),
+            AccessMethod::RpkiManifest => read_first(&mut self.rpki_manifest, || Rsync::from_bytes(text)),
+            AccessMethod::SignedObject => read_first(&mut self.signed_object, || Rsync::from_bytes(text)),
+            AccessMethod::RpkiNotify => read_first(&mut self.rpki_notify, || Https::from_bytes(text)),
+            AccessMethod::CaIssuers | AccessMethod::Other => (),
+        }
+    }
+}
+
+/// The first rsync URI of the issuer's certificate among an authority's access descriptions.
+fn issuer_uri(extension: &KnownExtension) -> Result<Option<Rsync>, DecodeError> {
+    let mut first = None;
+    each_description(extension, |it| {
+        if let (AccessMethod::CaIssuers, Some(text)) = (it.method, it.location) {
+            read_first(&mut first, || Rsync::from_bytes(text));
+        }
+    })?;
+    Ok(first)
+}
+
+/// Where something is, as three extensions of a certificate say; of a malformed one nothing.
+#[derive(Clone, Debug, Default)]
+pub(super) struct Places {
+    pub(super) crl_uri: Option<Rsync>,
+    pub(super) ca_issuer: Option<Rsync>,
+    pub(super) ca_repository: Option<Rsync>,
+    pub(super) rpki_manifest: Option<Rsync>,
+    pub(super) signed_object: Option<Rsync>,
+    pub(super) rpki_notify: Option<Https>,
+}
+
+impl Places {
+    pub(super) fn of(known: &KnownExtensions) -> Self {
+        let subject = known.subject_places().unwrap_or_default();
+        Places {
+            crl_uri: known.crl_uri().unwrap_or_default(),
+            ca_issuer: known.ca_issuer().unwrap_or_default(),
+            ca_repository: subject.ca_repository,
+            rpki_manifest: subject.rpki_manifest,
+            signed_object: subject.signed_object,
+            rpki_notify: subject.rpki_notify,
+        }
+    }
 }
 
 impl KnownExtensions {
@@ -109,7 +192,7 @@ impl KnownExtensions {
     /// # Errors
     /// The octets of the extension are not access descriptions, one at least.
     pub fn subject_access(&self) -> Result<Vec<AccessDescription>, DecodeError> {
-        self.subject_info_access.as_ref().map_or_else(|| Ok(Vec::new()), descriptions)
+        descriptions(self.subject_info_access.as_ref())
     }
 
     /// The access descriptions of the authority information access, in order; none where the extension isn't there.
@@ -117,7 +200,11 @@ impl KnownExtensions {
     /// # Errors
     /// The octets of the extension are not access descriptions, one at least.
     pub fn authority_access(&self) -> Result<Vec<AccessDescription>, DecodeError> {
-        self.authority_info_access.as_ref().map_or_else(|| Ok(Vec::new()), descriptions)
+        descriptions(self.authority_info_access.as_ref())
+    }
+
+    fn subject_places(&self) -> Result<SubjectPlaces, DecodeError> {
+        self.subject_info_access.as_ref().map_or_else(|| Ok(SubjectPlaces::default()), SubjectPlaces::of)
     }
 
     /// Where the revocation list is: the first rsync URI of the one distribution point, which has a full name of URIs
@@ -126,8 +213,7 @@ impl KnownExtensions {
     /// # Errors
     /// The octets of the extension are not such a distribution point.
     pub fn crl_uri(&self) -> Result<Option<Rsync>, DecodeError> {
-        let texts = self.crl_distribution_points.as_ref().map_or_else(|| Ok(Vec::new()), point_uris)?;
-        Ok(texts.into_iter().find_map(|text| Rsync::from_bytes(text).ok()))
+        self.crl_distribution_points.as_ref().map_or(Ok(None), point_uri)
     }
 
     /// Where the issuer's certificate is: the first rsync URI of `id-ad-caIssuers` in the authority information access
@@ -136,7 +222,7 @@ impl KnownExtensions {
     /// # Errors
     /// As of [KnownExtensions::authority_access].
     pub fn ca_issuer(&self) -> Result<Option<Rsync>, DecodeError> {
-        Ok(rsync(self.authority_access()?, AccessMethod::CaIssuers))
+        self.authority_info_access.as_ref().map_or(Ok(None), issuer_uri)
     }
 
     /// Where the subject publishes: the first rsync URI of `id-ad-caRepository` in the subject information access (RFC
@@ -145,7 +231,7 @@ impl KnownExtensions {
     /// # Errors
     /// As of [KnownExtensions::subject_access].
     pub fn ca_repository(&self) -> Result<Option<Rsync>, DecodeError> {
-        Ok(rsync(self.subject_access()?, AccessMethod::CaRepository))
+        Ok(self.subject_places()?.ca_repository)
     }
 
     /// Where the subject's manifest is: the first rsync URI of `id-ad-rpkiManifest` in the subject information access
@@ -154,7 +240,7 @@ impl KnownExtensions {
     /// # Errors
     /// As of [KnownExtensions::subject_access].
     pub fn rpki_manifest(&self) -> Result<Option<Rsync>, DecodeError> {
-        Ok(rsync(self.subject_access()?, AccessMethod::RpkiManifest))
+        Ok(self.subject_places()?.rpki_manifest)
     }
 
     /// Where the object is that the subject's key signs: the first rsync URI of `id-ad-signedObject` in the subject
@@ -163,26 +249,15 @@ impl KnownExtensions {
     /// # Errors
     /// As of [KnownExtensions::subject_access].
     pub fn signed_object(&self) -> Result<Option<Rsync>, DecodeError> {
-        Ok(rsync(self.subject_access()?, AccessMethod::SignedObject))
+        Ok(self.subject_places()?.signed_object)
     }
 
-    /// Where changes are notified: the first https URI of `id-ad-rpkiNotify` in the subject information access (RFC 8182
-    /// 3.2).
+    /// Where changes are notified: the first https URI of `id-ad-rpkiNotify` in the subject information access (RFC
+    /// 8182 3.2).
     ///
     /// # Errors
     /// As of [KnownExtensions::subject_access].
     pub fn rpki_notify(&self) -> Result<Option<Https>, DecodeError> {
-        let mut texts = of_method(self.subject_access()?, AccessMethod::RpkiNotify);
-        Ok(texts.find_map(|text| Https::from_bytes(text).ok()))
+        Ok(self.subject_places()?.rpki_notify)
     }
-}
-
-/// The texts of the URIs of this method.
-fn of_method(all: Vec<AccessDescription>, method: AccessMethod) -> impl Iterator<Item = Bytes> {
-    all.into_iter().filter(move |it| it.method == method).filter_map(|it| it.location)
-}
-
-/// The first rsync URI of this method.
-fn rsync(all: Vec<AccessDescription>, method: AccessMethod) -> Option<Rsync> {
-    of_method(all, method).find_map(|text| Rsync::from_bytes(text).ok())
 }

@@ -1,13 +1,11 @@
 //! Valid certificates (RFC 5280 6.1, RFC 6487 7.2, RFC 8360 4.2.4).
 
-use super::{Cert, CertRule, KnownExtensions};
-use crate::crypto::keys::KeyIdentifier;
+use super::Cert;
 use crate::ffi;
 use crate::repository::error::ValidationError;
-use crate::repository::resources::{AddressFamily, AsBlocks, AsResources, IpBlocks, IpResources};
+use crate::repository::resources::{AddressFamily, AsBlocks, IpBlocks};
 use crate::repository::tal::TalInfo;
 use crate::repository::x509::Time;
-use crate::uri::{Https, Rsync};
 use std::ops::Deref;
 use std::sync::Arc;
 
@@ -17,8 +15,6 @@ use std::sync::Arc;
 #[derive(Clone, Debug)]
 pub struct ResourceCert {
     cert: Cert,
-    known: KnownExtensions,
-    subject_key: KeyIdentifier,
     v4: IpBlocks,
     v6: IpBlocks,
     numbers: AsBlocks,
@@ -62,44 +58,9 @@ impl ResourceCert {
         &self.tal
     }
 
-    /// Its extensions, read once.
-    pub fn kept_extensions(&self) -> &KnownExtensions {
-        &self.known
-    }
-
-    /// The identifier of the subject's key.
-    pub fn subject_key_identifier(&self) -> KeyIdentifier {
-        self.subject_key
-    }
-
-    /// Where the revocation list of the issuer is, as [KnownExtensions::crl_uri] says; a trust anchor has none.
-    pub fn crl_uri(&self) -> Option<Rsync> {
-        self.known.crl_uri().ok().flatten()
-    }
-
-    /// Where the issuer's certificate is, as [KnownExtensions::ca_issuer] says; a trust anchor has none.
-    pub fn ca_issuer(&self) -> Option<Rsync> {
-        self.known.ca_issuer().ok().flatten()
-    }
-
-    /// Where an authority publishes, as [KnownExtensions::ca_repository] says.
-    pub fn ca_repository(&self) -> Option<Rsync> {
-        self.known.ca_repository().ok().flatten()
-    }
-
-    /// Where an authority's manifest is, as [KnownExtensions::rpki_manifest] says.
-    pub fn rpki_manifest(&self) -> Option<Rsync> {
-        self.known.rpki_manifest().ok().flatten()
-    }
-
-    /// Where the object is that an end entity signs, as [KnownExtensions::signed_object] says.
-    pub fn signed_object(&self) -> Option<Rsync> {
-        self.known.signed_object().ok().flatten()
-    }
-
-    /// Where changes of an authority's repository are notified, as [KnownExtensions::rpki_notify] says.
-    pub fn rpki_notify(&self) -> Option<Https> {
-        self.known.rpki_notify().ok().flatten()
+    /// The trust anchor at the end of its chain.
+    pub fn into_tal(self) -> Arc<TalInfo> {
+        self.tal
     }
 
     /// Its addresses as the library takes them.
@@ -158,19 +119,9 @@ impl Cert {
         ffi::anchor_verify(&self.octets, tal.key_octets()).map_err(ValidationError::from_status)?;
         self.validity.verify_at(now)?;
         // The profile has it that they are of one version, in canonical form, and not inherited.
-        let known = self.known_extensions()?;
-        let subject_key = known.subject_key.ok_or(CertRule::SubjectKeyIdentifier)?;
-        let (v4, v6) = match known.ip_resources.as_ref().or(known.ip_resources_v2.as_ref()) {
-            Some(found) => IpResources::decode_families(&found.octets)?,
-            None => (None, None),
-        };
-        let of = |found: Option<IpResources>| found.map_or_else(|| Ok(IpBlocks::empty()), |found| found.to_blocks());
-        let numbers = match known.as_resources.as_ref().or(known.as_resources_v2.as_ref()) {
-            Some(found) => AsResources::decode(&found.octets)?.to_blocks()?,
-            None => AsBlocks::empty(),
-        };
-        let (v4, v6) = (of(v4)?, of(v6)?);
-        Ok(ResourceCert { known, subject_key, v4, v6, numbers, is_authority: true, tal, cert: self })
+        let (v4, v6) = self.ip_resources();
+        let (v4, v6, numbers) = (v4.to_blocks()?, v6.to_blocks()?, self.as_resources().to_blocks()?);
+        Ok(ResourceCert { v4, v6, numbers, is_authority: true, tal, cert: self })
     }
 
     /// Checks that the authority has issued this certificate, but for revocation, and settles what it has (RFC 6487
@@ -189,11 +140,8 @@ impl Cert {
         let ip = ffi::ip_settle(&self.octets, &issuer.ip_entries()).map_err(ValidationError::from_status)?;
         let numbers = ffi::as_settle(&self.octets, &issuer.numbers.entries()).map_err(ValidationError::from_status)?;
         let ((v4, v6), numbers) = (families(&ip), AsBlocks::of_entries(&numbers));
-        let is_authority = profile == ffi::CERTIFICATE_CA;
-        let known = self.known_extensions()?;
-        let subject_key = known.subject_key.ok_or(CertRule::SubjectKeyIdentifier)?;
-        let tal = issuer.tal.clone();
-        Ok(ResourceCert { known, subject_key, v4, v6, numbers, is_authority, tal, cert: self })
+        let (is_authority, tal) = (profile == ffi::CERTIFICATE_CA, issuer.tal.clone());
+        Ok(ResourceCert { v4, v6, numbers, is_authority, tal, cert: self })
     }
 
     /// Checks that the authority has issued this certificate of another authority: of its profile

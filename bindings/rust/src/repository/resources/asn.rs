@@ -5,6 +5,7 @@ use super::encode;
 use super::numbers::{self, Ends};
 use crate::encode::{value, CONSTRUCTED_0, SEQUENCE};
 use crate::ffi;
+use crate::repository::error::VerificationError;
 use crate::view::DecodeError;
 use bytes::Bytes;
 use std::error::Error;
@@ -88,6 +89,94 @@ impl FromStr for Asn {
 impl fmt::Display for Asn {
     fn fmt(&self, f: &mut fmt::Formatter) -> fmt::Result {
         write!(f, "AS{}", self.0)
+    }
+}
+
+/// Serialized as the number; each other form has its functions, for `serialize_with` and `deserialize_with`.
+#[cfg(feature = "serde")]
+impl Asn {
+    /// Writes the number.
+    ///
+    /// # Errors
+    /// The serializer's.
+    pub fn serialize_as_u32<S: serde::Serializer>(&self, serializer: S) -> Result<S::Ok, S::Error> {
+        serializer.serialize_u32(self.0)
+    }
+
+    /// Writes the text, as `AS64496`.
+    ///
+    /// # Errors
+    /// The serializer's.
+    pub fn serialize_as_str<S: serde::Serializer>(&self, serializer: S) -> Result<S::Ok, S::Error> {
+        serializer.collect_str(self)
+    }
+
+    /// Writes the digits, as a text.
+    ///
+    /// # Errors
+    /// The serializer's.
+    pub fn serialize_as_bare_str<S: serde::Serializer>(&self, serializer: S) -> Result<S::Ok, S::Error> {
+        serializer.collect_str(&self.0)
+    }
+
+    /// Reads a number.
+    ///
+    /// # Errors
+    /// The deserializer's; it is no number below 2^32.
+    pub fn deserialize_from_u32<'de, D: serde::Deserializer<'de>>(deserializer: D) -> Result<Self, D::Error> {
+        serde::Deserialize::deserialize(deserializer).map(Asn)
+    }
+
+    /// Reads a text, with `AS` or without.
+    ///
+    /// # Errors
+    /// The deserializer's; the text is no AS number.
+    pub fn deserialize_from_str<'de, D: serde::Deserializer<'de>>(deserializer: D) -> Result<Self, D::Error> {
+        crate::texts::borrowed(deserializer, "an AS number", str::parse)
+    }
+
+    /// Reads a number, or a text, of a format that tells which it has.
+    ///
+    /// # Errors
+    /// The deserializer's; it is neither.
+    pub fn deserialize_from_any<'de, D: serde::Deserializer<'de>>(deserializer: D) -> Result<Self, D::Error> {
+        struct Reading;
+
+        impl serde::de::Visitor<'_> for Reading {
+            type Value = Asn;
+
+            fn expecting(&self, f: &mut fmt::Formatter) -> fmt::Result {
+                f.write_str("an AS number")
+            }
+
+            fn visit_u64<E: serde::de::Error>(self, number: u64) -> Result<Asn, E> {
+                number.try_into().map(Asn).map_err(E::custom)
+            }
+
+            fn visit_i64<E: serde::de::Error>(self, number: i64) -> Result<Asn, E> {
+                number.try_into().map(Asn).map_err(E::custom)
+            }
+
+            fn visit_str<E: serde::de::Error>(self, text: &str) -> Result<Asn, E> {
+                text.parse().map_err(E::custom)
+            }
+        }
+
+        deserializer.deserialize_any(Reading)
+    }
+}
+
+#[cfg(feature = "serde")]
+impl serde::Serialize for Asn {
+    fn serialize<S: serde::Serializer>(&self, serializer: S) -> Result<S::Ok, S::Error> {
+        self.serialize_as_u32(serializer)
+    }
+}
+
+#[cfg(feature = "serde")]
+impl<'de> serde::Deserialize<'de> for Asn {
+    fn deserialize<D: serde::Deserializer<'de>>(deserializer: D) -> Result<Self, D::Error> {
+        Asn::deserialize_from_u32(deserializer)
     }
 }
 
@@ -299,6 +388,57 @@ impl AsBlocks {
     }
 }
 
+impl AsBlocks {
+    /// Leaves the numbers that are in the other set too.
+    pub fn intersection_assign(&mut self, other: &Self) {
+        *self = self.intersection(other);
+    }
+
+    /// Checks that each number of the set is in the other, the issuer's.
+    ///
+    /// # Errors
+    /// One isn't.
+    pub fn verify_covered(&self, issuer: &Self) -> Result<(), VerificationError> {
+        if issuer.contains(self) {
+            Ok(())
+        } else {
+            Err(VerificationError::new("AS numbers that the issuer does not have"))
+        }
+    }
+
+    /// The numbers, ascending.
+    pub fn iter_asns(&self) -> impl Iterator<Item = Asn> + '_ {
+        self.0.iter().flat_map(|(low, high)| *low as u32..=*high as u32).map(Asn)
+    }
+}
+
+/// Blocks are put in one after another, in any order, and make a set.
+#[derive(Clone, Debug, Default)]
+pub struct AsBlocksBuilder(Vec<AsBlock>);
+
+impl AsBlocksBuilder {
+    /// No block yet.
+    pub fn new() -> Self {
+        AsBlocksBuilder::default()
+    }
+
+    /// Puts in a block.
+    pub fn push(&mut self, block: impl Into<AsBlock>) {
+        self.0.push(block.into());
+    }
+
+    /// The set of the blocks.
+    pub fn finalize(self) -> AsBlocks {
+        self.0.into_iter().collect()
+    }
+}
+
+impl Extend<AsBlock> for AsBlocksBuilder {
+    fn extend<I: IntoIterator<Item = AsBlock>>(&mut self, blocks: I) {
+        self.0.extend(blocks);
+    }
+}
+
 impl FromIterator<AsBlock> for AsBlocks {
     fn from_iter<I: IntoIterator<Item = AsBlock>>(iter: I) -> Self {
         AsBlocks(numbers::canonical(iter.into_iter().map(|block| block.ends()).collect()))
@@ -327,6 +467,34 @@ impl fmt::Display for AsBlocks {
     }
 }
 
+/// The AS numbers of a certificate, as they are put together: none at first.
+#[derive(Clone, Debug, Default)]
+pub struct AsResourcesBuilder(Option<AsResources>);
+
+impl AsResourcesBuilder {
+    /// No numbers yet.
+    pub fn new() -> Self {
+        AsResourcesBuilder::default()
+    }
+
+    /// Those of the issuer, in place of what was there.
+    pub fn inherit(&mut self) {
+        self.0 = Some(AsResources::inherit());
+    }
+
+    /// Those that the function puts in, in place of what was there.
+    pub fn blocks<F: FnOnce(&mut AsBlocksBuilder)>(&mut self, build: F) {
+        let mut builder = AsBlocksBuilder::new();
+        build(&mut builder);
+        self.0 = Some(AsResources::blocks(builder.finalize()));
+    }
+
+    /// The numbers.
+    pub fn finalize(self) -> AsResources {
+        self.0.unwrap_or_else(AsResources::missing)
+    }
+}
+
 /// The AS numbers of a certificate (RFC 3779 3).
 #[derive(Clone, Debug, PartialEq, Eq, Hash)]
 pub struct AsResources(ResourcesChoice<AsBlocks>);
@@ -352,8 +520,8 @@ impl AsResources {
         Ok(AsResources::blocks(AsBlocks::of_entries(&entries)))
     }
 
-    /// The contents of the extension (RFC 3779 3.2.3), of which [decode](AsResources::decode) makes these resources; `None`
-    /// where there are none.
+    /// The contents of the extension (RFC 3779 3.2.3), of which [decode](AsResources::decode) makes these resources;
+    /// `None` where there are none.
     ///
     /// ```
     /// use rpki_proved::repository::resources::AsResources;

@@ -8,6 +8,7 @@ use super::encode;
 use super::numbers::{self, Ends};
 use crate::encode::{value, OCTET_STRING, SEQUENCE};
 use crate::ffi;
+use crate::repository::error::VerificationError;
 use crate::view::DecodeError;
 use bytes::Bytes;
 use std::error::Error;
@@ -73,6 +74,15 @@ impl AddressFamily {
             AddressFamily::Ipv6 => Ipv6Addr::from_str(s).map(Addr::from),
         };
         address.map_err(|_| FromStrError(()))
+    }
+
+    /// The family of the addresses in a text: those of IP version 6 alone have a colon.
+    fn of_text(s: &str) -> Self {
+        if s.contains(':') {
+            AddressFamily::Ipv6
+        } else {
+            AddressFamily::Ipv4
+        }
     }
 
     /// The block that ends with the address of this family which begins so.
@@ -441,6 +451,53 @@ impl From<(Addr, Addr)> for IpBlock {
     }
 }
 
+/// A prefix, a range or an address, of either family.
+impl FromStr for IpBlock {
+    type Err = FromStrError;
+
+    fn from_str(s: &str) -> Result<Self, FromStrError> {
+        IpBlock::read(AddressFamily::of_text(s), s)
+    }
+}
+
+/// A prefix of either family.
+impl FromStr for Prefix {
+    type Err = FromStrError;
+
+    fn from_str(s: &str) -> Result<Self, FromStrError> {
+        Prefix::read(AddressFamily::of_text(s), s)
+    }
+}
+
+/// Of a block that knows no family: serialized as the text of its numbers as addresses of IP version 6, and read from a
+/// text of either family.
+#[cfg(feature = "serde")]
+macro_rules! serialized_as_v6 {
+    ($($name:ident, $expected:literal;)*) => {
+        $(
+            impl serde::Serialize for $name {
+                /// Writes the text, as of addresses of IP version 6.
+                fn serialize<S: serde::Serializer>(&self, serializer: S) -> Result<S::Ok, S::Error> {
+                    serializer.collect_str(&IpBlock::from(*self).display_v6())
+                }
+            }
+
+            impl<'de> serde::Deserialize<'de> for $name {
+                /// Reads a text of either family.
+                fn deserialize<D: serde::Deserializer<'de>>(deserializer: D) -> Result<Self, D::Error> {
+                    crate::texts::borrowed(deserializer, $expected, str::parse)
+                }
+            }
+        )*
+    };
+}
+
+#[cfg(feature = "serde")]
+serialized_as_v6! {
+    IpBlock, "a block of addresses";
+    Prefix, "a prefix";
+}
+
 /// Blocks of a family, with a comma and a space between them.
 struct Shown<B>(AddressFamily, B);
 
@@ -530,11 +587,64 @@ impl IpBlocks {
         IpBlocks(entries.iter().map(ends).collect())
     }
 
+    /// Leaves the addresses that are in the other set too.
+    pub fn intersection_assign(&mut self, other: &Self) {
+        *self = self.intersection(other);
+    }
+
+    /// Checks that each address of the set is in the other, the issuer's.
+    ///
+    /// # Errors
+    /// One isn't.
+    pub fn verify_covered(&self, issuer: &Self) -> Result<(), VerificationError> {
+        if issuer.contains(self) {
+            Ok(())
+        } else {
+            Err(VerificationError::new("addresses that the issuer does not have"))
+        }
+    }
+
     fn read(family: AddressFamily, s: &str) -> Result<Self, FromStrError> {
         if s.trim().is_empty() {
             return Ok(IpBlocks::empty());
         }
         s.split(',').map(|block| IpBlock::read(family, block.trim())).collect()
+    }
+}
+
+/// Blocks of one family with commas between them, in any order; none in an empty text.
+impl FromStr for IpBlocks {
+    type Err = FromStrError;
+
+    fn from_str(s: &str) -> Result<Self, FromStrError> {
+        IpBlocks::read(AddressFamily::of_text(s), s)
+    }
+}
+
+/// Blocks are put in one after another, in any order, and make a set.
+#[derive(Clone, Debug, Default)]
+pub struct IpBlocksBuilder(Vec<IpBlock>);
+
+impl IpBlocksBuilder {
+    /// No block yet.
+    pub fn new() -> Self {
+        IpBlocksBuilder::default()
+    }
+
+    /// Puts in a block.
+    pub fn push(&mut self, block: impl Into<IpBlock>) {
+        self.0.push(block.into());
+    }
+
+    /// The set of the blocks.
+    pub fn finalize(self) -> IpBlocks {
+        self.0.into_iter().collect()
+    }
+}
+
+impl Extend<IpBlock> for IpBlocksBuilder {
+    fn extend<I: IntoIterator<Item = IpBlock>>(&mut self, blocks: I) {
+        self.0.extend(blocks);
     }
 }
 
@@ -592,6 +702,34 @@ macro_rules! of_family {
 of_family!(Ipv4Blocks, AddressFamily::Ipv4, "4");
 of_family!(Ipv6Blocks, AddressFamily::Ipv6, "6");
 
+/// The addresses of one family of a certificate, as they are put together: none at first.
+#[derive(Clone, Debug, Default)]
+pub struct IpResourcesBuilder(Option<IpResources>);
+
+impl IpResourcesBuilder {
+    /// No addresses yet.
+    pub fn new() -> Self {
+        IpResourcesBuilder::default()
+    }
+
+    /// Those of the issuer, in place of what was there.
+    pub fn inherit(&mut self) {
+        self.0 = Some(IpResources::inherit());
+    }
+
+    /// Those that the function puts in, in place of what was there.
+    pub fn blocks<F: FnOnce(&mut IpBlocksBuilder)>(&mut self, build: F) {
+        let mut builder = IpBlocksBuilder::new();
+        build(&mut builder);
+        self.0 = Some(IpResources::blocks(builder.finalize()));
+    }
+
+    /// The addresses.
+    pub fn finalize(self) -> IpResources {
+        self.0.unwrap_or_else(IpResources::missing)
+    }
+}
+
 /// The addresses of one family of a certificate (RFC 3779 2).
 #[derive(Clone, Debug, PartialEq, Eq, Hash)]
 pub struct IpResources(ResourcesChoice<IpBlocks>);
@@ -618,8 +756,8 @@ impl IpResources {
         Ok((IpResources::of(AddressFamily::Ipv4, v4), IpResources::of(AddressFamily::Ipv6, v6)))
     }
 
-    /// The contents of the extension (RFC 3779 2.2.3), of which [decode_families](IpResources::decode_families) makes these
-    /// resources; `None` where neither family has any.
+    /// The contents of the extension (RFC 3779 2.2.3), of which [decode_families](IpResources::decode_families) makes
+    /// these resources; `None` where neither family has any.
     ///
     /// # Errors
     /// A block of `v4` begins or ends within an address of IP version 4: one of its ends differs in bits behind the

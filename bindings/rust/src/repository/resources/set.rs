@@ -1,7 +1,9 @@
 //! What a certificate has of all three kinds.
 
-use super::{AsBlocks, Asn, IpBlocks, Ipv4Blocks, Ipv6Blocks};
-use crate::repository::cert::ResourceCert;
+use super::{AsBlocks, Asn, InheritedResources, IpBlocks, Ipv4Blocks, Ipv6Blocks, ParseAsnError};
+use super::{AsResources, FromStrError, IpResources};
+use crate::repository::cert::{Cert, ResourceCert};
+use std::error::Error;
 use std::fmt;
 
 /// A set of AS numbers and one of addresses of each family.
@@ -16,6 +18,7 @@ use std::fmt;
 /// # Ok::<(), Box<dyn std::error::Error>>(())
 /// ```
 #[derive(Clone, Debug, Default, PartialEq, Eq, Hash)]
+#[cfg_attr(feature = "serde", derive(serde::Serialize, serde::Deserialize))]
 pub struct ResourceSet {
     asn: AsBlocks,
     ipv4: Ipv4Blocks,
@@ -26,6 +29,14 @@ impl ResourceSet {
     /// These.
     pub fn new(asn: AsBlocks, ipv4: Ipv4Blocks, ipv6: Ipv6Blocks) -> Self {
         ResourceSet { asn, ipv4, ipv6 }
+    }
+
+    /// Those of three texts.
+    ///
+    /// # Errors
+    /// The first that is no list of blocks of its kind.
+    pub fn from_strs(asn: &str, ipv4: &str, ipv6: &str) -> Result<Self, ParseResourcesError> {
+        Ok(ResourceSet::new(asn.parse()?, ipv4.parse()?, ipv6.parse()?))
     }
 
     /// None.
@@ -51,6 +62,21 @@ impl ResourceSet {
     /// The addresses of IP version 6.
     pub fn ipv6(&self) -> &Ipv6Blocks {
         &self.ipv6
+    }
+
+    /// The AS numbers, as a certificate has them.
+    pub fn to_as_resources(&self) -> AsResources {
+        AsResources::blocks(self.asn.clone())
+    }
+
+    /// The addresses of IP version 4, as a certificate has them.
+    pub fn to_ip_resources_v4(&self) -> IpResources {
+        IpResources::blocks(self.ipv4.clone().into())
+    }
+
+    /// The addresses of IP version 6, as a certificate has them.
+    pub fn to_ip_resources_v6(&self) -> IpResources {
+        IpResources::blocks(self.ipv6.clone().into())
     }
 
     /// Whether there are none.
@@ -86,6 +112,49 @@ impl ResourceSet {
         ResourceSet::new(self.asn.difference(&other.asn), v4.into(), v6.into())
     }
 }
+
+/// What a certificate claims. Whether it has it, [ResourceCert] says.
+impl TryFrom<&Cert> for ResourceSet {
+    type Error = InheritedResources;
+
+    /// Fails where the certificate claims those of its issuer.
+    fn try_from(cert: &Cert) -> Result<Self, InheritedResources> {
+        let (v4, v6) = cert.ip_resources();
+        Ok(ResourceSet::new(cert.as_resources().to_blocks()?, v4.to_blocks()?.into(), v6.to_blocks()?.into()))
+    }
+}
+
+/// A text is no list of blocks.
+#[derive(Clone, Copy, Debug, PartialEq, Eq)]
+pub enum ParseResourcesError {
+    /// Of AS numbers.
+    Asn(ParseAsnError),
+    /// Of addresses.
+    Ip(FromStrError),
+}
+
+impl From<ParseAsnError> for ParseResourcesError {
+    fn from(error: ParseAsnError) -> Self {
+        ParseResourcesError::Asn(error)
+    }
+}
+
+impl From<FromStrError> for ParseResourcesError {
+    fn from(error: FromStrError) -> Self {
+        ParseResourcesError::Ip(error)
+    }
+}
+
+impl fmt::Display for ParseResourcesError {
+    fn fmt(&self, f: &mut fmt::Formatter) -> fmt::Result {
+        match self {
+            ParseResourcesError::Asn(error) => error.fmt(f),
+            ParseResourcesError::Ip(error) => error.fmt(f),
+        }
+    }
+}
+
+impl Error for ParseResourcesError {}
 
 /// What a valid certificate has.
 impl From<&ResourceCert> for ResourceSet {

@@ -2,6 +2,7 @@
 
 use crate::crypto::keys::{known, PublicKey};
 use crate::ffi;
+use crate::octets::IntoOctets;
 use crate::repository::error::{ContentError, InspectionError};
 use crate::view::{DecodeError, InspectError};
 use bytes::Bytes;
@@ -39,8 +40,8 @@ impl Name {
     ///
     /// # Errors
     /// `Trailing` where octets follow a name, `OutOfMemory`, and else why no beginning of the octets is a name.
-    pub fn decode(octets: impl Into<Bytes>) -> Result<Self, DecodeError> {
-        let octets = octets.into();
+    pub fn decode(octets: impl IntoOctets) -> Result<Self, DecodeError> {
+        let octets = octets.into_octets();
         ffi::name_inspect(&octets, 0, false).map_err(DecodeError::from_status)?;
         Ok(Name { octets })
     }
@@ -101,19 +102,7 @@ impl AsRef<[u8]> for Name {
 }
 
 #[cfg(feature = "serde")]
-impl serde::Serialize for Name {
-    /// The octets in base 64. Panics if allocation fails.
-    fn serialize<S: serde::Serializer>(&self, serializer: S) -> Result<S::Ok, S::Error> {
-        serializer.serialize_str(&crate::util::base64::Serde.encode(&self.octets))
-    }
-}
-
-#[cfg(feature = "serde")]
-impl<'de> serde::Deserialize<'de> for Name {
-    fn deserialize<D: serde::Deserializer<'de>>(deserializer: D) -> Result<Self, D::Error> {
-        crate::texts::octets(deserializer, "a name in base 64", Name::decode)
-    }
-}
+crate::texts::serialized_as_octets!(Name, "a name in base 64");
 
 #[cfg(test)]
 mod tests {

@@ -43,6 +43,11 @@ impl Serial {
         Serial::from_slice(&array)
     }
 
+    /// The number of octets that a call has found to be one.
+    pub(crate) fn read(array: [u8; 20]) -> Self {
+        Serial(array)
+    }
+
     /// The 20 octets of the number, the most significant first, with zeros in front.
     pub fn into_array(self) -> [u8; 20] {
         self.0

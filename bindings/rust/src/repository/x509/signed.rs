@@ -5,6 +5,7 @@ use crate::crypto::signature::{
     Provider, RpkiSignature, RpkiSignatureAlgorithm, Signature, SignatureVerificationError,
 };
 use crate::ffi;
+use crate::octets::IntoOctets;
 use crate::view::DecodeError;
 use bytes::Bytes;
 
@@ -61,8 +62,8 @@ impl SignedData {
     /// # Errors
     /// `OtherAlgorithm` where all is well formed as far as the algorithm identifier, and that is another one;
     /// `Trailing` where octets follow signed data, `OutOfMemory`, and else why no beginning of the octets is any.
-    pub fn decode(octets: impl Into<Bytes>) -> Result<Self, DecodeError> {
-        let octets = octets.into();
+    pub fn decode(octets: impl IntoOctets) -> Result<Self, DecodeError> {
+        let octets = octets.into_octets();
         let found = ffi::signed_data(&octets).map_err(DecodeError::from_status)?;
         let algorithm = RpkiSignatureAlgorithm { has_parameters: found.has_parameters };
         let signature = Signature::new(algorithm, octets.slice(found.signature.range(&octets)));
