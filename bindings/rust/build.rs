@@ -39,12 +39,12 @@ fn named(folder: PathBuf) -> Vec<PathBuf> {
 }
 
 /// The folders beside this package that may have the archive for this architecture: what `bindings/archive` makes in a
-/// clone of the repository, which is for x86-64 where nothing else is said, and what a package of the library has.
+/// clone of the repository, where that for x86-64 has no folder of its own, and what a package of the library has.
 fn beside(architecture: &str) -> Vec<PathBuf> {
     // As it is when this runs: a build script may be the one that was compiled for a copy in another folder.
     let here = PathBuf::from(env::var_os("CARGO_MANIFEST_DIR").unwrap_or_default());
-    let made = (architecture == "x86_64").then(|| here.join("../out"));
-    made.into_iter().chain([here.join("../../lib").join(architecture)]).collect()
+    let made = here.join("../out").join(if architecture == "x86_64" { "" } else { architecture });
+    vec![made, here.join("../../lib").join(architecture)]
 }
 
 /// What pkg-config prints, where it succeeds and prints something.

@@ -1,87 +1,60 @@
-//! Validates a copy of a repository from a trust anchor locator on, and prints each prefix that is valid, its maximum
-//! length and who may announce it; to stderr what isn't valid, and why.
-//!
-//! usage: validate LOCATOR FOLDER [SECONDS]     FOLDER has HOST/MODULE/PATH; SECONDS since 1970, where not now
+//! Validates a copy of a repository, each authority once: prints each prefix that is valid, its maximum length and who
+//! may announce it, and to stderr what isn't valid, and why. A file of the folder is HOST/MODULE/PATH.
 
-use rpki_proved::repository::tal::{Tal, TalUri};
-use rpki_proved::repository::x509::Time;
-use rpki_proved::repository::{Cert, Crl, CurrentCrl, Manifest, ResourceCert, Roa};
-use rpki_proved::uri::Rsync;
-use std::error::Error;
-use std::path::PathBuf;
+use rpki_proved::repository::{error::ValidationError, tal::Tal, x509::Time, Cert, Crl, Manifest, ResourceCert, Roa};
+use std::{collections::HashSet, env, error::Error, fs};
 
-type Outcome<T> = Result<T, Box<dyn Error>>;
-
-struct Repository {
-    folder: PathBuf,
-    now: Time,
+/// Reads what an authority publishes, prints what may be announced, and adds the authorities below it.
+fn visit(by: &ResourceCert, now: Time, folder: &str, below: &mut Vec<ResourceCert>) -> Result<(), Box<dyn Error>> {
+    let read = |uri: &str| fs::read(uri.replacen("rsync:/", folder, 1));
+    let uri = by.rpki_manifest().ok_or("no manifest")?;
+    let (signer, content) = Manifest::decode(read(uri.as_str())?, false)?.validate_at(by, true, now)?;
+    let mut files = Vec::new();
+    for listed in content.iter_uris(&uri.parent().ok_or("no folder")?) {
+        let (uri, hash) = listed?;
+        let file = read(uri.as_str())?;
+        hash.verify(&file)?;
+        files.push((uri, file));
+    }
+    let (_, list) = files.iter().find(|(uri, _)| uri.ends_with(".crl")).ok_or("no revocation list")?;
+    let crl = Crl::decode(list)?.validate_at(by, now)?;
+    crl.verify_not_revoked(&signer)?;
+    for (uri, file) in &files {
+        let mut validate = || -> Result<(), ValidationError> {
+            if uri.ends_with(".cer") {
+                let cert = Cert::decode(file)?.validate_ca_at(by, true, now)?;
+                crl.verify_not_revoked(&cert)?;
+                below.push(cert);
+            } else if uri.ends_with(".roa") {
+                let roa = Roa::decode(file, false)?;
+                let (_, content) = roa.process_at(by, true, now, |cert| crl.verify_not_revoked(cert))?;
+                for origin in content.iter_origins() {
+                    println!("{},{},{}", origin.asn, origin.prefix.prefix(), origin.prefix.resolved_max_len());
+                }
+            }
+            Ok(())
+        };
+        validate().unwrap_or_else(|error| eprintln!("{uri}: {error}"));
+    }
+    Ok(())
 }
 
-impl Repository {
-    fn read(&self, uri: &Rsync) -> Outcome<Vec<u8>> {
-        Ok(std::fs::read(self.folder.join(&uri.as_str()["rsync://".len()..]))?)
-    }
-
-    /// All that the authority publishes: files that its manifest lists, under its revocation list.
-    fn validate(&self, by: &ResourceCert, depth: usize) -> Outcome<()> {
-        let uri = by.rpki_manifest().ok_or("no manifest")?;
-        let (signer, content) = Manifest::decode(self.read(&uri)?, false)?.validate_at(by, true, self.now)?;
-        let mut files = Vec::new();
-        for listed in content.iter_uris(&uri.parent().ok_or("no folder")?) {
-            let (uri, hash) = listed?;
-            let octets = self.read(&uri)?;
-            hash.verify(&octets)?;
-            files.push((uri, octets));
+fn main() -> Result<(), Box<dyn Error>> {
+    let mut words = env::args().skip(1);
+    let (locator, folder) =
+        words.next().zip(words.next()).ok_or("usage: validate LOCATOR FOLDER [SECONDS SINCE 1970]")?;
+    let seconds = words.next().map_or(Ok(Time::now().timestamp()), |word| word.parse())?;
+    let now = Time::from_timestamp(seconds).ok_or("no time")?;
+    let tal = Tal::read(&locator, &mut fs::File::open(&locator)?)?;
+    let uri = tal.uris().find(|uri| uri.is_rsync()).ok_or("no rsync URI")?.to_string();
+    let anchor = Cert::decode(fs::read(uri.replacen("rsync:/", &folder, 1))?)?;
+    let mut authorities = vec![anchor.validate_ta_at(tal.info().clone(), true, now)?];
+    let mut visited = HashSet::new();
+    while let Some(by) = authorities.pop() {
+        if visited.insert(by.rpki_manifest().cloned()) {
+            let visited = visit(&by, now, &folder, &mut authorities);
+            visited.unwrap_or_else(|error| eprintln!("{}: {error}", by.subject_key_identifier()));
         }
-        let list = files.iter().find(|(uri, _)| uri.as_str().ends_with(".crl")).ok_or("no revocation list")?;
-        let crl = Crl::decode(list.1.clone())?.validate_at(by, self.now)?;
-        crl.verify_not_revoked(&signer)?;
-        for (uri, octets) in files {
-            if let Err(error) = self.validate_file(&uri, octets, by, &crl, depth) {
-                eprintln!("{uri}: {error}");
-            }
-        }
-        Ok(())
     }
-
-    fn validate_file(
-        &self,
-        uri: &Rsync,
-        octets: Vec<u8>,
-        by: &ResourceCert,
-        crl: &CurrentCrl,
-        depth: usize,
-    ) -> Outcome<()> {
-        if uri.as_str().ends_with(".roa") {
-            let check_crl = |cert: &Cert| crl.verify_not_revoked(cert);
-            let (_, roa) = Roa::decode(octets, false)?.process_at(by, true, self.now, check_crl)?;
-            for origin in roa.iter() {
-                let (address, length) = (origin.address(), origin.address_length());
-                println!("{},{address}/{length},{}", roa.as_id(), origin.max_length());
-            }
-        } else if uri.as_str().ends_with(".cer") && depth > 0 {
-            let cert = Cert::decode(octets)?.validate_ca_at(by, true, self.now)?;
-            crl.verify_not_revoked(&cert)?;
-            self.validate(&cert, depth - 1)?;
-        }
-        Ok(())
-    }
-}
-
-fn main() -> Outcome<()> {
-    let words: Vec<String> = std::env::args().skip(1).collect();
-    let (locator, folder) = match &words[..] {
-        [locator, folder, ..] => (locator, folder),
-        _ => return Err("usage: validate LOCATOR FOLDER [SECONDS]".into()),
-    };
-    let now = match words.get(2) {
-        Some(seconds) => Time::from_timestamp(seconds.parse()?).ok_or("no time")?,
-        None => Time::now(),
-    };
-    let repository = Repository { folder: folder.into(), now };
-    let tal = Tal::read(locator, &mut std::fs::File::open(locator)?)?;
-    let is_rsync = |uri: &TalUri| if let TalUri::Rsync(uri) = uri { Some(uri.clone()) } else { None };
-    let uri = tal.uris().find_map(is_rsync).ok_or("no rsync URI")?;
-    let anchor = Cert::decode(repository.read(&uri)?)?.validate_ta_at(tal.info().clone(), true, now)?;
-    repository.validate(&anchor, 32)
+    Ok(())
 }
