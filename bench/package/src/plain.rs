@@ -127,23 +127,25 @@ impl Rsync {
         Some(Rsync { bytes: bytes.freeze(), ..*self })
     }
 
-    fn module_name(&self) -> &str {
-        &self.as_str()[self.module_start..self.path_start]
+    fn has_module_of(&self, other: &Rsync) -> bool {
+        self.path_start == other.path_start
+            && self.bytes[self.module_start..self.path_start] == other.bytes[other.module_start..other.path_start]
+            && self.bytes[8..self.module_start].eq_ignore_ascii_case(&other.bytes[8..other.module_start])
     }
 
     pub fn relative_to(&self, base: &Rsync) -> Option<&str> {
-        if !self.authority().eq_ignore_ascii_case(base.authority()) || self.module_name() != base.module_name() {
+        if !self.has_module_of(base) {
             return None;
         }
-        let below = base.path().strip_suffix('/').unwrap_or(base.path());
-        if below.is_empty() {
-            return Some(self.path());
-        }
-        let rest = self.path().strip_prefix(below)?;
-        if rest.is_empty() {
-            Some(rest)
-        } else {
-            rest.strip_prefix('/')
+        let below = &base.bytes[base.path_start..];
+        let below = below.strip_suffix(b"/").unwrap_or(below);
+        let rest = self.bytes[self.path_start..].strip_prefix(below)?;
+        let at = self.bytes.len() - rest.len();
+        match rest.first() {
+            None => Some(""),
+            Some(_) if below.is_empty() => Some(self.path()),
+            Some(b'/') => Some(&self.as_str()[at + 1..]),
+            Some(_) => None,
         }
     }
 
@@ -155,9 +157,7 @@ impl Rsync {
         fn without_slash(path: &str) -> &str {
             path.strip_suffix('/').unwrap_or(path)
         }
-        self.authority().eq_ignore_ascii_case(other.authority())
-            && self.module_name() == other.module_name()
-            && without_slash(self.path()) == without_slash(other.path())
+        self.has_module_of(other) && without_slash(self.path()) == without_slash(other.path())
     }
 }
 
