@@ -1,186 +1,120 @@
-/*
- * Validates a copy of a repository, from a trust anchor locator (RFC 8630) on: prints the AS number, the prefix and the
+/* Validates a copy of a repository, from a trust anchor locator (RFC 8630) on: prints the AS number, the prefix and the
  * maximum length of each valid route origin, and to stderr what isn't valid, and why. It needs no other library.
- *
- * usage: validate LOCATOR FOLDER [SECONDS]      FOLDER has HOST/MODULE/PATH; SECONDS since 1970, where not now
- */
+ * usage: validate LOCATOR FOLDER [SECONDS]      FOLDER has HOST/MODULE/PATH; SECONDS since 1970, where not now */
 #include <arpa/inet.h>
 #include <stdio.h>
 #include <stdlib.h>
 #include <string.h>
 #include <time.h>
-
+#include <unistd.h>
 #include "rpki.h"
 
-enum { MOST_OCTETS = 1 << 26, MOST_BLOCKS = 1 << 12, MOST_FILES = 1 << 16, MOST_DEPTH = 32, MOST_TEXT = 4096 };
-
-/* A valid certificate, what it has, and of an authority the entries of its list. */
-struct holder {
-    struct rpki_span cert, revoked;
-    struct rpki_certificate_parts parts;
+#define OF(span) (span).data, (span).size
+enum { MOST_OCTETS = 1 << 28, MOST_BLOCKS = 1 << 12, MOST_FILES = 1 << 16, MOST_DEPTH = 32, TEXT = 4096 };
+struct holder { /* of a valid certificate and of blocks; of an authority also its manifest's URI and its list */
+    struct rpki_span cert;
     struct rpki_known_extensions known;
     struct rpki_ip_block ip[MOST_BLOCKS];
     struct rpki_as_block as[MOST_BLOCKS];
     size_t ip_count, as_count;
+    char manifest[TEXT];
+    struct rpki_crl_parts list;
 };
-
-static struct holder path[MOST_DEPTH + 1]; /* the authorities from the trust anchor on, and what the last one issued */
-static uint8_t octets[MOST_OCTETS];        /* the files that are read, of which so many octets are used */
-static size_t used = 0;
-static const char *folder;
+static struct holder path[MOST_DEPTH + 2]; /* who has all blocks, the trust anchor, and what each one has issued */
+static char uri[TEXT];                     /* of the file that is looked at */
+static uint8_t octets[MOST_OCTETS];        /* of the files that were read, of which so many are used */
+static size_t used;
 static struct rpki_moment now;
-
-static bool holds(const char *name, bool is_so, const char *wrong) {
-    if (!is_so) fprintf(stderr, "%s: %s\n", name, wrong);
-    return is_so;
-}
-static bool ok(const char *name, rpki_status status) { return holds(name, status == 0, rpki_status_text(status)); }
-
-static struct rpki_span read_file(const char *name) {
+static bool is(bool so, const char *wrong) { return so || fprintf(stderr, "%s: %s\n", uri, wrong) < 0; }
+static bool ok(rpki_status status) { return is(status == RPKI_OK, rpki_status_text(status)); }
+static bool ends(const char *ending) { return !strcmp(strrchr(uri, '.'), ending); }
+static struct rpki_span read_uri(void) {
     struct rpki_span found = {octets + used, 0};
-    FILE *file = fopen(name, "rb");
-    if (file) found.size = fread(octets + used, 1, MOST_OCTETS - used, file);
-    if (file) fclose(file);
-    used += found.size;
+    FILE *file = fopen(uri + strlen("rsync://"), "rb");
+    if (file) used += found.size = fread(octets + used, 1, MOST_OCTETS - used, file), fclose(file);
     return found;
 }
-static struct rpki_span read_uri(const char *uri) {
-    struct rpki_rsync_parts parts;
-    char name[MOST_TEXT];
-    bool is_uri = ok(uri, rpki_rsync_parse((const uint8_t *)uri, strlen(uri), &parts));
-    snprintf(name, sizeof name, "%s/%s", folder, is_uri ? uri + strlen("rsync://") : "");
-    return read_file(name);
+/* Whether the certificate is valid now, and issued by the holder before it on the path; its blocks are settled. */
+static bool is_valid(struct rpki_span cert, uint8_t profile, struct holder *out) {
+    const struct holder *by = out - 1;
+    struct rpki_certificate_parts parts = {0};
+    bool revoked = false;
+    out->cert = cert;
+    return ok(rpki_certificate_checked(OF(cert), profile, true, &parts, &out->known)) &&
+           (by == path || ok(rpki_certificate_signed_by(OF(cert), OF(by->cert)))) &&
+           ok(rpki_crl_contains(OF(by->list.revoked_certs), parts.serial_number, &revoked)) &&
+           is(!revoked, "revoked") && ok(rpki_validity_at(&parts.validity, &now)) &&
+           ok(rpki_ip_settle(OF(cert), by->ip, by->ip_count, out->ip, MOST_BLOCKS, &out->ip_count)) &&
+           ok(rpki_as_settle(OF(cert), by->as, by->as_count, out->as, MOST_BLOCKS, &out->as_count));
 }
-
-/* Whether the authority has issued the certificate, which is valid now; what it has is settled. */
-static bool is_issued(const char *name, uint8_t profile, const struct holder *by, struct holder *out) {
-    struct rpki_span c = out->cert;
-    bool revoked = true;
-    return ok(name, rpki_certificate_checked(c.data, c.size, profile, true, &out->parts, &out->known)) &&
-           ok(name, rpki_certificate_signed_by(c.data, c.size, by->cert.data, by->cert.size)) &&
-           ok(name, rpki_validity_at(&out->parts.validity, &now)) &&
-           ok(name, rpki_crl_contains(by->revoked.data, by->revoked.size, out->parts.serial_number, &revoked)) &&
-           holds(name, !revoked, "revoked") &&
-           ok(name, rpki_ip_settle(c.data, c.size, by->ip, by->ip_count, out->ip, MOST_BLOCKS, &out->ip_count)) &&
-           ok(name, rpki_as_settle(c.data, c.size, by->as, by->as_count, out->as, MOST_BLOCKS, &out->as_count));
+/* Whether the octets are an object of this type, which the key of the certificate in it has signed. */
+static bool is_signed(struct rpki_span object, uint8_t type, struct rpki_signed_object_parts *out) {
+    return ok(rpki_object_verify(OF(object), false)) && ok(rpki_signed_object(OF(object), false, out)) &&
+           is(rpki_content_type(OF(out->content_type)) == type, "another type");
 }
-/* Whether the octets are a signed object of this type; its content, and its certificate. */
-static bool is_object(const char *name, struct rpki_span o, uint8_t type, struct rpki_span *content,
-                      struct holder *out) {
-    struct rpki_signed_object_parts parts = {0};
-    if (!ok(name, rpki_object_verify(o.data, o.size, false)) ||
-        !ok(name, rpki_signed_object(o.data, o.size, false, &parts)))
-        return false;
-    *content = parts.content;
-    out->cert = parts.certificate;
-    return holds(name, rpki_content_type(parts.content_type.data, parts.content_type.size) == type, "another type");
-}
-
-static void print_prefixes(struct rpki_span rest, uint8_t family, uint32_t as_id) {
-    struct rpki_roa_address_parts prefix;
+static void print_origins(struct rpki_span file, struct holder *signer) {
+    struct rpki_signed_object_parts cms = {0};
+    struct rpki_roa_parts roa = {0};
+    struct rpki_roa_address_parts at;
     char text[INET6_ADDRSTRLEN];
-    while (rest.size > 0 && rpki_roa_address(&rest, family, &prefix) == RPKI_OK) {
-        inet_ntop(family == RPKI_IPV4 ? AF_INET : AF_INET6, prefix.address, text, sizeof text);
-        printf("AS%lu,%s/%d,%d\n", (unsigned long)as_id, text, prefix.length, prefix.max_length);
-    }
-}
-static void validate_origins(const char *name, struct rpki_span object, const struct holder *by,
-                             struct holder *signer) {
-    struct rpki_span roa;
-    struct rpki_roa_parts parts = {0};
-    if (!is_object(name, object, RPKI_TYPE_ROA, &roa, signer) || !is_issued(name, RPKI_CERTIFICATE_EE, by, signer) ||
-        !ok(name, rpki_roa_signer(signer->cert.data, signer->cert.size)) ||
-        !ok(name, rpki_roa_is_within(roa.data, roa.size, false, signer->ip, signer->ip_count)) ||
-        !ok(name, rpki_roa(roa.data, roa.size, false, &parts)))
+    if (!is_signed(file, RPKI_TYPE_ROA, &cms) || !is_valid(cms.certificate, RPKI_CERTIFICATE_EE, signer) ||
+        !ok(rpki_roa_signer(OF(signer->cert))) || !ok(rpki_roa(OF(cms.content), false, &roa)) ||
+        !ok(rpki_roa_is_within(OF(cms.content), false, signer->ip, signer->ip_count)))
         return;
-    print_prefixes(parts.v4, RPKI_IPV4, parts.as_id);
-    print_prefixes(parts.v6, RPKI_IPV6, parts.as_id);
+    for (int v6 = 0; v6 < 2; v6++)
+        while (rpki_roa_address(v6 ? &roa.v6 : &roa.v4, v6 ? RPKI_IPV6 : RPKI_IPV4, &at) == RPKI_OK)
+            printf("AS%lu,%s/%d,%d\n", (unsigned long)roa.as_id,
+                   inet_ntop(v6 ? AF_INET6 : AF_INET, at.address, text, sizeof text), at.length, at.max_length);
 }
-
-/* The next file of the manifest at this URI: its own URI, and its octets, which the manifest lists. */
-static bool next_file(struct rpki_span *rest, const char *at, char *name, struct rpki_span *out) {
-    struct rpki_manifest_file_parts file = {0};
-    size_t parent = 0;
-    if (rest->size == 0 || !ok(at, rpki_rsync_parent((const uint8_t *)at, strlen(at), &parent)) ||
-        !ok(at, rpki_manifest_file(rest, &file)))
-        return false;
-    snprintf(name, MOST_TEXT, "%.*s%.*s", (int)parent, at, (int)file.name.size, (const char *)file.name.data);
-    *out = read_uri(name);
-    return ok(name, rpki_manifest_file_is(file.digest, out->data, out->size));
-}
-static bool ends(const char *name, const char *ending) { return !strcmp(name + strlen(name) - 4, ending); }
-
-/* Whether the manifest at this URI, and the list that it names, are current ones of the authority. */
-static bool is_current(const char *uri, struct holder *by, struct holder *signer, struct rpki_span *files) {
+/* Visits the authority, unless it is on the path before: prints what it publishes, and visits those below it. */
+static bool visit(struct holder *by) {
     static struct rpki_span room[MOST_FILES];
-    struct rpki_span content, rest, file, list = {0};
+    struct rpki_span rest = {0}, found, list = {0}, access = by->known.subject_info_access.octets;
+    struct rpki_access_parts to = {0};
+    struct rpki_rsync_parts parts;
+    struct rpki_signed_object_parts cms = {0};
     struct rpki_manifest_parts manifest = {0};
-    struct rpki_crl_parts crl = {0};
-    char name[MOST_TEXT];
+    struct rpki_manifest_file_parts file = {0};
     bool differ = false;
-    if (!is_object(uri, read_uri(uri), RPKI_TYPE_MANIFEST, &content, signer) ||
-        !ok(uri, rpki_manifest(content.data, content.size, &manifest)) ||
-        !ok(uri, rpki_manifest_names(content.data, content.size, room, MOST_FILES, &differ)) ||
-        !holds(uri, differ, "a name twice"))
+    if (!ok(rpki_take(&access, RPKI_SEQUENCE, &rest))) return false;
+    while (rpki_access_description(&rest, &to) == RPKI_OK)
+        if (to.method == RPKI_ACCESS_RPKI_MANIFEST && rpki_rsync_parse(OF(to.uri), &parts) == RPKI_OK)
+            snprintf(uri, TEXT, "%.*s", (int)to.uri.size, (const char *)to.uri.data);
+    for (const struct holder *above = path; above < by; above++)
+        if (!strcmp(above->manifest, uri)) return false;
+    int folder = (int)(strrchr(strcpy(by->manifest, uri), '/') + 1 - by->manifest);
+    if (!is(by <= path + MOST_DEPTH, "too deep") || !is_signed(read_uri(), RPKI_TYPE_MANIFEST, &cms) ||
+        !ok(rpki_manifest(OF(cms.content), &manifest)) || !ok(rpki_manifest_inherits(OF(cms.certificate))) ||
+        !ok(rpki_manifest_names(OF(cms.content), room, MOST_FILES, &differ)) || !is(differ, "a name twice"))
         return false;
-    for (rest = *files = manifest.files; next_file(&rest, uri, name, &file);) {
-        if (ends(name, ".crl")) list = file;
+    for (int pass = 0; pass < 2; pass++) { /* first whether all files are as listed, then what they are */
+        for (rest = manifest.files; rest.size > 0;) {
+            if (!ok(rpki_manifest_file(&rest, &file))) return false;
+            snprintf(uri, TEXT, "%.*s%.*s", folder, by->manifest, (int)file.name.size, (char *)file.name.data);
+            found = read_uri();
+            if (!ok(rpki_manifest_file_is(file.digest, OF(found)))) return false;
+            if (pass == 0 && ends(".crl")) list = found;
+            if (pass == 1 && ends(".roa")) print_origins(found, by + 1);
+            if (pass == 1 && ends(".cer") && is_valid(found, RPKI_CERTIFICATE_CA, by + 1)) visit(by + 1);
+        }
+        struct rpki_period term = {manifest.this_update, manifest.next_update};
+        if (pass == 0 && !(ok(rpki_crl(OF(list), &by->list)) && ok(rpki_crl_issued_by(OF(list), OF(by->cert), &now)) &&
+                           ok(rpki_validity_at(&term, &now)) && is_valid(cms.certificate, RPKI_CERTIFICATE_EE, by + 1)))
+            return false;
     }
-    struct rpki_period period = {manifest.this_update, manifest.next_update};
-    if (rest.size > 0 || !ok(uri, rpki_crl_issued_by(list.data, list.size, by->cert.data, by->cert.size, &now)) ||
-        !ok(uri, rpki_crl(list.data, list.size, &crl)))
-        return false;
-    by->revoked = crl.revoked_certs;
-    return ok(uri, rpki_manifest_inherits(signer->cert.data, signer->cert.size)) &&
-           ok(uri, rpki_validity_at(&period, &now)) && is_issued(uri, RPKI_CERTIFICATE_EE, by, signer);
+    return true;
 }
-
-/* Validates all that the authority at this depth publishes. */
-static void validate_authority(unsigned depth) {
-    struct holder *by = &path[depth], *below = by + 1;
-    struct rpki_span access_list = by->known.subject_info_access.octets, rest = {0}, file;
-    struct rpki_access_parts access = {0};
-    char uri[MOST_TEXT] = "", name[MOST_TEXT];
-    size_t before = used;
-    if (depth == MOST_DEPTH || !ok("access", rpki_take(&access_list, RPKI_SEQUENCE, &rest))) return;
-    while (rest.size > 0 && rpki_access_description(&rest, &access) == RPKI_OK) {
-        if (access.method != RPKI_ACCESS_RPKI_MANIFEST || !access.is_uri) continue;
-        snprintf(uri, sizeof uri, "%.*s", (int)access.uri.size, (const char *)access.uri.data);
-    }
-    if (!is_current(uri, by, below, &rest)) return;
-    while (next_file(&rest, uri, name, &file)) {
-        below->cert = file;
-        if (ends(name, ".roa")) validate_origins(name, file, by, below);
-        if (ends(name, ".cer") && is_issued(name, RPKI_CERTIFICATE_CA, by, below)) validate_authority(depth + 1);
-    }
-    used = before;
-}
-
-/* Whether the certificate at this URI is that of the trust anchor with this key, and valid now; what it has is read. */
-static bool is_anchor(const char *uri, const uint8_t *key, size_t size, struct holder *out) {
-    struct rpki_span c = out->cert = read_uri(uri), ip, as;
-    if (!ok(uri, rpki_certificate_checked(c.data, c.size, RPKI_CERTIFICATE_TA, true, &out->parts, &out->known)) ||
-        !ok(uri, rpki_anchor_verify(c.data, c.size, key, size)) ||
-        !ok(uri, rpki_validity_at(&out->parts.validity, &now)))
-        return false;
-    ip = out->known.ip_resources.octets, as = out->known.as_resources.octets;
-    return (!ip.size || ok(uri, rpki_ip_blocks(ip.data, ip.size, out->ip, MOST_BLOCKS, &out->ip_count))) &&
-           (!as.size || ok(uri, rpki_as_blocks(as.data, as.size, out->as, MOST_BLOCKS, &out->as_count)));
-}
-
 int main(int count, char **words) {
-    char text[MOST_TEXT] = "", uri[MOST_TEXT] = "", *keys;
-    uint8_t key[MOST_TEXT];
+    char text[TEXT] = "", *keys;
+    uint8_t key[TEXT];
     size_t size = 0, at = 0;
     FILE *file = count > 2 ? fopen(words[1], "rb") : NULL;
-    long long seconds = count > 3 ? atoll(words[3]) : (long long)time(NULL);
-    if (!file || fread(text, 1, sizeof text - 1, file) == 0 || fclose(file) != 0) return 2;
-    keys = strstr(text, "\n\n"); /* behind the URIs, of which the first is taken */
-    if (!keys || sscanf(text, "%4095s", uri) != 1 || !ok(words[1], rpki_time_of_seconds(seconds, &now)) ||
-        !ok(words[1], rpki_base64_read((uint8_t *)keys, strlen(keys), RPKI_BASE64_XML, key, sizeof key, &size, &at)))
+    if (!file || !fread(text, 1, sizeof text - 1, file) || !(keys = strstr(text, "\n\n")) || chdir(words[2]) ||
+        sscanf(text, "%4095s", uri) != 1 || !ok(rpki_time_of_seconds(count > 3 ? atoll(words[3]) : time(NULL), &now)) ||
+        !ok(rpki_base64_read((uint8_t *)keys, strlen(keys), RPKI_BASE64_XML, key, sizeof key, &size, &at)))
         return 2;
-    folder = words[2];
-    if (!is_anchor(uri, key, size, &path[0])) return 1;
-    validate_authority(0);
-    return 0;
+    path[0].ip[0].family = RPKI_IPV4, path[0].ip[1].family = RPKI_IPV6, path[0].ip_count = 2, path[0].as_count = 1;
+    memset(path[0].ip[0].high, 0xFF, 4), memset(path[0].ip[1].high, 0xFF, 16), path[0].as[0].high = UINT32_MAX;
+    return !(is_valid(read_uri(), RPKI_CERTIFICATE_TA, &path[1]) &&
+             ok(rpki_anchor_verify(OF(path[1].cert), key, size)) && visit(&path[1]));
 }
