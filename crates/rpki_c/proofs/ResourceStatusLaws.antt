@@ -1,10 +1,7 @@
 -- What the calls on contents of the extensions of resources return.
-use Rattle.std.proofs.Common.{◌≡◌, ◌≤◌, ◌<◌, ◌+◌, inl, inr, ℕ, List, ◌++◌, length, take, drop, Bool, refl, sym, ap, ◌∙◌}
+use Rattle.std.proofs.Common.{◌≡◌, ◌≤◌, ◌<◌, ◌+◌, inl, inr, ℕ, List, ◌++◌, length, take, drop, refl, sym, ap, ◌∙◌}
 use Rattle.std.proofs.Common.{arith, append_assoc, length-append, drop-drop}
 use Rattle.std.proofs.Math.Seq.{take-append_seam, drop-append_seam}
-use Rattle.rpki_der.specs.declared.error.DecodeError.{DecodeError}
-use Rattle.rpki_der.specs.Error.{error_number}
-use Rattle.rpki_der.specs.Reading.{SpellsNothing, UnlessMemory}
 use Rattle.rpki_resources.specs.declared.block.Block.{Block}
 use Rattle.rpki_resources.specs.declared.family.AddressFamily.TheVariants.{Ipv4, Ipv6}
 use Rattle.rpki_resources.specs.declared.choice.ResourcesChoice.{ResourcesChoice}
@@ -15,17 +12,16 @@ use Rattle.rpki_resources.specs.declared.ip_view.IpResourcesView.{IpResourcesVie
 use Rattle.rpki_resources.specs.declared.resources.IpResources.{IpResources}
 use Rattle.rpki_resources.specs.InPlace.{Octets, Holds}
 use Rattle.rpki_resources.specs.Extension.{SpellsIpResources, SpellsAsResources}
-use Rattle.rpki_resources.specs.Kept.{IsChoiceOf, AreIpResourcesOf}
+use Rattle.rpki_resources.specs.declared.resources.AsResources.{AsResources}
+use Rattle.rpki_resources.specs.Kept.{IsChoiceOf, AreIpResourcesOf, SpellsIp, SpellsAs}
 use Rattle.rpki_resources.proofs.KeptLaws.{as_of}
 use Rattle.rpki_c.specs.declared.ip_blocks.IpEntry.{IpEntry}
 use Rattle.rpki_c.specs.declared.as_blocks.AsEntry.{AsEntry}
 use Rattle.rpki_c.specs.Filled.{AreFilled}
 use Rattle.rpki_c.specs.ViewCount.{view_count, IsFilledAt}
-use Rattle.rpki_c.specs.Resources.{IsWholeIpFault, IsWholeAsFault, family_entries, ip_entries, as_entries, IsIpFilled}
-use Rattle.rpki_c.specs.Resources.{IsAsFilled}
-use Rattle.rpki_resources.specs.Compared.{AreIpWithin, HasNoIpAnswer, AreAsWithin, HasNoAsAnswer}
-use Rattle.rpki_c.specs.Encompassing.{IsIpCompared, IsAsCompared}
-use Rattle.rpki_c.proofs.ViewCountLaws.{family-count, as-count, ip-kept, as-kept, ip-spelled, as-spelled}
+use Rattle.rpki_c.specs.Resources.{family_entries, ip_entries, as_entries, IsIpFilled}
+use Rattle.rpki_c.specs.Resources.{IsAsFilled, ip_entry, as_entry, inherited_ip, inherited_as}
+use Rattle.rpki_c.proofs.ViewCountLaws.{choice-count, ip-kept, as-kept, ip-spelled, as-spelled}
 
 -- ---- entries
 
@@ -70,8 +66,8 @@ ip-count v x h =
     omega (
       arith,
       length-append (family_entries Ipv4 v.v4) (family_entries Ipv6 v.v6),
-      family-count Ipv4 v.v4 x.v4 h.0,
-      family-count Ipv6 v.v6 x.v6 h.1,
+      choice-count (inherited_ip Ipv4) (ip_entry Ipv4) v.v4 x.v4 h.0,
+      choice-count (inherited_ip Ipv6) (ip_entry Ipv6) v.v6 x.v6 h.1,
     )
 
 module _ (s : List ℕ) (x : IpResourcesView) (h : SpellsIpResources x s) (old : List IpEntry) (before told n : ℕ)
@@ -102,8 +98,9 @@ module _ (s : List ℕ) (x : IpResourcesView) (h : SpellsIpResources x s) (old :
       let k = ip-kept x s h in
       let es = family_entries Ipv4 k.0.v4 in
       let fs = family_entries Ipv6 k.0.v6 in
-      let four : n ≡ length es = first ∙ sym (family-count Ipv4 k.0.v4 x.v4 k.1.0) in
-      let six : told ≡ n + length fs = omega (arith, all, family-count Ipv6 k.0.v6 x.v6 k.1.1) in
+      let four : n ≡ length es = first ∙ sym (choice-count (inherited_ip Ipv4) (ip_entry Ipv4) k.0.v4 x.v4 k.1.0) in
+      let six : told ≡ n + length fs =
+      omega (arith, all, choice-count (inherited_ip Ipv6) (ip_entry Ipv6) k.0.v6 x.v6 k.1.1) in
       inl (
         k.0,
         ip-spelled x k.0 s h k.1,
@@ -116,7 +113,7 @@ module _ (s : List ℕ) (x : ChoiceView) (h : SpellsAsResources x s) (old : List
   pub as-too-many : length old < told → IsAsFilled s 9 old old before told
   as-too-many short =
       let k = as-kept x s h in
-      let size = as-count k.0 x k.1 in
+      let size = choice-count inherited_as as_entry k.0 x k.1 in
       inl (
         as_of k.0,
         as-spelled x k.0 s h k.1,
@@ -130,7 +127,7 @@ module _ (s : List ℕ) (x : ChoiceView) (h : SpellsAsResources x s) (old : List
         as_of v,
         as-spelled x v s h k,
         inl
-            (refl, first-filled (as_entries v) old new told (all ∙ sym (as-count v x k)) f),
+            (refl, first-filled (as_entries v) old new told (all ∙ sym (choice-count inherited_as as_entry v x k)) f),
       )
 
 -- resources that list blocks
@@ -139,48 +136,10 @@ blocks-kept x Missing h = absurd h
 blocks-kept x Inherit h = absurd h
 blocks-kept x (Blocks bs) h = (bs, h)
 
--- ---- whether the one encompass the other
+-- ---- resources that octets are
 
-module _ (s t : List ℕ) (x : ChoiceView) (h : SpellsAsResources x s) (old : Bool) where
-  pub as-second : (e : DecodeError) (n : ℕ) → n ≡ error_number e
-      → UnlessMemory e (SpellsNothing SpellsAsResources t) × IsWholeAsFault t e → IsAsCompared s t (n + 16) old old
-  as-second e n is k =
-      let v = as-kept x s h in
-      inr (inr (
-        (as_of v.0, as-spelled x v.0 s h v.1),
-        record { first = n; number = refl; refused = record { error = e; number = is; nothing = k.0; kind = k.1 } },
-        refl,
-      ))
+pub kept-as : (x : ChoiceView) (s : List ℕ) → SpellsAsResources x s → (v : AsResources) × SpellsAs v s
+kept-as x s h = let v = as-kept x s h in (as_of v.0, as-spelled x v.0 s h v.1)
 
-  pub as-untold : HasNoAsAnswer s t → (y : ChoiceView) → SpellsAsResources y t → IsAsCompared s t 10 old old
-  as-untold none y i =
-      let v = as-kept x s h in
-      let w = as-kept y t i in
-      let one = as-spelled x v.0 s h v.1 in
-      let two = as-spelled y w.0 t i w.1 in
-      inl (as_of v.0, as_of w.0, one, two, inr (refl, none (as_of v.0) (as_of w.0) one two, refl))
-
-module _ (s t : List ℕ) (x : IpResourcesView) (h : SpellsIpResources x s) (old : Bool) where
-  pub ip-second : (e : DecodeError) (n : ℕ) → n ≡ error_number e
-      → UnlessMemory e (SpellsNothing SpellsIpResources t) × IsWholeIpFault t e → IsIpCompared s t (n + 16) old old
-  ip-second e n is k =
-      let v = ip-kept x s h in
-      inr (inr (
-        (v.0, ip-spelled x v.0 s h v.1),
-        record { first = n; number = refl; refused = record { error = e; number = is; nothing = k.0; kind = k.1 } },
-        refl,
-      ))
-
-  pub ip-untold : HasNoIpAnswer s t → (y : IpResourcesView) → SpellsIpResources y t → IsIpCompared s t 10 old old
-  ip-untold none y i =
-      let v = ip-kept x s h in
-      let w = ip-kept y t i in
-      let one = ip-spelled x v.0 s h v.1 in
-      let two = ip-spelled y w.0 t i w.1 in
-      inl (v.0, w.0, one, two, inr (refl, none v.0 w.0 one two, refl))
-
-pub as-answered : (s t : List ℕ) (old answer : Bool) → AreAsWithin s t answer → IsAsCompared s t 0 old answer
-as-answered s t old answer h = inl (h.0, h.1, h.2, h.3, inl (refl, h.4, h.5))
-
-pub ip-answered : (s t : List ℕ) (old answer : Bool) → AreIpWithin s t answer → IsIpCompared s t 0 old answer
-ip-answered s t old answer h = inl (h.0, h.1, h.2, h.3, inl (refl, h.4))
+pub kept-ip : (x : IpResourcesView) (s : List ℕ) → SpellsIpResources x s → (v : IpResources) × SpellsIp v s
+kept-ip x s h = let v = ip-kept x s h in (v.0, ip-spelled x v.0 s h v.1)

@@ -3,27 +3,23 @@ use Rattle.std.proofs.Common.{◌≡◌, ℕ, Bool, List, [], ◌∷◌, Option,
 use Rattle.std.specs.Prelude.{◌↔◌, IfSome, IsTrue}
 use Rattle.std.specs.Option.{is_some, unwrap_or}
 use Rattle.jiff.specs.Types.{DateTime}
-use Rattle.jiff.specs.Words.{civil_nanos}
-use Rattle.rpki_time.specs.Time.{IsFloorSecond}
 use Rattle.rpki_time.specs.TimeValue.{time}
 use Rattle.rpki_objects.specs.SignedAttributes.{Attribute, AttributeValues, AreSigned, IsAtMostOnce}
 use Rattle.rpki_objects.specs.SignedAttributes.{signing_time, values_of}
 use Rattle.rpki_c.specs.declared.times.Moment.{Moment}
 use Rattle.rpki_c.specs.declared.signed_object.SignedObjectParts.{SignedObjectParts as Parts}
+use Rattle.rpki_c.specs.Time.{IsMoment}
 use Rattle.rpki_c.specs.SignedObject.{IsMomentIf, IsNumberIf, HasValues}
 use Rattle.rpki_c.proofs.MomentLaws.{moment}
 
 -- ---- times
 
 pub moment-once : (t : Option DateTime) (cs : List (List ℕ)) → IsAtMostOnce time cs t → (m : Moment)
-    → IfSome t (λ u. IsFloorSecond (civil_nanos u) m.seconds)
-    → IfSome t (λ u. (m.year ≡ u.date.year) × (m.month ≡ u.date.month) × (m.day ≡ u.date.day))
-    → IfSome t (λ u. (m.hour ≡ u.time.hour) × (m.minute ≡ u.time.minute) × (m.second ≡ u.time.second))
-    → IsMomentIf t (is_some t) m
-moment-once None cs h m since date clock = refl
-moment-once (Some t) [] h m since date clock = absurd h
-moment-once (Some t) (c ∷ []) h m since date clock = (refl, moment c t m h since date clock)
-moment-once (Some t) (c ∷ d ∷ ds) h m since date clock = absurd h
+    → IfSome t (λ u. u.time.subsec_nanosecond ≡ 0 → IsMoment u m) → IsMomentIf t (is_some t) m
+moment-once None cs h m is = refl
+moment-once (Some t) [] h m is = absurd h
+moment-once (Some t) (c ∷ []) h m is = (refl, moment is refl h)
+moment-once (Some t) (c ∷ d ∷ ds) h m is = absurd h
 
 pub number-if : (o : Option ℕ) → IsNumberIf o (is_some o) (unwrap_or o 0)
 number-if None = (refl, refl)
@@ -35,19 +31,15 @@ module _ (strict : Bool) (xs : List Attribute) (u w : AttributeValues) (same : u
   says = subst (λ (v : AttributeValues). AreSigned strict xs v) (sym same) say
 
   pub values-told : p.message_digest ≡ u.message_digest → p.has_signing_time ≡ is_some u.signing_time
-      → IfSome u.signing_time (λ t. IsFloorSecond (civil_nanos t) p.signing_time.seconds)
-      → IfSome u.signing_time (λ t. (p.signing_time.year ≡ t.date.year) × (p.signing_time.month ≡ t.date.month)
-      × (p.signing_time.day ≡ t.date.day))
-      → IfSome u.signing_time (λ t. (p.signing_time.hour ≡ t.time.hour) × (p.signing_time.minute ≡ t.time.minute)
-      × (p.signing_time.second ≡ t.time.second))
+      → IfSome u.signing_time (λ t. t.time.subsec_nanosecond ≡ 0 → IsMoment t p.signing_time)
       → p.has_binary_signing_time ≡ is_some u.binary_signing_time
       → p.binary_signing_time ≡ unwrap_or u.binary_signing_time 0 → HasValues w p
-  values-told digest has since date clock binary number =
+  values-told digest has is binary number =
       subst (λ (v : AttributeValues). HasValues v p) same (record {
         message_digest = digest;
         signing_time =
             subst (λ (b : Bool). IsMomentIf u.signing_time b p.signing_time) (sym has)
-            (moment-once u.signing_time (values_of signing_time xs) says.signing_time p.signing_time since date clock);
+            (moment-once u.signing_time (values_of signing_time xs) says.signing_time p.signing_time is);
         binary_signing_time =
             subst (λ (b : Bool). IsNumberIf u.binary_signing_time b p.binary_signing_time) (sym binary)
             (subst (λ (n : ℕ). IsNumberIf u.binary_signing_time (is_some u.binary_signing_time) n) (sym number)

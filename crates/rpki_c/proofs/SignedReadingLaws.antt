@@ -1,15 +1,14 @@
 -- Reading the parts of signed data in place.
-use Rattle.std.proofs.Common.{◌≡◌, ◌∙◌, ◌-◌, ◌++◌, ℕ, Bool, true, false, List, [], length, take, refl, sym, ap, subst}
+use Rattle.std.proofs.Common.{◌≡◌, ◌∙◌, ◌-◌, ◌++◌, ℕ, Bool, true, List, [], length, take, refl, sym, ap, subst}
 use Rattle.std.proofs.Common.{arith, append-nil, append_assoc, length-append}
 use Rattle.std.proofs.Math.Seq.{take-append_seam}
 use Rattle.rpki_der.specs.declared.error.DecodeError.{DecodeError}
 use Rattle.rpki_der.specs.declared.error.DecodeError.TheVariants.{Truncated, BadTag, BadLength, Unexpected, Content}
 use Rattle.rpki_der.specs.declared.error.DecodeError.TheVariants.{Trailing, OutOfMemory}
 use Rattle.rpki_der.specs.declared.tag.Header.{Header}
-use Rattle.rpki_der.specs.TagName.{sequence, bit_string}
-use Rattle.rpki_der.specs.Reading.{Spells, Accepts, Refuses, Refusal, UnlessMemory, SpellsNothing}
+use Rattle.rpki_der.specs.TagName.{sequence}
+use Rattle.rpki_der.specs.Reading.{Spells, Accepts, Refusal, UnlessMemory, SpellsNothing}
 use Rattle.rpki_der.specs.Values.{SpellsContents, IsContentsFault, IsValueFault}
-use Rattle.rpki_der.specs.Leaves.{Bits, IsBits, bits_of}
 use Rattle.rpki_der.specs.FirstFault.FirstFault.{AtPart, Later}
 use Rattle.rpki_der.proofs.ComposedLaws.{outer-refused, inner-refused}
 use Rattle.rpki.specs.Oids.{sha256_with_rsa_encryption}
@@ -30,23 +29,6 @@ value-no-memory W Cut s Unexpected h z = cc
 value-no-memory W Cut s (Content x) h z = h
 value-no-memory W Cut s Trailing h z = h
 value-no-memory W Cut s OutOfMemory h z = h
-
--- ---- a signature, of the contents of a bit string
-
-contents-of : (s v r : List ℕ) → (h : Spells SpellsSignature s v r)
-    → Spells (SpellsContents bit_string false) s h.spelled.string.contents r
-contents-of s v r h = record { front = h.front; parts = h.parts; spelled = h.spelled.string.value }
-
-pub no-bits : (s : List ℕ) → Refuses (SpellsContents bit_string false) s → Refuses SpellsSignature s
-no-bits s none v r h = none h.spelled.string.contents r (contents-of s v r h)
-
--- the contents are none of a bit string
-pub bad-bits : (s c q : List ℕ) → Accepts (SpellsContents bit_string false) s c q → ((b : Bits) → IsBits b c → ⊥)
-    → Refuses SpellsSignature s
-bad-bits s c q a none v r h =
-    let e = a.only h.spelled.string.contents r (contents-of s v r h) in
-    let b = bits_of h.spelled.unused v in
-    none b (subst (λ (d : List ℕ). IsBits b d) e.0 h.spelled.string.spelled)
 
 -- ---- signed data, over the reader of its contents
 

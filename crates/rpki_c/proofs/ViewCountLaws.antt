@@ -30,33 +30,29 @@ use Rattle.rpki_resources.specs.Kept.{IsChoiceOf, AreIpResourcesOf, SpellsIp, Sp
 use Rattle.rpki_resources.proofs.FollowLaws.{block-some, blocks-following}
 use Rattle.rpki_resources.proofs.KeptLaws.{ip_of, as_of}
 use Rattle.rpki_resources.proofs.WritableLaws.{as-writable}
-use Rattle.rpki_c.specs.Resources.{family_entries, as_entries, ip_entry, as_entry, inherited_ip, inherited_as}
+use Rattle.rpki_c.specs.Resources.{choice_entries}
 use Rattle.rpki_c.specs.ViewCount.{view_count, IsFilledAt}
 
 -- ---- as many entries as are counted
 
-pub family-count : (family : AddressFamily) (v : ResourcesChoice) (x : ChoiceView) → IsChoiceOf v x
-    → length (family_entries family v) ≡ view_count x
-family-count family Missing NoneThere h = refl
-family-count family Missing InheritThere h = absurd h
-family-count family Missing (BlocksThere x) h = absurd h
-family-count family Inherit NoneThere h = absurd h
-family-count family Inherit InheritThere h = refl
-family-count family Inherit (BlocksThere x) h = absurd h
-family-count family (Blocks bs) NoneThere h = absurd h
-family-count family (Blocks bs) InheritThere h = absurd h
-family-count family (Blocks bs) (BlocksThere x) h = length-map bs (ip_entry family) ∙ h.count
+module _ {E : Type 0} (one : E) (p : Block → E) where
+  pub choice-count : (v : ResourcesChoice) (x : ChoiceView) → IsChoiceOf v x
+      → length (choice_entries one p v) ≡ view_count x
+  choice-count Missing NoneThere h = refl
+  choice-count Missing InheritThere h = absurd h
+  choice-count Missing (BlocksThere x) h = absurd h
+  choice-count Inherit NoneThere h = absurd h
+  choice-count Inherit InheritThere h = refl
+  choice-count Inherit (BlocksThere x) h = absurd h
+  choice-count (Blocks bs) NoneThere h = absurd h
+  choice-count (Blocks bs) InheritThere h = absurd h
+  choice-count (Blocks bs) (BlocksThere x) h = length-map bs p ∙ h.count
 
-pub as-count : (v : ResourcesChoice) (x : ChoiceView) → IsChoiceOf v x → length (as_entries v) ≡ view_count x
-as-count Missing NoneThere h = refl
-as-count Missing InheritThere h = absurd h
-as-count Missing (BlocksThere x) h = absurd h
-as-count Inherit NoneThere h = absurd h
-as-count Inherit InheritThere h = refl
-as-count Inherit (BlocksThere x) h = absurd h
-as-count (Blocks bs) NoneThere h = absurd h
-as-count (Blocks bs) InheritThere h = absurd h
-as-count (Blocks bs) (BlocksThere x) h = length-map bs as_entry ∙ h.count
+  -- one entry says whose resources are
+  pub inherited-entries : (v : ResourcesChoice) → IsChoiceOf v InheritThere → choice_entries one p v ≡ one ∷ []
+  inherited-entries Missing h = absurd h
+  inherited-entries Inherit h = refl
+  inherited-entries (Blocks bs) h = absurd h
 
 -- ---- resources that say the same
 
@@ -174,18 +170,7 @@ ip-few x s h =
     let few = families-few x h.contents h.spelled in
     omega (arith, few, ap length h.value.octets, tlv-at-least sequence true h.contents)
 
--- ---- one entry that says whose resources are
-
-pub inherited-entries : (family : AddressFamily) (v : ResourcesChoice) → IsChoiceOf v InheritThere
-    → family_entries family v ≡ inherited_ip family ∷ []
-inherited-entries family Missing h = absurd h
-inherited-entries family Inherit h = refl
-inherited-entries family (Blocks bs) h = absurd h
-
-pub inherited-as : (v : ResourcesChoice) → IsChoiceOf v InheritThere → as_entries v ≡ inherited_as ∷ []
-inherited-as Missing h = absurd h
-inherited-as Inherit h = refl
-inherited-as (Blocks bs) h = absurd h
+-- ---- one entry
 
 pub one-filled : {E : Type 0} (from : ℕ) (e : E) (old : List E) → from + 1 ≤ length old
     → IsFilledAt from (e ∷ []) old (set old from e)

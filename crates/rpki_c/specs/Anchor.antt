@@ -1,13 +1,9 @@
 -- What a status says of the certificate of a trust anchor, beside the key of its locator (RFC 8630 3).
 use Rattle.std.specs.Prelude.{◌≡◌, ◌≢◌, ◌⊎◌, ℕ, List}
-use Rattle.rpki_cert.specs.declared.read.cert_part.CertPart.{CertPart}
-use Rattle.rpki_cert.specs.declared.extension.known_part.KnownPart.{KnownPart}
 use Rattle.rpki_cert.specs.declared.extension.known_view.KnownView.{KnownView}
 use Rattle.rpki_cert.specs.Cert.{CertParts, SpellsCert}
-use Rattle.rpki_cert.specs.KnownView.{AreKnown, IsFirstWrong}
-use Rattle.rpki_cert.specs.View.{IsCertWrong}
-use Rattle.rpki_c.specs.Certificate.{part_number}
-use Rattle.rpki_c.specs.CertificateExtensions.{known_number}
+use Rattle.rpki_cert.specs.KnownView.{AreKnown}
+use Rattle.rpki_c.specs.KnownCert.{IsUnknown}
 use Rattle.rpki_c.specs.SignedBy.{NamesOwnKey}
 use Rattle.rpki_c.specs.Status.{other_anchor, other_key}
 use Rattle.rpki_c.specs.Verified.{IsVerifiedBy}
@@ -24,11 +20,9 @@ IsAnchorTold x s h known key status =
     ⊎ ((status ≡ other_key) × (key ≡ key_octets x s h) × (NamesOwnKey x known → ⊥))
     ⊎ ((key ≡ key_octets x s h) × NamesOwnKey x known × IsVerifiedBy x.tbs.key x.signed.signed x.signed.value status)
 
--- 64 to 79: this part is wrong. 80 to 84: it is a certificate, of which the extension of this number, and none before
--- it, is malformed or not as critical as it has to be. Else it is read.
+-- 64 to 84: it isn't read. Else it is.
 abbrev pub IsAnchorRead : List ℕ → List ℕ → ℕ → Type 0
 IsAnchorRead s key status =
-    ((q : CertPart) × (status ≡ part_number q) × IsCertWrong s q)
-    ⊎ ((q : KnownPart) × (x : CertParts) × (status ≡ known_number q) × SpellsCert x s × IsFirstWrong x.tbs.extensions q)
+    IsUnknown s status
     ⊎ ((x : CertParts) × (h : SpellsCert x s) × (known : KnownView) × AreKnown x.tbs.extensions known
     × IsAnchorTold x s h known key status)

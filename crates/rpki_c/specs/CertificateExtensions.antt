@@ -1,11 +1,6 @@
 -- What a status says of the extensions of a certificate.
 use Rattle.std.specs.Prelude.{◌≡◌, ◌⊎◌, ℕ, true, false, List, [], Option, Some, None, replicate}
 use Rattle.rpki.specs.ExtensionValue.{ExtensionParts}
-use Rattle.rpki_cert.specs.declared.read.cert_part.CertPart.{CertPart}
-use Rattle.rpki_cert.specs.declared.extension.known_part.KnownPart.{KnownPart}
-use Rattle.rpki_cert.specs.declared.extension.known_part.KnownPart.TheVariants.{BasicConstraints, SubjectKeyIdentifier}
-use Rattle.rpki_cert.specs.declared.extension.known_part.KnownPart.TheVariants.{AuthorityKeyIdentifier, KeyUsage}
-use Rattle.rpki_cert.specs.declared.extension.known_part.KnownPart.TheVariants.{CertificatePolicies}
 use Rattle.rpki_cert.specs.declared.extension.known_view.KnownView.{KnownView}
 use Rattle.rpki_cert.specs.declared.extension.key_usage.KeyUsage.{KeyUsage as Usage}
 use Rattle.rpki_cert.specs.declared.extension.key_usage.KeyUsage.TheVariants.{Ca, Ee}
@@ -16,19 +11,11 @@ use Rattle.rpki_cert.specs.Known.{subject_key_identifier, key_usage, basic_const
 use Rattle.rpki_cert.specs.Known.{certificate_policies, authority_key_identifier, extended_key_usage}
 use Rattle.rpki_cert.specs.Known.{authority_info_access, subject_info_access, ip_addr_blocks, ip_addr_blocks_v2}
 use Rattle.rpki_cert.specs.Known.{autonomous_sys_ids, autonomous_sys_ids_v2}
-use Rattle.rpki_cert.specs.KnownView.{AreKnown, IsFirstWrong}
-use Rattle.rpki_cert.specs.View.{IsCertWrong}
+use Rattle.rpki_cert.specs.KnownView.{AreKnown}
 use Rattle.rpki_c.specs.declared.certificate_extensions.KnownExtension.{KnownExtension}
 use Rattle.rpki_c.specs.declared.certificate_extensions.KnownExtensions.{KnownExtensions as Extensions}
-use Rattle.rpki_c.specs.Certificate.{part_number}
-
--- the status of a certificate that has this extension, which is malformed, or not as critical as it has to be
-abbrev pub known_number : KnownPart → ℕ
-known_number BasicConstraints = 80
-known_number SubjectKeyIdentifier = 81
-known_number AuthorityKeyIdentifier = 82
-known_number KeyUsage = 83
-known_number CertificatePolicies = 84
+use Rattle.rpki_c.specs.KnownCert.{IsUnknown}
+pub use Rattle.rpki_c.specs.KnownCert.{known_number}
 
 -- how the use of a key is passed, and that there is none
 abbrev pub usage_number : Option Usage → ℕ
@@ -81,12 +68,7 @@ pub record HasExtensions (s : List ℕ) (p : Extensions) : Type 0 where
   pub subject_key : IsIdentifierOf said.subject_key_identifier p.subject_key
   pub authority_key : IsIdentifierOf said.authority_key_identifier p.authority_key
 
--- Status 0: the octets are a certificate of these extensions. 80 to 84: they are a certificate, of which the extension
--- of this number, and none before it, is malformed or not as critical as it has to be. Else the number of the part that
--- is wrong. Nothing is written where the status is not 0.
+-- Status 0: the octets are a certificate of these extensions. Else it isn't read, and nothing is written.
 abbrev pub AreExtensionsRead : List ℕ → ℕ → Extensions → Extensions → Type 0
 AreExtensionsRead s status old new =
-    ((status ≡ 0) × HasExtensions s new)
-    ⊎ ((q : KnownPart) × (cert : CertParts) × (status ≡ known_number q) × SpellsCert cert s
-    × IsFirstWrong cert.tbs.extensions q × (new ≡ old))
-    ⊎ ((q : CertPart) × (status ≡ part_number q) × IsCertWrong s q × (new ≡ old))
+    ((status ≡ 0) × HasExtensions s new) ⊎ (IsUnknown s status × (new ≡ old))

@@ -7,22 +7,16 @@ use Rattle.rpki_resources.specs.declared.ip_view.IpResourcesView.{IpResourcesVie
 use Rattle.rpki_resources.specs.declared.resources.IpResources.{IpResources}
 use Rattle.rpki_resources.specs.Extension.{SpellsIpResources, SpellsAsResources}
 use Rattle.rpki_resources.specs.Kept.{IsChoiceOf, AreIpResourcesOf}
-use Rattle.rpki_cert.specs.declared.read.cert_part.CertPart.{CertPart}
-use Rattle.rpki_cert.specs.declared.extension.known_part.KnownPart.{KnownPart}
 use Rattle.rpki_cert.specs.declared.extension.known_view.KnownView.{KnownView}
 use Rattle.rpki_cert.specs.declared.extension.policy.Overclaim.{Overclaim}
-use Rattle.rpki_cert.specs.Cert.{CertParts, SpellsCert}
+use Rattle.rpki_cert.specs.Cert.{CertParts}
 use Rattle.rpki_cert.specs.Known.{Says, SaysNone}
-use Rattle.rpki_cert.specs.KnownView.{IsFirstWrong}
 use Rattle.rpki_cert.specs.ResourceExtensions.{addresses_of, numbers_of}
-use Rattle.rpki_cert.specs.View.{IsCertWrong}
 use Rattle.rpki_c.specs.declared.ip_blocks.IpEntry.{IpEntry}
 use Rattle.rpki_c.specs.declared.as_blocks.AsEntry.{AsEntry}
-use Rattle.rpki_c.specs.Certificate.{part_number}
-use Rattle.rpki_c.specs.CertificateExtensions.{known_number}
 use Rattle.rpki_c.specs.Filled.{IsUnfilled}
 use Rattle.rpki_c.specs.Held.{are_untold, are_as_untold}
-use Rattle.rpki_c.specs.Issued.{IsRead}
+use Rattle.rpki_c.specs.KnownCert.{IsRead, IsUnknown}
 use Rattle.rpki_c.specs.Settling.{AreSettledUnder, AreAsSettledUnder}
 use Rattle.rpki_c.specs.Status.{no_answer, no_policies, wrong_resources}
 
@@ -51,12 +45,10 @@ pub record ClaimsNumbers (x : CertParts) (claim : ResourcesChoice) : Type 0 wher
 
 -- ---- why there is nothing to settle
 
--- 64 to 79: this part is wrong. 80 to 84: it is a certificate, of which the extension of this number, and none before
--- it, is malformed or not as critical as it has to be. 108: it has no policies.
+-- 64 to 84: the certificate isn't read. 108: it has no policies.
 abbrev pub HasNoPolicy : List ℕ → ℕ → Type 0
 HasNoPolicy s status =
-    ((q : CertPart) × (status ≡ part_number q) × IsCertWrong s q)
-    ⊎ ((q : KnownPart) × (x : CertParts) × (status ≡ known_number q) × SpellsCert x s × IsFirstWrong x.tbs.extensions q)
+    IsUnknown s status
     ⊎ ((x : CertParts) × (known : KnownView) × (status ≡ no_policies) × IsRead s x known × (known.overclaim ≡ None))
 
 -- the octets are a certificate of this policy (RFC 6487 4.8.9, RFC 8360 4.2.1)

@@ -3,6 +3,7 @@ pub mod Status
 pub mod Place
 pub mod Uri
 pub mod Stored
+pub mod ByParts
 pub mod RsyncPlaces
 pub mod Whole
 pub mod Span
@@ -28,6 +29,7 @@ pub mod Signed
 pub mod MadeSigned
 pub mod Extension
 pub mod Certificate
+pub mod KnownCert
 pub mod CertificateExtensions
 pub mod CertificateExtension
 pub mod CertificateInspection

@@ -25,6 +25,12 @@ IsWholeIpFault = NeverMemory SpellsIpResources IsIpResourcesFault
 abbrev pub IsWholeAsFault : List ℕ → DecodeError → Type 0
 IsWholeAsFault = NeverMemory SpellsAsResources IsAsResourcesFault
 
+-- how resources of one kind are passed: an entry for each block, or one that says that they are the issuer's
+abbrev pub choice_entries : {E : Type 0} → E → (Block → E) → ResourcesChoice → List E
+choice_entries inherited entry Missing = []
+choice_entries inherited entry Inherit = inherited ∷ []
+choice_entries inherited entry (Blocks bs) = map entry bs
+
 -- ---- addresses
 
 -- how a family is passed: as its version of IP
@@ -57,9 +63,7 @@ inherited_ip family = record {
 
 -- how the addresses of a family are passed
 abbrev pub family_entries : AddressFamily → ResourcesChoice → List IpEntry
-family_entries family Missing = []
-family_entries family Inherit = inherited_ip family ∷ []
-family_entries family (Blocks bs) = map (ip_entry family) bs
+family_entries family = choice_entries (inherited_ip family) (ip_entry family)
 
 -- how addresses are passed: those of IP version 4 first
 abbrev pub ip_entries : IpResources → List IpEntry
@@ -84,9 +88,7 @@ inherited_as = record { low = 0; high = 0; is_inherited = true }
 
 -- how AS numbers are passed
 abbrev pub as_entries : ResourcesChoice → List AsEntry
-as_entries Missing = []
-as_entries Inherit = inherited_as ∷ []
-as_entries (Blocks bs) = map as_entry bs
+as_entries = choice_entries inherited_as as_entry
 
 -- the same as IsIpFilled, of AS numbers
 abbrev pub IsAsFilled : List ℕ → ℕ → List AsEntry → List AsEntry → ℕ → ℕ → Type 0

@@ -5,9 +5,8 @@ ghost use Rattle.rpki_cert.specs.Cert.{CertParts};
 ghost use Rattle.rpki_cert.specs.View.{IsCertAt};
 ghost use Rattle.rpki_c.specs.Anchor.{key_octets, IsAnchorRead};
 
-use crate::certificate::part_number;
-use crate::certificate_extensions::known_number;
 use crate::issued::{is_identifier, key_of};
+use crate::known_cert::known_cert;
 use crate::status::{OTHER_ANCHOR, OTHER_KEY};
 use crate::verification::verified;
 use rpki_cert::CertView;
@@ -31,20 +30,20 @@ fn has_key(found: &CertView<'_>, key: &[u8]) -> bool
 pub extern "C" fn rpki_anchor_verify(octets: &[u8], key: &[u8]) -> u8
     ensures { IsAnchorRead octets.now key.now result }
 {
-    let found = match CertView::read(octets) {
+    let found = match known_cert(octets) {
         Ok(found) => found,
-        Err(wrong) => return part_number(wrong.part),
+        Err(status) => return status,
     };
-    let known = match found.tbs.named.keyed.known() {
-        Ok(known) => known,
-        Err(part) => return known_number(part),
-    };
-    if !has_key(&found, key) {
+    if !has_key(&found.cert, key) {
         return OTHER_ANCHOR;
     }
-    if !is_identifier(known.subject_key_identifier, key_of(&found)) {
+    if !is_identifier(found.known.subject_key_identifier, key_of(&found.cert)) {
         return OTHER_KEY;
     }
-    let own = &found.tbs.named.keyed.key;
-    verified(own, found.parts.data.octets, found.parts.signature.octets)
+    let cert = &found.cert;
+    verified(
+        &cert.tbs.named.keyed.key,
+        cert.parts.data.octets,
+        cert.parts.signature.octets,
+    )
 }

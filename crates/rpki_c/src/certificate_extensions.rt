@@ -8,7 +8,7 @@ ghost use Rattle.rpki_cert.specs.KnownView.{AreKnown};
 ghost use Rattle.rpki_c.specs.CertificateExtensions.{known_number, usage_number, policy_number, IsIdentifierOf};
 ghost use Rattle.rpki_c.specs.CertificateExtensions.{IsFoundAs, HasExtensions, AreExtensionsRead};
 
-use crate::certificate::part_number;
+use crate::known_cert::known_cert;
 use crate::span::Span;
 use rpki::crypto::KeyIdentifier;
 use rpki_cert::{CertView, ExtensionKind, KeyUsage, KnownPart, KnownView, Overclaim};
@@ -176,15 +176,11 @@ pub extern "C" fn rpki_certificate_extensions<'a>(
 ) -> u8
     ensures { AreExtensionsRead octets.now result out.old out.new }
 {
-    let found = match CertView::read(octets) {
-        Ok(found) => found,
-        Err(wrong) => return part_number(wrong.part),
-    };
-    match found.tbs.named.keyed.known() {
-        Ok(known) => {
-            *out = extensions_of(octets, &found, known);
+    match known_cert(octets) {
+        Ok(found) => {
+            *out = extensions_of(octets, &found.cert, found.known);
             0
         }
-        Err(part) => known_number(part),
+        Err(status) => status,
     }
 }

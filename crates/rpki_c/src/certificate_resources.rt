@@ -4,13 +4,11 @@ ghost use Rattle.std.specs.Prelude.{◌≡◌};
 ghost use Rattle.rpki_c.specs.CertificateResources.{claimed_addresses, claimed_numbers, IsIpSettled, IsAsSettled};
 
 use crate::as_blocks::AsEntry;
-use crate::certificate::part_number;
-use crate::certificate_extensions::known_number;
 use crate::held::{are_as_untold, are_untold};
 use crate::ip_blocks::IpEntry;
+use crate::known_cert::known_cert;
 use crate::settling::{settle_addresses, settle_numbers};
 use crate::status::{NO_ANSWER, NO_POLICIES, WRONG_RESOURCES};
-use rpki_cert::CertView;
 use rpki_resources::{ChoiceView, IpResourcesView};
 use std::alloc::Global;
 
@@ -62,19 +60,15 @@ pub extern "C" fn rpki_ip_settle(
     if are_untold(issuer) {
         return NO_ANSWER;
     }
-    let found = match CertView::read(octets) {
+    let found = match known_cert(octets) {
         Ok(found) => found,
-        Err(wrong) => return part_number(wrong.part),
+        Err(status) => return status,
     };
-    let known = match found.tbs.named.keyed.known() {
-        Ok(known) => known,
-        Err(part) => return known_number(part),
-    };
-    let policy = match known.overclaim {
+    let policy = match found.known.overclaim {
         Some(policy) => policy,
         None => return NO_POLICIES,
     };
-    match found.tbs.named.keyed.ip_resources() {
+    match found.cert.tbs.named.keyed.ip_resources() {
         Ok(said) => settle_addresses(
             alloc,
             policy,
@@ -101,19 +95,15 @@ pub extern "C" fn rpki_as_settle(
     if are_as_untold(issuer) {
         return NO_ANSWER;
     }
-    let found = match CertView::read(octets) {
+    let found = match known_cert(octets) {
         Ok(found) => found,
-        Err(wrong) => return part_number(wrong.part),
+        Err(status) => return status,
     };
-    let known = match found.tbs.named.keyed.known() {
-        Ok(known) => known,
-        Err(part) => return known_number(part),
-    };
-    let policy = match known.overclaim {
+    let policy = match found.known.overclaim {
         Some(policy) => policy,
         None => return NO_POLICIES,
     };
-    match found.tbs.named.keyed.as_resources() {
+    match found.cert.tbs.named.keyed.as_resources() {
         Ok(said) => settle_numbers(
             alloc,
             policy,

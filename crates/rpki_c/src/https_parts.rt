@@ -1,10 +1,11 @@
 //! Https URIs that were read before: a text, and where its parts stand. No text is read again.
 
 ghost use Rattle.std.specs.Prelude.{◌≡◌, ◌↔◌, IsTrue, length, IfSome, IfNone};
-ghost use Rattle.rpki_text.specs.HttpsText.{https_uri_of, same_https};
+ghost use Rattle.rpki_text.specs.HttpsText.{https_uri_of, same_https, https_parent_of, https_joined};
+ghost use Rattle.rpki_text.specs.HttpsText.{https_join_refusal, https_into_dir};
 ghost use Rattle.rpki_text.specs.Cuts.{https_cut_text, IsOwnHttps};
-ghost use Rattle.rpki_c.specs.HttpsPlaces.{AreHttpsParts, AreHttpsLaidOut, IsToldByHttpsParts, IsHttpsCanonicalByParts};
-ghost use Rattle.rpki_c.specs.HttpsPlaces.{IsHttpsParentByParts, IsHttpsJoinedByParts, IsHttpsDirByParts};
+ghost use Rattle.rpki_c.specs.ByParts.{IsToldByParts, IsStoredByParts, IsMadeByParts, IsJoinedByParts, IsParentByParts};
+ghost use Rattle.rpki_c.specs.HttpsPlaces.{AreHttpsParts, AreHttpsLaidOut, https_places, https_canonical_of};
 
 use crate::https::HttpsParts;
 use crate::rsync::uri_fault;
@@ -51,7 +52,7 @@ pub extern "C" fn rpki_https_parts_equal(
     other_parts: &HttpsParts,
     out: &mut bool,
 ) -> u8
-    ensures { IsToldByHttpsParts uri.now parts.now other.now other_parts.now result out.old out.new
+    ensures { IsToldByParts https_places uri.now parts.now other.now other_parts.now result out.old out.new
         (same_https (https_uri_of uri.now) (https_uri_of other.now)) }
 {
     let Some(u) = cut(uri, parts) else {
@@ -77,7 +78,8 @@ pub extern "C" fn rpki_https_parts_canonical(
     out: &mut [u8],
     written: &mut usize,
 ) -> u8
-    ensures { IsHttpsCanonicalByParts text.now parts.now result out.old out.new written.old written.new }
+    ensures { IsStoredByParts https_places text.now parts.now (https_canonical_of text.now)
+        result out.old out.new written.old written.new }
 {
     if !are_laid_out(text.len(), parts) {
         return OTHER_PARTS;
@@ -92,7 +94,7 @@ pub extern "C" fn rpki_https_parts_canonical(
 /// text are. Unless it is 0, nothing is written.
 #[unsafe(no_mangle)]
 pub extern "C" fn rpki_https_parts_parent(text: &[u8], parts: &HttpsParts, out: &mut usize) -> u8
-    ensures { IsHttpsParentByParts text.now parts.now result out.old out.new }
+    ensures { IsParentByParts https_places text.now parts.now (https_parent_of text.now) result out.old out.new }
 {
     let Some(uri) = cut(text, parts) else {
         return OTHER_PARTS;
@@ -118,7 +120,8 @@ pub extern "C" fn rpki_https_parts_join(
     out: &mut [u8],
     written: &mut usize,
 ) -> u8
-    ensures { IsHttpsJoinedByParts base.now parts.now path.now result out.old out.new written.old written.new }
+    ensures { IsJoinedByParts https_places base.now parts.now (https_join_refusal path.now)
+        (https_joined base.now path.now) result out.old out.new written.old written.new }
 {
     let Some(uri) = cut(base, parts) else {
         return OTHER_PARTS;
@@ -140,7 +143,8 @@ pub extern "C" fn rpki_https_parts_into_dir(
     out: &mut [u8],
     written: &mut usize,
 ) -> u8
-    ensures { IsHttpsDirByParts text.now parts.now result out.old out.new written.old written.new }
+    ensures { IsMadeByParts https_places text.now parts.now (https_into_dir text.now)
+        result out.old out.new written.old written.new }
 {
     let Some(uri) = cut(text, parts) else {
         return OTHER_PARTS;

@@ -5,10 +5,10 @@ ghost use Rattle.std.specs.Prelude.{Option};
 ghost use Rattle.sha1.specs.Sha1.{sha1};
 ghost use Rattle.rpki_cert.specs.Cert.{CertParts};
 ghost use Rattle.rpki_cert.specs.View.{IsCertAt};
-ghost use Rattle.rpki_c.specs.Issued.{IsIssuerRead};
+ghost use Rattle.rpki_c.specs.KnownCert.{IsKnownAt};
+ghost use Rattle.rpki_c.specs.Issued.{AreNamesTold, IsIssuedRead, IsIssuerRead};
 
-use crate::certificate::part_number;
-use crate::certificate_extensions::known_number;
+use crate::known_cert::{KnownCert, known_cert};
 use crate::status::{NO_ISSUER, OTHER_AUTHORITY, OTHER_ISSUER};
 use rpki::crypto::KeyIdentifier;
 use rpki_cert::CertView;
@@ -39,6 +39,52 @@ pub(crate) fn key_of(issuer: &CertView<'_>) -> KeyIdentifier
     issuer.tbs.named.keyed.key.key_identifier(&Digests)
 }
 
+/// A certificate that another may have issued, and the other.
+#[derive(Drop)]
+pub(crate) struct IssuedCert<'a> {
+    /// The first.
+    pub(crate) subject: KnownCert<'a>,
+    /// The other.
+    pub(crate) issuer: CertView<'a>,
+}
+
+/// Whether the second may have issued the first, by their names and keys: 0, `OTHER_ISSUER` or `OTHER_AUTHORITY`.
+fn names_told(subject: &KnownCert<'_>, issuer: &CertView<'_>) -> u8
+    ensures { (s t : List ℕ) (x y : CertParts) → IsKnownAt s subject.now x → IsCertAt t issuer.now y
+        → AreNamesTold x y subject.now.known result }
+{
+    if !is_named(&subject.cert, issuer) {
+        return OTHER_ISSUER;
+    }
+    if !is_identifier(subject.known.authority_key_identifier, key_of(issuer)) {
+        return OTHER_AUTHORITY;
+    }
+    0
+}
+
+/// Both certificates, where the second may have issued the first. The error is as the status of
+/// [rpki_certificate_issued_by].
+pub(crate) fn read_issued<'a>(octets: &'a [u8], issuer: &'a [u8]) -> Result<IssuedCert<'a>, u8>
+    ensures { IsIssuedRead octets.now issuer.now result }
+{
+    let subject = match known_cert(octets) {
+        Ok(subject) => subject,
+        Err(status) => return Err(status),
+    };
+    let authority = match CertView::read(issuer) {
+        Ok(authority) => authority,
+        Err(_) => return Err(NO_ISSUER),
+    };
+    let status = names_told(&subject, &authority);
+    if status != 0 {
+        return Err(status);
+    }
+    Ok(IssuedCert {
+        subject,
+        issuer: authority,
+    })
+}
+
 /// Reads two resource certificates, and says whether the second may have issued the first (RFC 5280 6.1.3, RFC 6487
 /// 4.8.3): whether the issuer of the first has the name of the second's subject, octet for octet, and the authority key
 /// identifier of the first is that of the second's key. Whether that key has signed the first is not looked at.
@@ -50,23 +96,8 @@ pub(crate) fn key_of(issuer: &CertView<'_>) -> KeyIdentifier
 pub extern "C" fn rpki_certificate_issued_by(octets: &[u8], issuer: &[u8]) -> u8
     ensures { IsIssuerRead octets.now issuer.now result }
 {
-    let found = match CertView::read(octets) {
-        Ok(found) => found,
-        Err(wrong) => return part_number(wrong.part),
-    };
-    let known = match found.tbs.named.keyed.known() {
-        Ok(known) => known,
-        Err(part) => return known_number(part),
-    };
-    let authority = match CertView::read(issuer) {
-        Ok(authority) => authority,
-        Err(_) => return NO_ISSUER,
-    };
-    if !is_named(&found, &authority) {
-        return OTHER_ISSUER;
+    match read_issued(octets, issuer) {
+        Ok(_) => 0,
+        Err(status) => status,
     }
-    if !is_identifier(known.authority_key_identifier, key_of(&authority)) {
-        return OTHER_AUTHORITY;
-    }
-    0
 }

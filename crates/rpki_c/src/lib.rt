@@ -38,6 +38,7 @@ mod ip_blocks;
 mod issued;
 mod key_writing;
 mod keys;
+mod known_cert;
 mod line;
 mod list_issued;
 mod manifest;

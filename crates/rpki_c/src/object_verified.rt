@@ -1,19 +1,19 @@
 //! Signed objects that the key of their certificate has signed.
 
-ghost use Rattle.std.specs.Prelude.{◌≡◌};
+ghost use Rattle.std.specs.Prelude.{◌≡◌, ◌↔◌, ℕ, Bool, List, IsTrue, Option};
 ghost use Rattle.sha2.specs.Sha256.{sha256};
 ghost use Rattle.rpki_objects.specs.SignedAttributes.{message_of};
-ghost use Rattle.rpki_c.specs.ObjectVerified.{IsObjectVerified};
+ghost use Rattle.rpki_objects.specs.SignedObject.{ObjectParts};
+ghost use Rattle.rpki_objects.specs.SignedObjectView.{IsObjectAt};
+ghost use Rattle.rpki_c.specs.ObjectVerified.{IsContentTold, IsSignerRead, IsObjectVerified};
 ghost use Rattle.rpki_c.specs.Verified.{IsVerifiedBy};
 
-use crate::certificate::part_number;
-use crate::certificate_extensions::known_number;
 use crate::file_digest::has_digest;
 use crate::issued::is_identifier;
+use crate::known_cert::{KnownCert, known_cert};
 use crate::signed_object::{are_same, object_part_number};
 use crate::status::{BAD_SIGNATURE, KEY_NOT_ACCEPTED, OTHER_DIGEST, OTHER_SIGNER, OTHER_TYPE};
-use rpki::crypto::{PublicKeyFormat, PublicKeyView};
-use rpki_cert::CertView;
+use rpki::crypto::{KeyIdentifier, PublicKeyFormat, PublicKeyView};
 use rpki_objects::SignedObjectView;
 use rpki_rsa::Key;
 use sha2::{Digest, Sha256};
@@ -54,6 +54,47 @@ fn attributes_verified(key: &PublicKeyView<'_>, attributes: &[u8], signature: &[
     }
 }
 
+/// Whether the type of the content and its digest are those that are signed: 0, `OTHER_TYPE` or `OTHER_DIGEST`.
+fn content_told(found: &SignedObjectView<'_>) -> u8
+    ensures { (strict : Bool) (s : List ℕ) (x : ObjectParts) → IsObjectAt strict s found.now x
+        → IsContentTold x result }
+{
+    let values = &found.signer.signed_attrs.values;
+    if !are_same(found.content.content_type.octets, values.content_type.0) {
+        return OTHER_TYPE;
+    }
+    if !has_digest(
+        found.content.content.octets,
+        &values.message_digest.into_array(),
+    ) {
+        return OTHER_DIGEST;
+    }
+    0
+}
+
+/// Whether the certificate's subject key identifier is there, and is this one.
+fn is_signer(found: &KnownCert<'_>, identifier: KeyIdentifier) -> bool
+    ensures { IsTrue result ↔ (found.now.known.subject_key_identifier ≡ Option.Some identifier) }
+{
+    is_identifier(found.known.subject_key_identifier, identifier)
+}
+
+/// The status of the certificate that the octets are, as the one of the signer with this identifier, and of a signature
+/// of the attributes by its key.
+fn signer_told(octets: &[u8], identifier: KeyIdentifier, attributes: &[u8], signature: &[u8]) -> u8
+    ensures { IsSignerRead octets.now identifier (message_of attributes.now) signature.now result }
+{
+    let found = match known_cert(octets) {
+        Ok(found) => found,
+        Err(status) => return status,
+    };
+    if !is_signer(&found, identifier) {
+        return OTHER_SIGNER;
+    }
+    let cert = &found.cert;
+    attributes_verified(&cert.tbs.named.keyed.key, attributes, signature)
+}
+
 /// Reads a signed object, and says whether the key of its certificate has signed it (RFC 6488 3, RFC 5652 5.4, 5.6):
 /// whether the type of the content and its digest by SHA-256 are those that are signed; the signer's identifier is the
 /// certificate's subject key identifier; and the certificate's key has signed the attributes, by RSA with SHA-256.
@@ -70,30 +111,14 @@ pub extern "C" fn rpki_object_verify(octets: &[u8], strict: bool) -> u8
         Ok(found) => found,
         Err(part) => return object_part_number(part),
     };
+    let status = content_told(&found);
+    if status != 0 {
+        return status;
+    }
     let signer = &found.signer;
-    let values = &signer.signed_attrs.values;
-    if !are_same(found.content.content_type.octets, values.content_type.0) {
-        return OTHER_TYPE;
-    }
-    if !has_digest(
-        found.content.content.octets,
-        &values.message_digest.into_array(),
-    ) {
-        return OTHER_DIGEST;
-    }
-    let cert = match CertView::read(found.cert.octets) {
-        Ok(cert) => cert,
-        Err(wrong) => return part_number(wrong.part),
-    };
-    let known = match cert.tbs.named.keyed.known() {
-        Ok(known) => known,
-        Err(part) => return known_number(part),
-    };
-    if !is_identifier(known.subject_key_identifier, signer.identifier) {
-        return OTHER_SIGNER;
-    }
-    attributes_verified(
-        &cert.tbs.named.keyed.key,
+    signer_told(
+        found.cert.octets,
+        signer.identifier,
         signer.signed_attrs.octets.octets,
         signer.signature.octets,
     )

@@ -1,10 +1,11 @@
 //! Rsync URIs that were read before: a text, and where its parts stand. No text is read again.
 
 ghost use Rattle.std.specs.Prelude.{◌≡◌, ◌↔◌, IsTrue, length, IfSome, IfNone};
-ghost use Rattle.rpki_text.specs.RsyncText.{uri_of, same_uri, is_parent, is_identical};
+ghost use Rattle.rpki_text.specs.RsyncText.{uri_of, same_uri, is_parent, is_identical, parent_of, joined, join_refusal};
+ghost use Rattle.rpki_text.specs.Segments.{with_slash};
 ghost use Rattle.rpki_text.specs.Cuts.{cut_text, IsOwn};
-ghost use Rattle.rpki_c.specs.RsyncPlaces.{AreParts, AreLaidOut, IsRelativeByParts, IsToldByParts, IsCanonicalByParts};
-ghost use Rattle.rpki_c.specs.RsyncPlaces.{IsParentByParts, IsJoinedByParts, IsDirByParts};
+ghost use Rattle.rpki_c.specs.ByParts.{IsToldByParts, IsStoredByParts, IsMadeByParts, IsJoinedByParts, IsParentByParts};
+ghost use Rattle.rpki_c.specs.RsyncPlaces.{AreParts, AreLaidOut, rsync_places, IsRelativeByParts, canonical_of};
 
 use crate::place::Place;
 use crate::rsync::{RsyncParts, uri_fault};
@@ -80,7 +81,7 @@ pub extern "C" fn rpki_rsync_parts_equal(
     other_parts: &RsyncParts,
     out: &mut bool,
 ) -> u8
-    ensures { IsToldByParts uri.now parts.now other.now other_parts.now result out.old out.new
+    ensures { IsToldByParts rsync_places uri.now parts.now other.now other_parts.now result out.old out.new
         (same_uri (uri_of uri.now) (uri_of other.now)) }
 {
     let Some(u) = cut(uri, parts) else {
@@ -105,7 +106,7 @@ pub extern "C" fn rpki_rsync_parts_is_parent_of(
     other_parts: &RsyncParts,
     out: &mut bool,
 ) -> u8
-    ensures { IsToldByParts uri.now parts.now other.now other_parts.now result out.old out.new
+    ensures { IsToldByParts rsync_places uri.now parts.now other.now other_parts.now result out.old out.new
         (is_parent (uri_of uri.now) (uri_of other.now)) }
 {
     let Some(u) = cut(uri, parts) else {
@@ -129,7 +130,7 @@ pub extern "C" fn rpki_rsync_parts_is_identical_to(
     other_parts: &RsyncParts,
     out: &mut bool,
 ) -> u8
-    ensures { IsToldByParts uri.now parts.now other.now other_parts.now result out.old out.new
+    ensures { IsToldByParts rsync_places uri.now parts.now other.now other_parts.now result out.old out.new
         (is_identical (uri_of uri.now) (uri_of other.now)) }
 {
     let Some(u) = cut(uri, parts) else {
@@ -155,7 +156,8 @@ pub extern "C" fn rpki_rsync_parts_canonical(
     out: &mut [u8],
     written: &mut usize,
 ) -> u8
-    ensures { IsCanonicalByParts text.now parts.now result out.old out.new written.old written.new }
+    ensures { IsStoredByParts rsync_places text.now parts.now (canonical_of text.now)
+        result out.old out.new written.old written.new }
 {
     if !are_laid_out(text.len(), parts) {
         return OTHER_PARTS;
@@ -170,7 +172,7 @@ pub extern "C" fn rpki_rsync_parts_canonical(
 /// the text are. Unless it is 0, nothing is written.
 #[unsafe(no_mangle)]
 pub extern "C" fn rpki_rsync_parts_parent(text: &[u8], parts: &RsyncParts, out: &mut usize) -> u8
-    ensures { IsParentByParts text.now parts.now result out.old out.new }
+    ensures { IsParentByParts rsync_places text.now parts.now (parent_of text.now) result out.old out.new }
 {
     let Some(uri) = cut(text, parts) else {
         return OTHER_PARTS;
@@ -196,7 +198,8 @@ pub extern "C" fn rpki_rsync_parts_join(
     out: &mut [u8],
     written: &mut usize,
 ) -> u8
-    ensures { IsJoinedByParts base.now parts.now path.now result out.old out.new written.old written.new }
+    ensures { IsJoinedByParts rsync_places base.now parts.now (join_refusal base.now path.now)
+        (joined base.now path.now) result out.old out.new written.old written.new }
 {
     let Some(uri) = cut(base, parts) else {
         return OTHER_PARTS;
@@ -218,7 +221,8 @@ pub extern "C" fn rpki_rsync_parts_into_dir(
     out: &mut [u8],
     written: &mut usize,
 ) -> u8
-    ensures { IsDirByParts text.now parts.now result out.old out.new written.old written.new }
+    ensures { IsMadeByParts rsync_places text.now parts.now (with_slash text.now)
+        result out.old out.new written.old written.new }
 {
     let Some(uri) = cut(text, parts) else {
         return OTHER_PARTS;

@@ -1,12 +1,6 @@
 //! Signed data.
 
-ghost use Rattle.std.specs.Prelude.{◌≡◌, false, IfOk, IfSome};
-ghost use Rattle.rpki_der.specs.Cursor.{left};
-ghost use Rattle.rpki_der.specs.TagName.{bit_string};
-ghost use Rattle.rpki_der.specs.Reading.{Reads, Spells};
-ghost use Rattle.rpki_der.specs.Values.{IsLeafFault};
-ghost use Rattle.rpki_der.specs.Leaves.{IsBits};
-ghost use Rattle.rpki.specs.SignedData.{SpellsSignature};
+ghost use Rattle.std.specs.Prelude.{IfOk, IfSome};
 ghost use Rattle.rpki_c.specs.Whole.{DecodesElse};
 ghost use Rattle.rpki_c.specs.Signed.{SpellsRpki, AreOtherParts, IsOtherSigned, IsAllPartsFault, IsWholeSignedFault};
 ghost use Rattle.rpki_c.specs.Signed.{signed_in, AreInContents, AreInSigned, HasSigned, IsSignedRead, AreRpkiParts};
@@ -15,7 +9,7 @@ use crate::identifiers::begins_with_identifier;
 use crate::span::Span;
 use crate::status::OTHER_ALGORITHM;
 use rpki::crypto::{RpkiSignatureAlgorithm, SignatureAlgorithm};
-use rpki_der::{BitString, Constructed, DecodeError, Steps, Tag, walk_octets};
+use rpki_der::{Constructed, DecodeError, Steps, walk_octets};
 use std::alloc::Global;
 
 /// The parts of signed data.
@@ -49,27 +43,6 @@ pub(crate) struct SignedView<'a> {
     pub(crate) signature: &'a [u8],
 }
 
-/// How many bits of a signature are unused, and its octets; moves past it.
-///
-/// The errors are those of a BIT STRING.
-fn take_signature<'a>(cons: &mut Constructed<'a>) -> Result<(u8, &'a [u8]), DecodeError>
-    ensures reads { Reads (λ v. v.1.now) SpellsSignature (IsLeafFault bit_string false IsBits)
-        (left cons.old) (left cons.new) result }
-    ensures count { IfOk result (λ v. (h : Spells SpellsSignature (left cons.old) v.1.now (left cons.new))
-        × (v.0 ≡ h.spelled.unused)) }
-{
-    let mut after = *cons;
-    let contents = after.take_primitive_if(Tag::BIT_STRING)?;
-    let [unused, octets @ ..] = contents else {
-        return Err(DecodeError::content("malformed BIT STRING"));
-    };
-    if !BitString::is_legal(*unused, octets) {
-        return Err(DecodeError::content("malformed BIT STRING"));
-    }
-    *cons = after;
-    Ok((*unused, octets))
-}
-
 /// The parts that are all of these contents. None where the algorithm identifier behind the value is another one.
 ///
 /// The errors are those of the parts; then `Trailing`. Allocation can fail only if a constructed value begins the
@@ -91,14 +64,14 @@ fn read_parts<'a>(alloc: Global, contents: &'a [u8]) -> Result<Option<SignedView
         }
     };
     let behind = rest.rest();
-    let value = take_signature(&mut rest)?;
+    let bits = rest.take_bits()?;
     rest.finish()?;
     Ok(Some(SignedView {
         data,
         algorithm: &following[..following.len() - behind.len()],
         has_parameters: algorithm.has_parameters(),
-        unused: value.0,
-        signature: value.1,
+        unused: bits.unused(),
+        signature: bits.octet_slice(),
     }))
 }
 

@@ -3,12 +3,9 @@
 ghost use Rattle.std.specs.Prelude.{◌≡◌};
 ghost use Rattle.rpki_c.specs.SignedBy.{IsSignedByRead};
 
-use crate::certificate::part_number;
-use crate::certificate_extensions::known_number;
-use crate::issued::{is_identifier, is_named, key_of};
-use crate::status::{NO_ISSUER, OTHER_AUTHORITY, OTHER_ISSUER, OTHER_KEY};
+use crate::issued::{is_identifier, key_of, read_issued};
+use crate::status::OTHER_KEY;
 use crate::verification::verified;
-use rpki_cert::CertView;
 
 /// Reads two resource certificates, and says whether the second has issued the first, but for periods, resources,
 /// revocation and the profiles of both (RFC 5280 6.1.3, RFC 6487 7.2): whether the issuer of the first has the name of
@@ -23,27 +20,18 @@ use rpki_cert::CertView;
 pub extern "C" fn rpki_certificate_signed_by(octets: &[u8], issuer: &[u8]) -> u8
     ensures { IsSignedByRead octets.now issuer.now result }
 {
-    let found = match CertView::read(octets) {
+    let found = match read_issued(octets, issuer) {
         Ok(found) => found,
-        Err(wrong) => return part_number(wrong.part),
+        Err(status) => return status,
     };
-    let known = match found.tbs.named.keyed.known() {
-        Ok(known) => known,
-        Err(part) => return known_number(part),
-    };
-    let authority = match CertView::read(issuer) {
-        Ok(authority) => authority,
-        Err(_) => return NO_ISSUER,
-    };
-    if !is_named(&found, &authority) {
-        return OTHER_ISSUER;
-    }
-    if !is_identifier(known.authority_key_identifier, key_of(&authority)) {
-        return OTHER_AUTHORITY;
-    }
-    if !is_identifier(known.subject_key_identifier, key_of(&found)) {
+    let subject = &found.subject.cert;
+    if !is_identifier(found.subject.known.subject_key_identifier, key_of(subject)) {
         return OTHER_KEY;
     }
-    let key = &authority.tbs.named.keyed.key;
-    verified(key, found.parts.data.octets, found.parts.signature.octets)
+    let key = &found.issuer.tbs.named.keyed.key;
+    verified(
+        key,
+        subject.parts.data.octets,
+        subject.parts.signature.octets,
+    )
 }

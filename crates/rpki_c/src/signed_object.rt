@@ -1,8 +1,7 @@
 //! Signed objects.
 
 ghost use Rattle.std.specs.Prelude.{◌≡◌, ◌↔◌, IsTrue, IfSome};
-ghost use Rattle.jiff.specs.Words.{civil_nanos};
-ghost use Rattle.rpki_time.specs.Time.{IsFloorSecond};
+ghost use Rattle.rpki_c.specs.Time.{IsMoment};
 ghost use Rattle.rpki_objects.specs.SignedObject.{ObjectParts};
 ghost use Rattle.rpki_objects.specs.SignedObjectView.{IsObjectAt};
 ghost use Rattle.rpki_c.specs.SignedObject.{object_part_number, HasObject, IsObjectRead};
@@ -72,11 +71,7 @@ pub(crate) fn object_part_number(part: ObjectPart) -> u8
 
 /// The moment of a time, where there is one; else one of zeros.
 fn moment_if(time: Option<Time>) -> Moment
-    ensures since { IfSome time (λ t. IsFloorSecond (civil_nanos t) result.seconds) }
-    ensures date { IfSome time (λ t. (result.year ≡ t.date.year) × (result.month ≡ t.date.month)
-        × (result.day ≡ t.date.day)) }
-    ensures clock { IfSome time (λ t. (result.hour ≡ t.time.hour) × (result.minute ≡ t.time.minute)
-        × (result.second ≡ t.time.second)) }
+    ensures { IfSome time (λ t. t.time.subsec_nanosecond ≡ 0 → IsMoment t result) }
 {
     match time {
         Some(time) => moment_of(time),

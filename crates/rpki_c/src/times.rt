@@ -1,12 +1,10 @@
 //! Times.
 
 ghost use Rattle.std.specs.Prelude.{◌≡◌, IfOk, IfErr};
-ghost use Rattle.jiff.specs.Words.{civil_nanos};
 ghost use Rattle.rpki_der.specs.Reading.{SpellsNothing, UnlessMemory};
-ghost use Rattle.rpki_time.specs.Time.{IsFloorSecond};
 ghost use Rattle.rpki_time.specs.TimeValue.{SpellsTime};
 ghost use Rattle.rpki_time.specs.PeriodValue.{SpellsPeriod};
-ghost use Rattle.rpki_c.specs.Time.{HasMoment, HasMoments, IsWholeTimeFault, IsWholePeriodFault, IsTimeRead};
+ghost use Rattle.rpki_c.specs.Time.{IsMoment, HasMoment, HasMoments, IsWholeTimeFault, IsWholePeriodFault, IsTimeRead};
 ghost use Rattle.rpki_c.specs.Time.{IsValidityRead};
 
 use rpki_der::DecodeError;
@@ -34,10 +32,7 @@ pub struct Moment {
 
 /// The moment of a time, without parts of a second.
 pub(crate) fn moment_of(time: Time) -> Moment
-    ensures since { IsFloorSecond (civil_nanos time) result.seconds }
-    ensures date { (result.year ≡ time.date.year) × (result.month ≡ time.date.month) × (result.day ≡ time.date.day) }
-    ensures clock { (result.hour ≡ time.time.hour) × (result.minute ≡ time.time.minute)
-        × (result.second ≡ time.time.second) }
+    ensures { time.time.subsec_nanosecond ≡ 0 → IsMoment time result }
 {
     Moment {
         seconds: time.to_binary_time(),

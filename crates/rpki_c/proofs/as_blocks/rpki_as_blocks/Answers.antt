@@ -2,9 +2,9 @@ use Rattle.std.proofs.Common.{sym, subst, ap, arith}
 use Rattle.rpki_resources.specs.declared.choice.ResourcesChoice.TheVariants.{Blocks}
 use Rattle.rpki_resources.specs.Extension.{SpellsAsResources}
 use Rattle.rpki_resources.specs.Kept.{IsChoiceOf}
-use Rattle.rpki_c.specs.Resources.{inherited_as}
+use Rattle.rpki_c.specs.Resources.{inherited_as, as_entry}
 use Rattle.rpki_c.specs.ViewCount.{view_count}
-use Rattle.rpki_c.proofs.ViewCountLaws.{as-kept, as-fit, inherited-as, one-filled}
+use Rattle.rpki_c.proofs.ViewCountLaws.{as-kept, as-fit, inherited-entries, one-filled}
 use Rattle.rpki_c.proofs.ResourceStatusLaws.{as-too-many, as-filled, blocks-kept}
 use Rattle.rpki_c.proofs.as_blocks.rpki_as_blocks.Goals as goal
 
@@ -21,7 +21,7 @@ write_listed-requires-clause-fit c =
 pub returns-in-Inherit : goal.returns-in-Inherit
 returns-in-Inherit c =
     let k = as-kept c.in-Ok.found c.args.octets.now c.in-Ok.ensures.0 in
-    let is = inherited-as k.0 (subst (IsChoiceOf k.0) c.in-Inherit.is k.1) in
+    let is = inherited-entries inherited_as as_entry k.0 (subst (IsChoiceOf k.0) c.in-Inherit.is k.1) in
     as-filled c.args.octets.now c.in-Ok.found c.in-Ok.ensures.0 c.args.entries.now c.args.count.now
     c.count_of-all.result c.count_of-all.ensures k.0 _ k.1
     (rw is (one-filled 0 inherited_as c.args.entries.now

@@ -1,7 +1,5 @@
-use Rattle.std.proofs.Common.{◌∙◌, ap, sym, subst}
-use Rattle.rpki_time.specs.TimeValue.{SpellsTime}
+use Rattle.std.proofs.Common.{◌∙◌, ap}
 use Rattle.rpki_c.specs.Key.{format_number}
-use Rattle.rpki_c.specs.Time.{IsMoment}
 use Rattle.rpki_c.proofs.MomentLaws.{moment}
 use Rattle.rpki_c.proofs.CertificateLaws.{times}
 use Rattle.rpki_c.proofs.certificate.parts_of.Goals as goal
@@ -16,8 +14,6 @@ returns c =
     let period = times x c.args.octets.now at.spelled in
     let from = c.not_before.ensures ∙ ap (λ v. v.not_before) n.validity in
     let upto = c.not_after.ensures ∙ ap (λ v. v.not_after) n.validity in
-    let one = subst (λ t. SpellsTime t period.start) (sym from) period.not_before in
-    let two = subst (λ t. SpellsTime t period.end) (sym upto) period.not_after in
     record {
       cert = x;
       spelled = at.spelled;
@@ -26,12 +22,8 @@ returns c =
       parameters = c.has_parameters.ensures ∙ p.same;
       signature = c.of-3.ensures ∙ p.signature.octets;
       serial = c.into_array.ensures.value ∙ at.tbs.serial;
-      not_before = subst (λ t. IsMoment t c.moment_of.result) from
-          (moment period.start c.not_before.result c.moment_of.result one c.moment_of.ensures.since
-          c.moment_of.ensures.date c.moment_of.ensures.clock);
-      not_after = subst (λ t. IsMoment t c.moment_of-2.result) upto
-          (moment period.end c.not_after.result c.moment_of-2.result two c.moment_of-2.ensures.since
-          c.moment_of-2.ensures.date c.moment_of-2.ensures.clock);
+      not_before = moment c.moment_of.ensures from period.not_before;
+      not_after = moment c.moment_of-2.ensures upto period.not_after;
       named = record {
         issuer = c.of-4.ensures ∙ n.issuer.octets;
         subject = c.of-5.ensures ∙ n.subject.octets;

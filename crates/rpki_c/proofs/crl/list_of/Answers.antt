@@ -1,16 +1,13 @@
 use Rattle.std.proofs.Common.{◌∙◌, ap, sym, subst}
 use Rattle.rpki.specs.SignedData.{SignedParts}
 use Rattle.std.specs.Prelude.{Bool}
-use Rattle.rpki_time.specs.TimeValue.{SpellsTime}
 use Rattle.rpki_objects.specs.Crl.{each_entry, listed}
-use Rattle.rpki_c.specs.Time.{IsMoment}
 use Rattle.rpki_c.proofs.CrlLaws.{entries-spelled}
 use Rattle.rpki_c.proofs.MomentLaws.{moment}
 use Rattle.rpki_c.proofs.crl.list_of.Goals as goal
 
 pub returns : goal.returns
 returns c =
-    let v = c.args.found.now in
     let x = c.requires.0 in
     let at = c.requires.1 in
     let h = at.spelled in
@@ -19,8 +16,6 @@ returns c =
     let same = sym h.stands.same in
     let f = h.stands.list.spelled.two.two in
     let o = f.two.two in
-    let one = subst (λ u. SpellsTime u f.two.first) (sym t.this_update) f.two.one in
-    let two = subst (λ u. SpellsTime u o.first) (sym t.next_update) o.one in
     record {
       list = x;
       spelled = h;
@@ -32,14 +27,8 @@ returns c =
       revoked =
           subst (each_entry.spells (listed x.list.revoked)) (sym (c.of-5.ensures ∙ t.revoked.octets))
           (entries-spelled x.list.revoked x.list.extensions o.second o.two);
-      this_update =
-          subst (λ u. IsMoment u c.moment_of.result) t.this_update
-          (moment f.two.first v.tbs.this_update c.moment_of.result one c.moment_of.ensures.since
-          c.moment_of.ensures.date c.moment_of.ensures.clock);
-      next_update =
-          subst (λ u. IsMoment u c.moment_of-2.result) t.next_update
-          (moment o.first v.tbs.next_update c.moment_of-2.result two c.moment_of-2.ensures.since
-          c.moment_of-2.ensures.date c.moment_of-2.ensures.clock);
+      this_update = moment c.moment_of.ensures t.this_update f.two.one;
+      next_update = moment c.moment_of-2.ensures t.next_update o.one;
       number = c.into_array.ensures.value ∙ ap (λ e. e.number) t.extensions;
       authority = c.from.ensures ∙ ap (λ e. e.authority) t.extensions;
     }

@@ -15,9 +15,7 @@ returns-in-Ok c =
       rw (c.of.ensures, c.rest.ensures) h,
       record {
         serial = c.into_array.ensures.value;
-        date =
-            moment parts.second c.in-Ok.entry.revocation_date c.moment_of.result parts.two c.moment_of.ensures.since
-            c.moment_of.ensures.date c.moment_of.ensures.clock;
+        date = moment c.moment_of.ensures refl parts.two;
       },
     )
 

@@ -1,15 +1,25 @@
-use Rattle.rpki_c.proofs.ResourceStatusLaws.{ip-answered, ip-second, ip-untold}
+use Rattle.std.proofs.Common.{inl, inr, refl}
+use Rattle.rpki_c.proofs.ResourceStatusLaws.{kept-ip}
 use Rattle.rpki_c.proofs.encompassing.rpki_ip_blocks_encompass.Goals as goal
 
 pub returns-in-Some : goal.returns-in-Some
-returns-in-Some c = ip-answered c.args.outer.now c.args.inner.now c.args.out.now c.in-Some.answer c.in-Some.ensures.some
+returns-in-Some c = let h = c.in-Some.ensures.some in inl (h.0, h.1, h.2, h.3, inl (refl, h.4))
 
 pub returns-in-Ok-read_ip : goal.returns-in-Ok-read_ip
 returns-in-Ok-read_ip c =
-    ip-untold c.args.outer.now c.args.inner.now c.in-Ok.field-0 c.in-Ok.ensures.0 c.args.out.now
-    c.in_default.ensures.none c.in-Ok-read_ip.field-0 c.in-Ok-read_ip.ensures.0
+    let (x, h) = kept-ip c.in-Ok.field-0 c.args.outer.now c.in-Ok.ensures.0 in
+    let (y, k) = kept-ip c.in-Ok-read_ip.field-0 c.args.inner.now c.in-Ok-read_ip.ensures.0 in
+    inl (x, y, h, k, inr (refl, c.in_default.ensures.none x y h k, refl))
 
 pub returns-in-Err-read_ip : goal.returns-in-Err-read_ip
 returns-in-Err-read_ip c =
-    ip-second c.args.outer.now c.args.inner.now c.in-Ok.field-0 c.in-Ok.ensures.0 c.args.out.now c.in-Err-read_ip.e
-    c.number.result c.number.ensures c.in-Err-read_ip.ensures
+    let k = c.in-Err-read_ip.ensures in
+    inr (inr (
+      kept-ip c.in-Ok.field-0 c.args.outer.now c.in-Ok.ensures.0,
+      record {
+        first = c.number.result;
+        number = refl;
+        refused = record { error = c.in-Err-read_ip.e; number = c.number.ensures; nothing = k.0; kind = k.1 };
+      },
+      refl,
+    ))

@@ -1,7 +1,6 @@
-use Rattle.std.proofs.Common.{List, ℕ, inr, ap, ◌∙◌, subst}
+use Rattle.std.proofs.Common.{inr, ap, ◌∙◌}
 use Rattle.rpki_text.specs.HttpsText.{https_into_dir}
 use Rattle.rpki_text.proofs.HttpsPartLaws.{https_dir-cut}
-use Rattle.rpki_c.specs.Stored.{IsStored}
 use Rattle.rpki_c.proofs.HttpsPlacesLaws.{https-cut, https-end-parts}
 use Rattle.rpki_c.proofs.https_parts.rpki_https_parts_into_dir.Goals as goal
 
@@ -14,8 +13,7 @@ returns c =
       laid,
       λ a.
           let text = c.as_dir.ensures (c.in-Some.ensures.own a) ∙ ap https_into_dir c.in-Some.ensures.text in (
-            subst (λ (s : List ℕ). IsStored s c.store_joined.result c.args.out.now c.store_joined.new.out
-                c.store_joined.new.written) text c.store_joined.ensures,
+            rw text at c.store_joined.ensures,
             https-end-parts (https_into_dir t) p _ laid (https_dir-cut t _ (https-cut t p laid a)),
           ),
     )

@@ -1,9 +1,8 @@
-use Rattle.std.proofs.Common.{◌≡◌, ◌≢◌, Some, List, ℕ, inl, inr, refl, sym, ap, ◌∙◌, subst}
+use Rattle.std.proofs.Common.{◌≡◌, ◌≢◌, Some, inl, inr, refl, sym, ap, ◌∙◌}
 use Rattle.rpki_text.specs.declared.uri.error.Error.TheVariants.{InvalidCharacters, OutOfMemory}
 use Rattle.rpki_text.specs.declared.uri.error.Error.{Error}
 use Rattle.rpki_text.specs.HttpsText.{https_joined}
 use Rattle.rpki_text.proofs.HttpsPartLaws.{https_joined-cut, https-join-ok, https-join-refuses}
-use Rattle.rpki_c.specs.Stored.{IsStored}
 use Rattle.rpki_c.proofs.HttpsPlacesLaws.{https-cut, https-end-parts}
 use Rattle.rpki_c.proofs.https_parts.rpki_https_parts_join.Goals as goal
 
@@ -20,8 +19,7 @@ returns-in-Ok c =
           ∙ ap (λ x. https_joined x path) c.in-Some.ensures.text in
           inl (
             https-join-ok path c.in-Ok.ensures.ok,
-            subst (λ (s : List ℕ). IsStored s c.store_joined.result c.args.out.now c.store_joined.new.out
-                c.store_joined.new.written) text c.store_joined.ensures,
+            rw text at c.store_joined.ensures,
             https-end-parts (https_joined t path) p _ laid
                 (https_joined-cut t _ (https-cut t p laid a) path c.in-Ok.ensures.ok),
           ),

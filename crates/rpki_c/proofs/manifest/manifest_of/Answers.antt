@@ -1,4 +1,4 @@
-use Rattle.std.proofs.Common.{◌∙◌, sym}
+use Rattle.std.proofs.Common.{◌∙◌, refl, sym}
 use Rattle.rpki_contents.specs.ManifestView.{parts_in}
 use Rattle.rpki_c.proofs.ContentLaws.{is-listing, held, is-time}
 use Rattle.rpki_c.proofs.MomentLaws.{moment}
@@ -15,12 +15,8 @@ returns c =
       manifest = parts_in v c.requires.0;
       listing = is-listing s v c.requires.0 at;
       number = c.into_array.ensures.value;
-      this_update =
-          moment f.two.first v.this_update c.moment_of.result (is-time v.this_update f.two.first f.two.one)
-          c.moment_of.ensures.since c.moment_of.ensures.date c.moment_of.ensures.clock;
-      next_update =
-          moment g.first v.next_update c.moment_of-2.result (is-time v.next_update g.first g.one)
-          c.moment_of-2.ensures.since c.moment_of-2.ensures.date c.moment_of-2.ensures.clock;
+      this_update = moment c.moment_of.ensures refl (is-time v.this_update f.two.first f.two.one);
+      next_update = moment c.moment_of-2.ensures refl (is-time v.next_update g.first g.one);
       files = rw (c.of.ensures, c.octets.ensures) (held s v c.requires.0 at).files;
       count = c.count.ensures ∙ sym at.fields.count;
     }

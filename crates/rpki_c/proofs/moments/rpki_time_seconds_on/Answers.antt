@@ -2,7 +2,7 @@ use Rattle.std.proofs.Common.{◌≡◌, ◌+ℤ◌, ℤ, FitsSigned, w64, true,
 use Rattle.std.proofs.lemmas.Int.{to_z-of_z}
 use Rattle.jiff.specs.Words.{civil_nanos, signed_nanos}
 use Rattle.rpki_time.specs.Time.{IsTimeNanos, seconds}
-use Rattle.rpki_c.proofs.MomentLaws.{is-moment, later-whole}
+use Rattle.rpki_c.proofs.MomentLaws.{later-whole}
 use Rattle.rpki_c.proofs.moments.rpki_time_seconds_on.Goals as goal
 
 pub returns-in-Some-checked_add : goal.returns-in-Some-checked_add
@@ -14,9 +14,7 @@ returns-in-Some-checked_add c =
     let on : civil_nanos later ≡ civil_nanos time +ℤ seconds c.args.seconds =
     c.in-Some-checked_add.ensures.value ∙ ap (λ (z : ℤ). civil_nanos time +ℤ z) nanos in
     let whole = later-whole time later c.args.seconds c.in-Some.ensures.value.subsec on in
-    let moment = is-moment later c.moment_of.result whole c.moment_of.ensures.since c.moment_of.ensures.date
-    c.moment_of.ensures.clock in
-    inl (time, c.in-Some.ensures.value, inl (refl, (later, on, moment)))
+    inl (time, c.in-Some.ensures.value, inl (refl, (later, on, c.moment_of.ensures whole)))
 
 pub returns-in-None : goal.returns-in-None
 returns-in-None c =

@@ -1,7 +1,7 @@
 use Rattle.std.proofs.Common.{refl, inl, subst}
 use Rattle.jiff.specs.Types.{DateTime}
 use Rattle.rpki_c.specs.Time.{IsMoment}
-use Rattle.rpki_c.proofs.MomentLaws.{is-moment, whole-at, later-of-two, earlier-of-two, is-whole}
+use Rattle.rpki_c.proofs.MomentLaws.{whole-at, later-of-two, earlier-of-two, is-whole}
 use Rattle.rpki_c.proofs.periods.rpki_validity_trim.Goals as goal
 
 pub returns : goal.returns
@@ -25,10 +25,8 @@ returns c =
       c.trim-both.ensures.ends,
       record {
         not_before = subst (λ (t : DateTime). IsMoment t c.moment_of.result) c.not_before.ensures
-            (is-moment c.not_before.result c.moment_of.result (rw c.not_before.ensures start) c.moment_of.ensures.since
-            c.moment_of.ensures.date c.moment_of.ensures.clock);
+            (c.moment_of.ensures (rw c.not_before.ensures start));
         not_after = subst (λ (t : DateTime). IsMoment t c.moment_of-2.result) c.not_after.ensures
-            (is-moment c.not_after.result c.moment_of-2.result (rw c.not_after.ensures end) c.moment_of-2.ensures.since
-            c.moment_of-2.ensures.date c.moment_of-2.ensures.clock);
+            (c.moment_of-2.ensures (rw c.not_after.ensures end));
       },
     )

@@ -1,7 +1,6 @@
 use Rattle.std.proofs.Common.{◌≡◌, List, ℕ, None, inl, inr, ap, ◌∙◌, subst}
 use Rattle.rpki_text.specs.RsyncText.{joined, join_refusal}
 use Rattle.rpki_text.proofs.JoinLaws.{cut-joined-any}
-use Rattle.rpki_c.specs.Stored.{IsStored}
 use Rattle.rpki_c.proofs.RsyncPlacesLaws.{parts-cut, end-parts}
 use Rattle.rpki_c.proofs.rsync_parts.rpki_rsync_parts_join.Goals as goal
 
@@ -20,8 +19,7 @@ returns-in-Ok c =
           let text = c.in-Ok.ensures.text own ∙ ap (λ x. joined x path) c.in-Some.ensures.text in
           inl (
             ok,
-            subst (λ (s : List ℕ). IsStored s c.store_joined.result c.args.out.now c.store_joined.new.out
-                c.store_joined.new.written) text c.store_joined.ensures,
+            rw text at c.store_joined.ensures,
             end-parts (joined t path) p _ laid (cut-joined-any t _ _ (parts-cut t p a) path ok),
           ),
     )

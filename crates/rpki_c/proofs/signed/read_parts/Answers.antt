@@ -1,16 +1,18 @@
-use Rattle.std.proofs.Common.{◌≡◌, List, ℕ, take, drop, ◌∙◌, sym, subst}
+use Rattle.std.proofs.Common.{◌≡◌, List, ℕ, take, drop, ◌∙◌, refl, sym, subst}
 use Rattle.std.proofs.lemmas.Bool.{iff_false}
 use Rattle.rpki_der.specs.Cursor.{left}
-use Rattle.rpki_der.specs.Reading.{Accepts, Refuses, UnlessMemory, Finds}
+use Rattle.rpki_der.specs.Reading.{Spells, Accepts, Refuses, UnlessMemory, Finds}
 use Rattle.rpki_der.specs.Members.{SpellsValue}
 use Rattle.rpki_der.specs.FirstFault.FirstFault.{AtPart, Later}
 use Rattle.rpki_der.proofs.ReadingLaws.{UnlessMemory-weaker, UnlessMemory-from}
 use Rattle.rpki_der.proofs.ComposedLaws.{nothing-whole, nothing-after, all-read}
 use Rattle.rpki.specs.Oids.{sha256_with_rsa_encryption}
 use Rattle.rpki.specs.Algorithm.{SpellsAlgorithm}
+use Rattle.rpki.specs.SignedData.{SpellsSignature}
 use Rattle.rpki_der.proofs.InsideLaws.{unless-memory}
 use Rattle.rpki.proofs.AlgorithmFaultLaws.{algorithm-outer}
 use Rattle.rpki.proofs.SigningLaws.{no-value, no-algorithm, no-signature, contents-accepted}
+use Rattle.rpki.proofs.SigningLaws.{signature-accepted, signature-refused}
 use Rattle.rpki_c.specs.Identifier.{IsOther, SpellsIdentifier}
 use Rattle.rpki_c.specs.Signed.{IsAllPartsFault, AreOtherParts}
 use Rattle.rpki_c.proofs.SignedReadingLaws.{AreParts, in-contents, front-of}
@@ -70,11 +72,11 @@ returns-then-begins_with_identifier-clause-reads c =
     unless-memory e (algorithm-outer sha256_with_rsa_encryption m e h.kind).other h.refuses in
     record { value = d; rest = m; begins = one.spells; follows = record { some = some; none = none } }
 
-pub returns-in_err-value-clause-reads : goal.returns-in_err-value-clause-reads
-returns-in_err-value-clause-reads c =
+pub returns-in_err-bits-clause-reads : goal.returns-in_err-bits-clause-reads
+returns-in_err-bits-clause-reads c =
     let s = c.args.contents.now in
-    let e = c.in_err-value.field-0.0 in
-    let h = c.in_err-value.ensures.reads in
+    let e = c.in_err-bits.field-0.0 in
+    let h = signature-refused _ _ _ e c.in_err-bits.ensures in
     let d = c.split_at.result.0.now in
     let m = left c.from_slice-rest.result in
     let one : Accepts SpellsValue s d m = split-value s d m c.in_ok-size.size c.split_at.ensures.front
@@ -82,7 +84,7 @@ returns-in_err-value-clause-reads c =
     let none : UnlessMemory e (Refuses AreParts s) =
     UnlessMemory-weaker e (no-signature (SpellsAlgorithm sha256_with_rsa_encryption) s m _ d _ one c.in-Ok.ensures)
     h.refuses in
-    tried-else AreOtherParts _ AreParts IsAllPartsFault s e _ c.from_residual-in_err-value.ensures (
+    tried-else AreOtherParts _ AreParts IsAllPartsFault s e _ c.from_residual-in_err-bits.ensures (
       UnlessMemory-from e (not-other s d m _ _ one c.in-Ok.ensures),
       (
         UnlessMemory-weaker e (nothing-whole AreParts s) none,
@@ -100,7 +102,7 @@ returns-in_err-finish-clause-reads c =
     let one : Accepts SpellsValue s d m = split-value s d m c.in_ok-size.size c.split_at.ensures.front
     (c.from_slice-rest.ensures ∙ c.split_at.ensures.back) c.in_ok-size.ensures.accepted in
     let all = contents-accepted (SpellsAlgorithm sha256_with_rsa_encryption) s m _ _ d _ _ one c.in-Ok.ensures
-    c.in_ok-value.ensures.reads in
+    (signature-accepted _ c.in_ok-bits.bits _ _ refl c.in_ok-bits.ensures) in
     tried-else AreOtherParts _ AreParts IsAllPartsFault s e _ c.from_residual-in_err-finish.ensures (
       UnlessMemory-from e (not-other s d m _ _ one c.in-Ok.ensures),
       (UnlessMemory-from e (nothing-after AreParts s _ _ all h.1), Later _ _ all (h.1, h.0)),
@@ -114,7 +116,7 @@ returns-clause-reads c =
     let one : Accepts SpellsValue s d m = split-value s d m c.in_ok-size.size c.split_at.ensures.front
     (c.from_slice-rest.ensures ∙ c.split_at.ensures.back) c.in_ok-size.ensures.accepted in
     let all = contents-accepted (SpellsAlgorithm sha256_with_rsa_encryption) s m _ _ d _ _ one c.in-Ok.ensures
-    c.in_ok-value.ensures.reads in (
+    (signature-accepted _ c.in_ok-bits.bits _ _ c.octet_slice.ensures c.in_ok-bits.ensures) in (
       not-other s d m _ _ one c.in-Ok.ensures,
       rw c.has_parameters.ensures (all-read AreParts s _ _ all c.in_ok-finish.ensures),
     )
@@ -127,9 +129,16 @@ returns-clause-parts c =
     let one : Accepts SpellsValue s d m = split-value s d m c.in_ok-size.size c.split_at.ensures.front
     (c.from_slice-rest.ensures ∙ c.split_at.ensures.back) c.in_ok-size.ensures.accepted in
     let two = c.in-Ok.ensures in
-    let three = c.in_ok-value.ensures.count in
-    let k = in-contents s d m _ _ _ _ one two three.0 c.in_ok-finish.ensures in
+    let bits = c.in_ok-bits.bits in
+    let a = c.in_ok-bits.ensures in
+    let three : Spells SpellsSignature _ bits.octets _ =
+    record {
+      front = a.spells.front;
+      parts = a.spells.parts;
+      spelled = record { unused = bits.unused; string = a.spells.spelled };
+    } in
+    let k = in-contents s d m _ _ _ _ one two three c.in_ok-finish.ensures in
     let text = front-of c.split_at.result.1.now c.rest-behind.result.now two.spells.front _
     (sym c.from_slice-rest.ensures ∙ two.spells.parts) c.rest-behind.ensures in
-    rw c.has_parameters.ensures
-    (record { spelled = k.0; algorithm = text ∙ sym k.1; unused = three.1 ∙ sym k.2 })
+    rw (c.has_parameters.ensures, c.octet_slice.ensures)
+    (record { spelled = k.0; algorithm = text ∙ sym k.1; unused = c.unused.ensures.value ∙ sym k.2 })

@@ -29,8 +29,8 @@ returns c =
           values =
               values-told strict l.one.value.1 (values_known v.signer.signed_attrs.values) x.signer.attributes.values
               same
-              l.one.stands.values _ c.into_array.ensures c.is_some.ensures c.moment_if.ensures.since
-              c.moment_if.ensures.date c.moment_if.ensures.clock c.is_some-2.ensures c.unwrap_or.ensures;
+              l.one.stands.values _ c.into_array.ensures c.is_some.ensures c.moment_if.ensures
+              c.is_some-2.ensures c.unwrap_or.ensures;
         };
         is_type_signed =
             same-told c.are_same.result v.content.content_type.octets.now

@@ -1,7 +1,6 @@
 use Rattle.std.proofs.Common.{◌≡◌, ◌+ℤ◌, ℤ, true, false, refl, inl, inr, sym, subst, w32}
 use Rattle.std.proofs.lemmas.Int.{to_z-of_z}
 use Rattle.rpki_time.specs.Time.{IsTimeYear, IsYearsOn}
-use Rattle.rpki_c.proofs.MomentLaws.{is-moment}
 use Rattle.rpki_c.proofs.time_writing.rpki_time_years_on.Goals as goal
 
 pub returns-in-Some-years_from_now : goal.returns-in-Some-years_from_now
@@ -10,9 +9,7 @@ returns-in-Some-years_from_now c =
     let on : IsYearsOn c.args.years c.in-Some.time later =
     subst (λ (z : ℤ). IsYearsOn z c.in-Some.time later) (to_z-of_z w32 c.args.years c.ranges.years)
     c.in-Some-years_from_now.ensures.value in
-    let moment = is-moment later c.moment_of.result on.subsec c.moment_of.ensures.since c.moment_of.ensures.date
-    c.moment_of.ensures.clock in
-    inl (c.in-Some.time, c.in-Some.ensures.value, inl (refl, (later, on, moment)))
+    inl (c.in-Some.time, c.in-Some.ensures.value, inl (refl, (later, on, c.moment_of.ensures on.subsec)))
 
 pub returns-in-None : goal.returns-in-None
 returns-in-None c =

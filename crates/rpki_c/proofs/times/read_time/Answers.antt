@@ -1,3 +1,4 @@
+use Rattle.std.proofs.Common.{refl}
 use Rattle.rpki_c.proofs.MomentLaws.{moment}
 use Rattle.rpki_c.proofs.times.read_time.Goals as goal
 
@@ -7,6 +8,5 @@ returns-in-Ok-clause-ok c =
     record {
       time = c.in-Ok.time;
       spelled = h.0;
-      moment = moment c.args.octets.now c.in-Ok.time c.moment_of.result h.0 c.moment_of.ensures.since
-          c.moment_of.ensures.date c.moment_of.ensures.clock;
+      moment = moment c.moment_of.ensures refl h.0;
     }
