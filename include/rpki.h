@@ -565,6 +565,11 @@ struct rpki_revoked_certificate {
     struct rpki_moment revocation_date; /* when it was revoked */
 };
 
+/* A serial number in a table of rpki_serials. */
+struct rpki_serial_number {
+    uint8_t octets[20]; /* the most significant octet first, with zeros in front */
+};
+
 /* The parts of a signed object (RFC 5652 3, 5; RFC 6488 2). */
 struct rpki_signed_object_parts {
     struct rpki_span content_type;      /* the type of the content: the contents octets of its object identifier */
@@ -963,12 +968,30 @@ rpki_status rpki_crl_entry(struct rpki_span *rest, struct rpki_revoked_certifica
 
 /*
  * Whether one of these entries, as of revoked_certs, which are all of the octets, is of the certificate of this serial
- * number. `out` is written where the status is RPKI_OK. All entries are read, in a step
- * each: for many questions keep their serial numbers. Takes no memory. RPKI_CONTENT: the first bit of the serial number
- * is set. Else the status is that of the first that is no entry, a SEQUENCE of a serial number and a time and nothing
- * else, as of the calls that read values.
+ * number. `out` is written where the status is RPKI_OK. All entries are read, in a step each: for many questions make a
+ * table of them by rpki_serials. Takes no memory. RPKI_CONTENT: the first bit of the serial number is set. Else the
+ * status is that of the first that is no entry, a SEQUENCE of a serial number and a time and nothing else, as of the
+ * calls that read values.
  */
 rpki_status rpki_crl_contains(const uint8_t *octets, size_t size, const uint8_t serial[20], bool *out) RPKI_CHECKED;
+
+/*
+ * Makes a table of these entries, as of revoked_certs, which are all of the octets, for rpki_serials_have: their serial
+ * numbers, sorted. `serials` has room for `capacity` of them, of which there are fewer than octets; it may be NULL
+ * where `capacity` is 0. Takes no memory; n entries take n log n steps.
+ *
+ * RPKI_OK: `*count` of them were written, and the rest of the array is as it was. RPKI_TOO_SMALL: `*count` is how many
+ * entries there are, and the array holds nothing of use. Else neither is written, and the status is that of the first
+ * that is no entry, as of rpki_crl_contains.
+ */
+rpki_status rpki_serials(const uint8_t *octets, size_t size, struct rpki_serial_number *serials, size_t capacity,
+                         size_t *count) RPKI_CHECKED;
+
+/*
+ * Whether the table of a list's entries, the `count` serial numbers that rpki_serials wrote, has this one: exactly
+ * where one of the entries is of the certificate of this serial number. In log n steps, without memory.
+ */
+bool rpki_serials_have(const struct rpki_serial_number *serials, size_t count, const uint8_t serial[20]);
 
 /* ---- Signed objects ---- */
 
@@ -1707,6 +1730,8 @@ RPKI_ASSERT_AT(aspa_parts, customer, 24);
 RPKI_ASSERT(revoked_certificate, sizeof(struct rpki_revoked_certificate) == 56);
 RPKI_ASSERT_AT(revoked_certificate, serial_number, 0);
 RPKI_ASSERT_AT(revoked_certificate, revocation_date, 24);
+RPKI_ASSERT(serial_number, sizeof(struct rpki_serial_number) == 20);
+RPKI_ASSERT_AT(serial_number, octets, 0);
 RPKI_ASSERT(known_extension, sizeof(struct rpki_known_extension) == 24);
 RPKI_ASSERT_AT(known_extension, octets, 0);
 RPKI_ASSERT_AT(known_extension, is_there, 16);

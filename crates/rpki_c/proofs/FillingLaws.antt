@@ -534,7 +534,7 @@ some-drop n [] l = absurd (omega (arith, l))
 some-drop zero (x ∷ xs) l = (x, refl)
 some-drop (suc n) (x ∷ xs) l = some-drop n xs (omega (arith, l))
 
-set-behind : {X : Type 0} (xs old : List X) (n : ℕ) (y : X) → length xs ≡ n → n < length old
+pub set-behind : {X : Type 0} (xs old : List X) (n : ℕ) (y : X) → length xs ≡ n → n < length old
     → set (xs ++ drop n old) n y ≡ (xs ++ y ∷ []) ++ drop (n + 1) old
 set-behind {X} xs old n y size room =
     let d = some-drop n old room in

@@ -42,6 +42,7 @@ pub mod Resources
 pub mod Encompassing
 pub mod BlockText
 pub mod Crl
+pub mod SerialTable
 pub mod SignedObject
 pub mod Manifest
 pub mod ManifestNames

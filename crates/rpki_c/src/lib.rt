@@ -53,6 +53,7 @@ mod roa;
 mod rsync;
 mod rsync_parts;
 mod seconds;
+mod serial_table;
 mod serial_texts;
 mod serial_writing;
 mod serials;

@@ -1,7 +1,7 @@
 /*
  * Reads revocation lists with rpki_crl, and compares statuses and what is found with those of rows that rows.py writes;
- * then asks rpki_crl_contains for each serial number on a list, and for others. What a call refuses leaves `out` as it
- * was. No call allocates.
+ * then asks rpki_crl_contains, and the table that rpki_serials makes, for each serial number on a list, and for others.
+ * What a call refuses leaves `out` as it was. No call allocates.
  *
  * usage: lists ROWS
  */
@@ -81,6 +81,26 @@ static rpki_status search(const uint8_t *octets, size_t size, const uint8_t *ser
     return status;
 }
 
+/* A table of the entries, in memory of exactly so many places, and one before and behind it that stay as they were. */
+static rpki_status tabulate(struct rpki_span entries, size_t capacity, struct rpki_serial_number **table, size_t *count,
+                            bool *clean) {
+    size_t size = (capacity + 2) * sizeof **table;
+    struct rpki_serial_number *room = malloc(size);
+    rpki_status status;
+    if (!room) exit(2);
+    memset(room, FILL, size);
+    memset(count, FILL, sizeof *count);
+    *table = room + 1;
+    count_allocations(0);
+    status = rpki_serials(entries.data, entries.size, room + 1, capacity, count);
+    *clean = allocations(clean) == 0;
+    count_allocations(NONE_REFUSED);
+    *clean = *clean && untouched(room, sizeof *room) && untouched(room + capacity + 1, sizeof *room);
+    if (status != RPKI_OK && status != RPKI_TOO_SMALL)
+        *clean = *clean && untouched(room, size) && untouched(count, sizeof *count);
+    return status;
+}
+
 static char *tell_octets(const uint8_t *octets, char *text) {
     size_t number;
     for (number = 0; number < 20; number++) text += sprintf(text, "%02x", octets[number]);
@@ -120,6 +140,42 @@ static void ask(unsigned line, struct rpki_span entries, const char *words) {
     judge(line, "a search", well);
     well = search(entries.data, entries.size, negative, &answer, &clean) == RPKI_CONTENT && clean && answer == FILL;
     judge(line, "a search for a number below 0", well);
+}
+
+/* Makes a table of the entries, whose serial numbers are the words, and asks it as `ask` asks the list. */
+static void look_up(unsigned line, struct rpki_span entries, const char *words) {
+    const char *all = words;
+    struct rpki_serial_number *table;
+    size_t count, at, wanted = 0;
+    bool clean, well;
+    for (; words; words = strchr(words + 1, ' ')) wanted++;
+    if (wanted > 0) {
+        well = tabulate(entries, wanted - 1, &table, &count, &clean) == RPKI_TOO_SMALL && count == wanted;
+        judge(line, "a table without room", well && clean);
+        free(table - 1);
+    }
+    well = tabulate(entries, wanted + 1, &table, &count, &clean) == RPKI_OK && clean && count == wanted;
+    well = well && untouched(table + wanted, sizeof *table);
+    for (at = 1; at < wanted; at++) well = memcmp(table[at - 1].octets, table[at].octets, 20) <= 0 && well;
+    judge(line, "a table", well);
+    for (words = all; words; words = strchr(words + 1, ' ')) {
+        uint8_t number[20];
+        char next[41];
+        hexadecimal(words + 1, number);
+        well = rpki_serials_have(table, count, number) && well;
+        number[0] ^= 0x40;
+        tell_octets(number, next);
+        well = (strstr(all, next) || !rpki_serials_have(table, count, number)) && well;
+    }
+    for (at = 0; at < 2; at++) {
+        uint8_t number[20];
+        char next[41];
+        memset(number, at == 0 ? 0 : 0xFF, sizeof number);
+        tell_octets(number, next);
+        well = ((all && strstr(all, next)) || !rpki_serials_have(table, count, number)) && well;
+    }
+    judge(line, "what a table has", well);
+    free(table - 1);
 }
 
 /* Reads the entries in order, whose serial numbers are the words. */
@@ -163,6 +219,7 @@ static void list(unsigned line, const uint8_t *octets, size_t size, const char *
     judge(line, "the parts", numbers != NULL);
     if (!numbers) return;
     ask(line, out.revoked_certs, *numbers ? numbers : NULL);
+    look_up(line, out.revoked_certs, *numbers ? numbers : NULL);
     walk(line, out.revoked_certs, *numbers ? numbers : NULL);
 }
 
@@ -171,10 +228,17 @@ static void entries(unsigned line, const uint8_t *octets, size_t size, const cha
     static const uint8_t number[20] = {0x40};
     unsigned wanted = (unsigned)strtoul(word, NULL, 10);
     unsigned char answer;
+    struct rpki_serial_number *table;
+    struct rpki_span all;
+    size_t count;
     bool clean;
     rpki_status status = search(octets, size, number, &answer, &clean);
     if (status != wanted) printf("status %u, not %u\n", status, wanted);
     judge(line, "entries", status == wanted && clean && answer == (wanted == RPKI_OK ? 0 : FILL));
+    all.data = octets, all.size = size;
+    status = tabulate(all, size, &table, &count, &clean);
+    judge(line, "a table of entries", status == wanted && clean);
+    free(table - 1);
 }
 
 static void beginnings(const uint8_t *octets, size_t size) {

@@ -411,6 +411,13 @@ const _: () = assert!(size_of::<RevokedCertificate>() == 56);
 
 #[repr(C)]
 #[derive(Clone, Copy, Default)]
+pub(crate) struct SerialNumber {
+    pub(crate) octets: [u8; 20],
+}
+const _: () = assert!(size_of::<SerialNumber>() == 20);
+
+#[repr(C)]
+#[derive(Clone, Copy, Default)]
 pub(crate) struct SignedObjectParts {
     pub(crate) content_type: Span,
     pub(crate) content: Span,
@@ -579,6 +586,14 @@ extern "C" {
     pub(super) fn rpki_crl(octets: *const u8, size: usize, out: *mut CrlParts) -> Status;
     pub(super) fn rpki_crl_entry(rest: *mut Span, out: *mut RevokedCertificate) -> Status;
     pub(super) fn rpki_crl_contains(octets: *const u8, size: usize, serial: *const [u8; 20], out: *mut bool) -> Status;
+    pub(super) fn rpki_serials(
+        octets: *const u8,
+        size: usize,
+        serials: *mut SerialNumber,
+        capacity: usize,
+        count: *mut usize,
+    ) -> Status;
+    pub(super) fn rpki_serials_have(serials: *const SerialNumber, count: usize, serial: *const [u8; 20]) -> bool;
     pub(super) fn rpki_signed_object(
         octets: *const u8,
         size: usize,
