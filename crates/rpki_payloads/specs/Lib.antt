@@ -10,6 +10,7 @@ pub mod Filtered
 pub mod Exceptions
 pub mod ExceptionsText
 pub mod Lines
+pub mod Route
 pub mod Json
 pub mod Form
 pub mod Metrics

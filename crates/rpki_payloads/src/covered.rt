@@ -2,7 +2,7 @@
 
 ghost use Rattle.std.specs.Prelude.{◌≡◌, ◌≤◌, ◌<◌, ◌-◌, ◌^◌, ◌/◌, ◌↔◌, IsTrue};
 ghost use Rattle.rpki_resources.specs.IpRead.{address_number, address_width};
-ghost use Rattle.rpki_payloads.specs.Covered.{IsCoveredBy};
+ghost use Rattle.rpki_payloads.specs.Covered.{IsCoveredBy, covers};
 
 use rpki_resources::Prefix;
 use std::net::IpAddr;
@@ -42,7 +42,8 @@ fn first_bits(addr: IpAddr, len: u8) -> u128
 
 /// Whether the addresses of the prefix are among those of the other.
 pub(crate) fn is_covered(cover: Prefix, prefix: Prefix) -> bool
-    ensures { IsTrue result ↔ IsCoveredBy cover prefix }
+    ensures meaning { IsTrue result ↔ IsCoveredBy cover prefix }
+    ensures value { result ≡ covers cover prefix }
 {
     if width_of(cover.addr) != width_of(prefix.addr) {
         return false;

@@ -3,6 +3,7 @@
 //! [vrps_of] puts route origins in order, each once, and [latest_of] does so with their ends; [sort_pairs] and
 //! [sort_keys] do so with providers and with keys of routers, and [vaps_of] puts the providers of a customer together.
 //! [Form::text_of] makes a text of the payloads of several locators, and [metrics_text] one of their numbers.
+//! [Route::text_of] says whether a route is valid by payloads, and which cover it (RFC 6811 2).
 #![tactic(auto)]
 
 mod client;
@@ -21,6 +22,7 @@ mod members;
 mod metrics;
 mod order;
 mod payloads;
+mod route;
 mod router_key;
 mod tally;
 mod timed;
@@ -35,6 +37,7 @@ pub use key_filters::KeyFilter;
 pub use metrics::metrics_text;
 pub use order::{sort_vrps, united, united_pairs, vrps_of};
 pub use payloads::Payloads;
+pub use route::{Route, RouteState};
 pub use router_key::{RouterKey, push_router_keys, sort_keys};
 pub use tally::Tally;
 pub use timed::{TimedVrp, latest_of};
