@@ -1,11 +1,15 @@
 -- Which lemma file answers which question.
 --
 -- What is left of arguments, what words ask for: ArgumentLaws, RequestLaws. Paths of objects: PathLaws. Locators in
--- files: LocatorLaws. What is found under locators: FoundLaws. A run: RunLaws.
+-- files: LocatorLaws. What is found under locators: FoundLaws. What is said under them:
+-- ToldLaws, RefusedLaws, ExplainedLaws. A run: RunLaws.
 
 mod ArgumentLaws
 mod RequestLaws
 mod PathLaws
 mod LocatorLaws
 mod FoundLaws
+mod ToldLaws
+mod RefusedLaws
+mod ExplainedLaws
 mod RunLaws

@@ -12,7 +12,7 @@ use Rattle.rpkivalid.specs.Excepted.{AreShown, Excepts, IsLocal}
 use Rattle.rpkivalid.specs.Locators.{Holds}
 use Rattle.rpkivalid.specs.Moment.{IsMomentOf}
 use Rattle.rpkivalid.specs.Request.{Asked}
-use Rattle.rpkivalid.specs.Run.{IsAnswer, IsRunOf}
+use Rattle.rpkivalid.specs.Run.{IsReply, IsRunOf}
 use Rattle.rpkivalid.specs.Run.IsRunOf.{Answered, Denied}
 use Rattle.rpkivalid.specs.Words.{Prints}
 
@@ -31,7 +31,7 @@ clock-moment word r clock e h =
 -- what is given is a run
 pub given-run : (basis : DateTime → ℕ → KeyParts → Basis) (holds : Holds) (clock : Option (Option DateTime))
     (old new before after : Option (List ℕ)) (a : Asked) (text metrics : List ℕ) (wanted status : ℕ)
-    → IsAnswer basis holds clock a text metrics wanted
+    → IsReply basis holds clock a text metrics wanted
     → (Prints old new text wanted status × Appends before after metrics) ⊎ (Appends old new [] × (status ≡ 2))
     → IsRunOf basis holds clock old new before after status a
 given-run basis holds clock old new before after a text metrics wanted status h (inl p) =

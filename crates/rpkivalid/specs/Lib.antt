@@ -9,8 +9,16 @@ pub mod Counted
 pub mod Ends
 pub mod Found
 pub mod Excepted
+pub mod Reasons
+pub mod Walked
+pub mod Told
+pub mod Refused
+pub mod Question
+pub mod Explained
 pub mod Run
 pub mod RequestView
 pub mod LocatorsView
 pub mod FoundView
+pub mod WalkedView
+pub mod ExplainedView
 pub mod RunView

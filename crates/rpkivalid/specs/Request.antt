@@ -36,9 +36,10 @@ command_alone =
 abbrev pub command_app : App
 command_app =
     with_rule (with_rule (with_rule (with_rule (with_rule (with_rule (with_rule (with_rule (with_rule (with_rule
-    (with_rule command_alone help_flag) (flag (codes "version"))) (flag (codes "strict"))) (valued (codes "cache")))
-    (valued (codes "at"))) (valued (codes "form"))) (valued (codes "output"))) (valued (codes "depth")))
-    (valued (codes "exceptions"))) (valued (codes "metrics"))) (repeated (codes "tal"))
+    (with_rule (with_rule (with_rule command_alone help_flag) (flag (codes "version"))) (flag (codes "strict")))
+    (valued (codes "cache"))) (valued (codes "at"))) (valued (codes "form"))) (valued (codes "output")))
+    (valued (codes "depth"))) (valued (codes "exceptions"))) (valued (codes "metrics"))) (valued (codes "explain")))
+    (valued (codes "as"))) (repeated (codes "tal"))
 
 -- what `clap` matches in the words; None where it finds a fault in them
 abbrev pub matched : List (List ℕ) → Option (List Row)
@@ -73,8 +74,8 @@ strictness_of true = all_strict
 strictness_of false = none_strict
 
 -- how payloads are written, which rules are asked strictly, the folder of the copy, the text of the moment,
--- the file to write, the text of the depth, the file of local exceptions, the file of metrics, and the
--- files of locators
+-- the file to write, the text of the depth, the file of local exceptions, the file of metrics, what is to be explained,
+-- the text of an AS number, and the files of locators
 pub record Asked : Type 0 where
   pub form : Form
   pub strictness : Strictness
@@ -84,11 +85,13 @@ pub record Asked : Type 0 where
   pub depth : Option (List ℕ)
   pub exceptions : Option (List ℕ)
   pub metrics : Option (List ℕ)
+  pub explain : Option (List ℕ)
+  pub number : Option (List ℕ)
   pub locators : List (List ℕ)
 
 abbrev pub asked : Strictness → Option (List ℕ) → Option (List ℕ) → Option (List ℕ) → Option (List ℕ)
-    → Option (List ℕ) → Form → List ℕ → List (List ℕ) → Asked
-asked strictness moment output depth exceptions metrics form cache locators = record {
+    → Option (List ℕ) → Option (List ℕ) → Option (List ℕ) → Form → List ℕ → List (List ℕ) → Asked
+asked strictness moment output depth exceptions metrics explain number form cache locators = record {
   form = form;
   strictness = strictness;
   cache = cache;
@@ -97,17 +100,19 @@ asked strictness moment output depth exceptions metrics form cache locators = re
   depth = depth;
   exceptions = exceptions;
   metrics = metrics;
+  explain = explain;
+  number = number;
   locators = locators;
 }
 
--- a form, a folder, and locators; `--strict`, a moment, a file, a depth, local exceptions and a file of metrics,
+-- a form, a folder, and locators; `--strict`, a moment, files, a depth, local exceptions and what is to be explained,
 -- perhaps
 abbrev pub request_of : List Row → Option Asked
 request_of rows =
     option_and_then (λ form. option_and_then (λ cache. option_map
     (asked (strictness_of (is_given (codes "strict") rows)) (first_of (codes "at") rows)
     (first_of (codes "output") rows) (first_of (codes "depth") rows) (first_of (codes "exceptions") rows)
-    (first_of (codes "metrics") rows) form cache)
+    (first_of (codes "metrics") rows) (first_of (codes "explain") rows) (first_of (codes "as") rows) form cache)
     (some_files (all_of (codes "tal") rows)))
     (first_of (codes "cache") rows)) (form_of (first_of (codes "form") rows))
 

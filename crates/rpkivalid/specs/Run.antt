@@ -8,10 +8,13 @@ use Rattle.rpki_payloads.specs.Form.{IsTextIn}
 use Rattle.rpki_payloads.specs.Metrics.{metrics_text}
 use Rattle.rpki_payloads.specs.Payloads.{PayloadParts}
 use Rattle.rpki_validation.specs.Basis.{Basis}
+use Rattle.rpkivalid.specs.declared.question.Question.{Question}
 use Rattle.rpkivalid.specs.Excepted.{AreShown}
+use Rattle.rpkivalid.specs.Explained.{IsExplanation}
 use Rattle.rpkivalid.specs.Found.{AreFound, IsFoundIn, basis_with}
 use Rattle.rpkivalid.specs.Locators.{AreLocatorsIn, Holds, NamedParts}
 use Rattle.rpkivalid.specs.Moment.{IsDepth, IsMomentOf}
+use Rattle.rpkivalid.specs.Question.{IsQuestion}
 use Rattle.rpkivalid.specs.Request.{Asked}
 use Rattle.rpkivalid.specs.Words.{Prints}
 
@@ -45,11 +48,35 @@ pub record IsAnswer (basis : DateTime → ℕ → KeyParts → Basis) (holds : H
   pub known : IfSome holds (λ files. read ≡ true)
   pub status_is : status ≡ status_of anchored read
 
+-- The text explains what is to be explained, by what is found under the locators that are asked for at that moment; and
+-- this is the status.
+pub record IsExplained (basis : DateTime → ℕ → KeyParts → Basis) (holds : Holds) (clock : Option (Option DateTime))
+    (a : Asked) (text : List ℕ) (status : ℕ) : Type 0 where
+  pub at : DateTime
+  pub moment : IsMomentOf clock a.moment at
+  pub depth : ℕ
+  pub deep : IsDepth a.depth depth
+  pub question : Question
+  pub asks : IsQuestion a.explain a.number (Some question)
+  pub anchored : Bool
+  pub told : IsExplanation (basis at depth) holds a question text anchored
+  pub read : Bool
+  pub known : IfSome holds (λ files. read ≡ true)
+  pub status_is : status ≡ status_of anchored read
+
+-- the payloads with their metrics, where nothing is to be explained; or the explanation without any
+pub data IsReply (basis : DateTime → ℕ → KeyParts → Basis) (holds : Holds) (clock : Option (Option DateTime))
+    (a : Asked) (text metrics : List ℕ) (status : ℕ) : Type 0 where
+  OfPayloads : IsQuestion a.explain a.number None → IsAnswer basis holds clock a text metrics status
+      → IsReply basis holds clock a text metrics status
+  OfQuestion : IsExplained basis holds clock a text status → metrics ≡ []
+      → IsReply basis holds clock a text metrics status
+
 -- The run of what is asked for: the answer, with its metrics and its status, of which a beginning is written where the
 -- output fails; or nothing, with the status 2.
 pub data IsRunOf (basis : DateTime → ℕ → KeyParts → Basis) (holds : Holds) (clock : Option (Option DateTime))
     (old new before after : Option (List ℕ)) (status : ℕ) (a : Asked) : Type 0 where
-  Answered : (text metrics : List ℕ) (wanted : ℕ) → IsAnswer basis holds clock a text metrics wanted
+  Answered : (text metrics : List ℕ) (wanted : ℕ) → IsReply basis holds clock a text metrics wanted
       → Prints old new text wanted status → Appends before after metrics
       → IsRunOf basis holds clock old new before after status a
   Denied : Appends old new [] → status ≡ 2 → IsRunOf basis holds clock old new before after status a
@@ -59,6 +86,10 @@ module _ {X : Type 0} (rsa ecdsa : X → Check) (sha1 sha256 : X → List ℕ �
   -- the answer, by a provider's signatures and digests
   abbrev pub Answers : Asked → List ℕ → List ℕ → ℕ → Type 0
   Answers a = IsAnswer (basis_with rsa ecdsa sha1 sha256 provider a.strictness) holds clock a
+
+  -- the answer or the explanation
+  abbrev pub Replies : Asked → List ℕ → List ℕ → ℕ → Type 0
+  Replies a = IsReply (basis_with rsa ecdsa sha1 sha256 provider a.strictness) holds clock a
 
 -- the run, by a provider's signatures and digests, of what sources hold, into two outputs
 abbrev pub Runs : {X S A B : Type 0} → (X → Check) → (X → Check) → (X → List ℕ → List ℕ) → (X → List ℕ → List ℕ) → X

@@ -7,7 +7,7 @@ use Rattle.rpkivalid.specs.declared.request.Request.{Request}
 use Rattle.rpkivalid.specs.declared.run.Answer.{Answer}
 use Rattle.rpkivalid.specs.Locators.{Holds}
 use Rattle.rpkivalid.specs.RequestView.{asked_of}
-use Rattle.rpkivalid.specs.Run.{Answers}
+use Rattle.rpkivalid.specs.Run.{Answers, Replies}
 use Rattle.rpkivalid.specs.Words.{Prints}
 
 -- the metrics and the text are written, or a beginning of the text where the output fails; or no text, where the faults
@@ -23,4 +23,11 @@ abbrev pub AnswersTo : {X : Type 0} → (X → Check) → (X → Check) → (X �
     → Holds → Option (Option DateTime) → Request → Answer → Type 0
 AnswersTo rsa ecdsa sha1 sha256 provider holds clock request answer =
     Answers rsa ecdsa sha1 sha256 provider holds clock (asked_of request) answer.text.items answer.metrics.items
+    answer.status
+
+-- the answer or the explanation
+abbrev pub RepliesTo : {X : Type 0} → (X → Check) → (X → Check) → (X → List ℕ → List ℕ) → (X → List ℕ → List ℕ) → X
+    → Holds → Option (Option DateTime) → Request → Answer → Type 0
+RepliesTo rsa ecdsa sha1 sha256 provider holds clock request answer =
+    Replies rsa ecdsa sha1 sha256 provider holds clock (asked_of request) answer.text.items answer.metrics.items
     answer.status

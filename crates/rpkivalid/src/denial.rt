@@ -1,6 +1,6 @@
 //! Why nothing is written.
 
-use crate::words::{NO_DEPTH, NO_MOMENT, OUT_OF_MEMORY};
+use crate::words::{NO_DEPTH, NO_MOMENT, NO_ROUTE, NO_URI, OUT_OF_MEMORY};
 use rpki_locator::LocatorError;
 use rpki_payloads::ExceptionsError;
 use std::alloc::{AllocError, AllocFailed, Global};
@@ -12,6 +12,10 @@ pub enum Denial {
     NoMoment,
     /// The word is no number of authorities.
     NoDepth,
+    /// The word is no rsync URI.
+    NoUri,
+    /// The words are no prefix and AS number.
+    NoRoute,
     /// There is no file of this number among those of locators, or it can't be read.
     NoFile(usize),
     /// What is in the file of this number is no locator.
@@ -103,6 +107,8 @@ impl Denial {
         match self {
             Denial::NoMoment => Vec::from_slice(alloc, NO_MOMENT),
             Denial::NoDepth => Vec::from_slice(alloc, NO_DEPTH),
+            Denial::NoUri => Vec::from_slice(alloc, NO_URI),
+            Denial::NoRoute => Vec::from_slice(alloc, NO_ROUTE),
             Denial::NoFile(at) => {
                 let file = file_at(files, at);
                 let text = format!(in alloc; "rpkivalid: {file}: cannot be read\n")?;

@@ -19,7 +19,7 @@ struct Files<'a> {
     metrics: Option<&'a str>,
 }
 
-/// The names of the files that the words ask to be written.
+/// The names of the files that the words ask to be written. An explanation has no metrics.
 fn files_of<'a>(alloc: Global, words: &'a [String]) -> Result<Files<'a>, AllocError> {
     let none = Files {
         output: None,
@@ -34,7 +34,10 @@ fn files_of<'a>(alloc: Global, words: &'a [String]) -> Result<Files<'a>, AllocEr
     match Request::of(&matches) {
         Some(request) => Ok(Files {
             output: request.output,
-            metrics: request.metrics,
+            metrics: match request.explain {
+                Some(_) => None,
+                None => request.metrics,
+            },
         }),
         None => Ok(none),
     }

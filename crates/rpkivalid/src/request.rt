@@ -31,6 +31,10 @@ pub struct Request<'m, 'a> {
     pub exceptions: Option<&'a str>,
     /// The name of the file of metrics to write.
     pub metrics: Option<&'a str>,
+    /// What is to be explained: a URI, or a prefix.
+    pub explain: Option<&'a str>,
+    /// The AS number of a route that is to be explained.
+    pub number: Option<&'a str>,
     /// The names of the files of locators.
     pub locators: &'m [&'a str],
 }
@@ -87,6 +91,8 @@ fn command<'a>(alloc: Global) -> Result<Command<'a>, AllocError>
         .arg(valued(alloc, "depth"))?
         .arg(valued(alloc, "exceptions"))?
         .arg(valued(alloc, "metrics"))?
+        .arg(valued(alloc, "explain"))?
+        .arg(valued(alloc, "as"))?
         .arg(repeated(alloc, "tal"))
 }
 
@@ -165,8 +171,8 @@ fn strictness_of(strict: bool) -> Strictness
 }
 
 impl<'m, 'a> Request<'m, 'a> {
-    /// What is asked for: a form, the folder of a copy, and locators; and a moment, a file, a depth, local
-    /// exceptions, and a file of metrics, perhaps. None if there is no folder, no locator, or no such form.
+    /// What is asked for: a form, the folder of a copy, and locators; and a moment, a depth, files, local exceptions,
+    /// and what is to be explained, perhaps. None if there is no folder, no locator, or no such form.
     pub fn of(matches: &'m ArgMatches<'a>) -> Option<Request<'m, 'a>>
         ensures { option_map asked_of result ≡ request_of (rows_in matches.entry.now) }
     {
@@ -182,6 +188,8 @@ impl<'m, 'a> Request<'m, 'a> {
             depth: matches.get_str("depth"),
             exceptions: matches.get_str("exceptions"),
             metrics: matches.get_str("metrics"),
+            explain: matches.get_str("explain"),
+            number: matches.get_str("as"),
             locators,
         })
     }

@@ -7,15 +7,17 @@ ghost use Rattle.rpkivalid.specs.Moment.{IsDepth, IsMomentOf, IsNoDepth};
 ghost use Rattle.rpkivalid.specs.Request.{help, version};
 ghost use Rattle.rpkivalid.specs.RequestView.{asked_of, wanted_by, Asks, AskHelp, AskVersion, AskRun, AskNothing};
 ghost use Rattle.rpkivalid.specs.Run.{metrics_for, status_of, Runs};
-ghost use Rattle.rpkivalid.specs.RunView.{AnswersTo, Gives};
+ghost use Rattle.rpkivalid.specs.RunView.{AnswersTo, Gives, RepliesTo};
 ghost use Rattle.rpkivalid.specs.Words.{Prints, PrintsAlone, usage_text};
 
 use crate::arguments::Wordless;
 use crate::denial::Denial;
 use crate::excepted::{exceptions_in, shown_of};
+use crate::explained::{Explained, explain};
 use crate::found::{Found, found_under_all};
 use crate::locators::locators_in;
 use crate::moment::named_moment;
+use crate::question::question_of;
 use crate::report::push_counts;
 use crate::request::{Request, is_given, matched};
 use crate::sources::Sources;
@@ -125,6 +127,39 @@ fn answer_at<S: Sources, P: Provider>(
     })
 }
 
+/// What is asked for, or the explanation of what is to be explained, at this moment and to this depth. Adds to the
+/// report what is rejected.
+fn reply_at<S: Sources, P: Provider>(
+    alloc: Global,
+    request: &Request<'_, '_>,
+    host: &S,
+    crypto: &P,
+    at: Time,
+    depth: u32,
+    report: &mut Vec<u8>,
+) -> Result<Answer, Denial>
+    requires moment { IsMomentOf (S.clock host.now) (asked_of request.now).moment at }
+    requires depth { IsDepth (asked_of request.now).depth depth }
+    ensures { IfOk result (RepliesTo P.rsa_of P.ecdsa_of P.sha1_of P.sha256_of crypto.now (S.holds host.now)
+        (S.clock host.now) request.now) }
+{
+    let asked = question_of(alloc, request.explain, request.number)?;
+    match asked {
+        Some(question) => {
+            let explained = explain(alloc, &question, request, host, crypto, at, depth, report)?;
+            let Explained { text, have_anchors } = explained;
+            let status = status_of(have_anchors, host.is_read());
+            let metrics = Vec::new(alloc);
+            Ok(Answer {
+                text,
+                metrics,
+                status,
+            })
+        }
+        None => answer_at(alloc, request, host, crypto, at, depth, report),
+    }
+}
+
 /// What is asked for. Adds to the report what is rejected.
 fn answer_of<S: Sources, P: Provider>(
     alloc: Global,
@@ -133,12 +168,12 @@ fn answer_of<S: Sources, P: Provider>(
     crypto: &P,
     report: &mut Vec<u8>,
 ) -> Result<Answer, Denial>
-    ensures { IfOk result (AnswersTo P.rsa_of P.ecdsa_of P.sha1_of P.sha256_of crypto.now (S.holds host.now)
+    ensures { IfOk result (RepliesTo P.rsa_of P.ecdsa_of P.sha1_of P.sha256_of crypto.now (S.holds host.now)
         (S.clock host.now) request.now) }
 {
     match moment_at(host, request.moment) {
         Some(at) => match depth_of(request.depth) {
-            Some(depth) => answer_at(alloc, request, host, crypto, at, depth, report),
+            Some(depth) => reply_at(alloc, request, host, crypto, at, depth, report),
             None => Err(Denial::NoDepth),
         },
         None => Err(Denial::NoMoment),
@@ -258,9 +293,10 @@ fn respond<S: Sources, P: Provider, W: Write, M: Write, F: Write>(
 ///
 /// `--help` and `--version` print a text. Else what is written to the output are the payloads that are valid at the
 /// moment in the copy, under the locators, with the local exceptions that are asked for: exactly these, each once, in
-/// order, in the form that is asked for; all of them or, where the output fails, a beginning. Before that
-/// their metrics are written, where they are asked for. To the faults goes a line
-/// for each object that is rejected, or why there are no payloads. Of other words it is how the program is used.
+/// order, in the form that is asked for; all of them or, where the output fails, a beginning. Before that their metrics
+/// go to the sink, where they are asked for. Where an object or a route is to be explained it is that, in their place,
+/// without metrics. To the faults goes a line for each object that is rejected, or why there are no payloads. Of other
+/// words it is how the program is used.
 ///
 /// The status is 0 if all is written; 1 if all is, but a locator has no trust anchor, or a file that is there could not
 /// be read; 2 for other words, without a moment or a locator, if allocation fails, if the output, the metrics or the

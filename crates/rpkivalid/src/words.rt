@@ -3,7 +3,8 @@
 /// How the program is used.
 pub const USAGE: &[u8] = b"usage: rpkivalid --tal FILE.. --cache FOLDER [--at MOMENT] \
 [--form csv|json|rpki-client|openbgpd|bird] [--output FILE] \
-[--exceptions FILE] [--metrics FILE] [--depth N] [--strict]\n";
+[--exceptions FILE] [--metrics FILE] [--depth N] [--strict] \
+[--explain URI|PREFIX [--as NUMBER]]\n";
 
 /// The program's name and version.
 pub const VERSION: &[u8] = b"rpkivalid 0.2.0\n";
@@ -20,6 +21,12 @@ pub const NO_MOMENT: &[u8] = b"rpkivalid: no such moment\n";
 /// What is said where the word is no number of authorities.
 pub const NO_DEPTH: &[u8] = b"rpkivalid: no such depth\n";
 
+/// What is said where the word is no rsync URI.
+pub const NO_URI: &[u8] = b"rpkivalid: not an rsync URI\n";
+
+/// What is said where the words are no prefix and AS number.
+pub const NO_ROUTE: &[u8] = b"rpkivalid: not a prefix and an AS number\n";
+
 /// What `--help` prints.
 pub const HELP: &[u8] = b"\
 rpkivalid - validate a local copy of a repository of the RPKI
@@ -27,15 +34,16 @@ rpkivalid - validate a local copy of a repository of the RPKI
 usage: rpkivalid --tal FILE.. --cache FOLDER [--at MOMENT]
                  [--form csv|json|rpki-client|openbgpd|bird] [--output FILE]
                  [--exceptions FILE] [--metrics FILE] [--depth N] [--strict]
+                 [--explain URI|PREFIX [--as NUMBER]]
        rpkivalid -h | --help
        rpkivalid --version
 
 Writes the payloads that are valid at the moment: which AS may announce which
 prefix; in JSON also the providers of ASes and the keys of routers, in OpenBGPD's
-form the providers. They are signed down from the key of a trust anchor, whose locator (RFC
-8630) is in FILE; --tal may be given several times. Nothing is written before
-all is known. What is rejected, and why, is told on standard error, an object a
-line, and how many payloads there are.
+form the providers. They are signed down from the key of a trust anchor, whose
+locator (RFC 8630) is in FILE; --tal may be given several times. Nothing is
+written before all is known. What is rejected, and why, is told on standard error,
+an object a line, and how many payloads there are.
 
   --tal FILE      the locator of a trust anchor, whose name is that of the file
   --cache FOLDER  the copy: an object at rsync://HOST/PATH is FOLDER/HOST/PATH, as
@@ -54,6 +62,11 @@ line, and how many payloads there are.
   --depth N       at most N authorities below a trust anchor; 32 by default
   --strict        hold names to their profile, signed objects to RFC 9589, and
                   the families of a route origin to their order
+  --explain URI   in place of the payloads, why the object at an rsync URI counts or
+                  not: where it is rejected, by which rule, and what lists it
+  --explain PREFIX --as NUMBER
+                  whether the route is valid, invalid or not found (RFC 6811), and
+                  the payloads that cover it
 
 Exit status: 0 if all is written; 1 if all is written, but a locator has no trust
 anchor, or a file that is there could not be read; 2 if nothing is written: for a

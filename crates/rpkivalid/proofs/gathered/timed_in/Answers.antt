@@ -1,4 +1,3 @@
-use Rattle.std.proofs.Common.{◌≡◌}
 use Rattle.rpki_payloads.proofs.ExceptionLaws.{each-next}
 use Rattle.rpkivalid.specs.Ends.{IsTimed}
 use Rattle.rpkivalid.proofs.gathered.timed_in.Goals as goal

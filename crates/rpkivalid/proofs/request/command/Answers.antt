@@ -25,5 +25,9 @@ returns c =
     ∙ ap₂ with_rule depth c.valued-6.ensures.rule in
     let metrics = c.in_ok-arg-10.ensures.shape c.valued-7.ensures.local
     ∙ ap₂ with_rule exceptions c.valued-7.ensures.rule in
-    IfOk-weaker c.arg-11.result _ _ (λ r h. h.shape c.repeated.ensures.local
-    ∙ ap₂ with_rule metrics c.repeated.ensures.rule) c.arg-11.ensures
+    let explain = c.in_ok-arg-11.ensures.shape c.valued-8.ensures.local
+    ∙ ap₂ with_rule metrics c.valued-8.ensures.rule in
+    let number = c.in_ok-arg-12.ensures.shape c.valued-9.ensures.local
+    ∙ ap₂ with_rule explain c.valued-9.ensures.rule in
+    IfOk-weaker c.arg-13.result _ _ (λ r h. h.shape c.repeated.ensures.local
+    ∙ ap₂ with_rule number c.repeated.ensures.rule) c.arg-13.ensures

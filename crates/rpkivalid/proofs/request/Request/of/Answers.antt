@@ -56,7 +56,9 @@ returns c =
     let depth = c.get_str-5.ensures ∙ first_value-rows (found_of c.args.matches.now) (codes "depth") in
     let exceptions = c.get_str-6.ensures ∙ first_value-rows (found_of c.args.matches.now) (codes "exceptions") in
     let metrics = c.get_str-7.ensures ∙ first_value-rows (found_of c.args.matches.now) (codes "metrics") in
-    of-all rows _ _ _ _ _ _ c.in_ok-form.form c.in_ok-cache.cache.now
+    let explain = c.get_str-8.ensures ∙ first_value-rows (found_of c.args.matches.now) (codes "explain") in
+    let number = c.get_str-9.ensures ∙ first_value-rows (found_of c.args.matches.now) (codes "as") in
+    of-all rows _ _ _ _ _ _ _ _ c.in_ok-form.form c.in_ok-cache.cache.now
     (map (λ file. file.now) c.in_ok-locators.locators.now)
     (c.strictness_of.ensures ∙ ap strictness_of c.is_given.ensures) moment output depth exceptions metrics
-    (sym form ∙ named) (rw cache at folder) (rw files at all)
+    explain number (sym form ∙ named) (rw cache at folder) (rw files at all)

@@ -1,0 +1,9 @@
+use Rattle.std.proofs.Common.{◌≡◌, ◌++◌, length}
+use Rattle.rpkivalid.proofs.refused.collected.Given as goal
+
+-- those that are left follow
+abbrev pub invariant-origins : goal.invariant-origins
+invariant-origins l = l.fn.rest ≡ l.all.items ++ l.rest
+
+abbrev pub decreases-origins : goal.decreases-origins
+decreases-origins l = length l.rest

@@ -1,0 +1,84 @@
+-- What is explained: why an object counts or not, and what payloads say of a route.
+use Rattle.std.specs.Prelude.{◌≡◌, ◌&&◌, ℕ, Bool, true, List, [], ◌∷◌, ◌++◌, IfSome}
+use Rattle.rpki.specs.PublicKey.{KeyParts}
+use Rattle.rpki_objects.specs.declared.strictness.Strictness.{Strictness}
+use Rattle.rpki_payloads.specs.declared.route.Route.{Route}
+use Rattle.rpki_payloads.specs.Payloads.{PayloadParts}
+use Rattle.rpki_payloads.specs.Route.{IsRouteText}
+use Rattle.rpki_text.specs.RsyncText.{uri_of}
+use Rattle.rpki_validation.specs.Basis.{Basis}
+use Rattle.rpkivalid.specs.declared.question.Question.{Question}
+use Rattle.rpkivalid.specs.declared.question.Question.TheVariants.{Object, Origin}
+use Rattle.rpkivalid.specs.declared.walked.Walk.{Walk}
+use Rattle.rpkivalid.specs.Excepted.{AreShown}
+use Rattle.rpkivalid.specs.Found.{AreFound, IsFoundIn}
+use Rattle.rpkivalid.specs.Locators.{AreLocatorsIn, Holds, NamedParts}
+use Rattle.rpkivalid.specs.Paths.{object_path}
+use Rattle.rpkivalid.specs.Refused.{AreRefusedIn}
+use Rattle.rpkivalid.specs.Request.{Asked}
+use Rattle.rpkivalid.specs.Told.{file_text, is_found}
+use Rattle.rpkivalid.specs.Walked.{IsWalkIn, without}
+
+-- What is said of the object at a URI under a locator: by what is found, and by what is found where there is no such
+-- file; and whether the locator has a trust anchor.
+pub record IsToldIn (holds : Holds) (folder : List ℕ) (basis : KeyParts → Basis) (uri : List ℕ) (l : NamedParts)
+    (text : List ℕ) (anchored : Bool) : Type 0 where
+  pub found : Walk
+  pub found_is : IsWalkIn holds folder basis l found
+  pub left : Walk
+  pub left_is : IsWalkIn (without (object_path folder (uri_of uri)) holds) folder basis l left
+  pub text_is : text ≡ file_text l.name uri found left
+  pub anchored_is : anchored ≡ is_found found
+
+-- What attestations that are rejected under a locator say of a route, and whether it has a trust anchor.
+pub record IsRefusedUnder (holds : Holds) (folder : List ℕ) (strictness : Strictness) (basis : KeyParts → Basis)
+    (route : Route) (l : NamedParts) (text : List ℕ) (anchored : Bool) : Type 0 where
+  pub found : Walk
+  pub found_is : IsWalkIn holds folder basis l found
+  pub text_is : IfSome holds (λ files. AreRefusedIn files folder strictness route l.name found text)
+  pub anchored_is : anchored ≡ is_found found
+
+-- the one or the other
+abbrev pub IsToldOf : Holds → List ℕ → Strictness → (KeyParts → Basis) → Question → NamedParts → List ℕ → Bool → Type 0
+IsToldOf holds folder strictness basis (Object uri) = IsToldIn holds folder basis uri
+IsToldOf holds folder strictness basis (Origin route) = IsRefusedUnder holds folder strictness basis route
+
+-- what is said under all locators, in their order; and whether each of them has a trust anchor
+abbrev pub AreTold : (NamedParts → List ℕ → Bool → Type 0) → List NamedParts → List ℕ → Bool → Type 0
+AreTold R [] text all = (text ≡ []) × (all ≡ true)
+AreTold R (l ∷ ls) text all =
+    (one : List ℕ) × (more : List ℕ) × (anchored : Bool) × (others : Bool) × R l one anchored × AreTold R ls more others
+    × (text ≡ one ++ more) × (all ≡ (anchored && others))
+
+-- what is said of what is asked under the locators that are asked for
+pub record IsTold (basis : KeyParts → Basis) (holds : Holds) (a : Asked) (question : Question) (text : List ℕ)
+    (anchored : Bool) : Type 0 where
+  pub locators : List NamedParts
+  pub there : AreLocatorsIn holds a.locators locators
+  pub told : AreTold (IsToldOf holds a.cache a.strictness basis question) locators text anchored
+
+-- what the payloads under the locators say of the route, with the local exceptions that are asked for (RFC 6811 2)
+pub record IsRouteTold (basis : KeyParts → Basis) (holds : Holds) (a : Asked) (route : Route) (text : List ℕ)
+    (anchored : Bool) : Type 0 where
+  pub locators : List NamedParts
+  pub there : AreLocatorsIn holds a.locators locators
+  pub found : List PayloadParts
+  pub each : AreFound (IsFoundIn holds a.cache basis) locators found anchored
+  pub shown : List PayloadParts
+  pub excepted : AreShown holds a.exceptions found shown
+  pub told : IsRouteText route shown text
+
+-- what payloads say of the route, and then what attestations that are rejected say of it
+pub record IsOriginTold (basis : KeyParts → Basis) (holds : Holds) (a : Asked) (route : Route) (text : List ℕ)
+    (anchored : Bool) : Type 0 where
+  pub said : List ℕ
+  pub says : IsRouteTold basis holds a route said anchored
+  pub refused : List ℕ
+  pub others : Bool
+  pub refuses : IsTold basis holds a (Origin route) refused others
+  pub text_is : text ≡ said ++ refused
+
+-- of an object, or of a route
+abbrev pub IsExplanation : (KeyParts → Basis) → Holds → Asked → Question → List ℕ → Bool → Type 0
+IsExplanation basis holds a (Object uri) text anchored = IsTold basis holds a (Object uri) text anchored
+IsExplanation basis holds a (Origin route) text anchored = IsOriginTold basis holds a route text anchored

@@ -1,0 +1,57 @@
+-- What attestations of route origins that are rejected say of a route. Nothing of them is verified.
+use Rattle.std.specs.Prelude.{◌≡◌, ◌⊎◌, ℕ, List, [], ◌∷◌, ◌++◌, codes, Option, Some, None, if◌then◌else◌}
+use Rattle.std.specs.List.{flat_map}
+use Rattle.rpki_contents.specs.declared.route_origin.RouteOrigin.{RouteOrigin}
+use Rattle.rpki_contents.specs.Roa.{AttestationParts}
+use Rattle.rpki_contents.specs.RouteOrigin.{origins}
+use Rattle.rpki_objects.specs.declared.strictness.Strictness.{Strictness}
+use Rattle.rpki_objects.specs.TypedObject.{TypedParts, origin_object}
+use Rattle.rpki_payloads.specs.declared.route.Route.{Route}
+use Rattle.rpki_payloads.specs.Route.{is_covered_by, payload_text}
+use Rattle.rpki_payloads.specs.Vrp.{vrp_of}
+use Rattle.rpki_text.specs.RsyncText.{uri_of}
+use Rattle.rpki_validation.specs.declared.outcome.Rejection.{Rejection}
+use Rattle.rpki_validation.specs.Finding.{IsNone}
+use Rattle.rpkivalid.specs.declared.walked.Walk.{Walk}
+use Rattle.rpkivalid.specs.declared.walked.Walk.TheVariants.{Found, NoAnchor}
+use Rattle.rpkivalid.specs.Paths.{object_path}
+use Rattle.rpkivalid.specs.Told.{rejected_line}
+
+-- the octets are an attestation
+abbrev pub IsAttestationIn : Strictness → List ℕ → TypedParts AttestationParts → Type 0
+IsAttestationIn strictness octets x = (origin_object strictness).spells x octets
+
+-- what the octets say as an attestation; nothing where they are none
+abbrev pub SaysUnverified : Strictness → List ℕ → List RouteOrigin → Type 0
+SaysUnverified strictness octets all =
+    ((x : TypedParts AttestationParts) × IsAttestationIn strictness octets x × (all ≡ origins x.content))
+    ⊎ (IsNone (IsAttestationIn strictness octets) × (all ≡ []))
+
+abbrev pub SaysIn : Strictness → Option (List ℕ) → List RouteOrigin → Type 0
+SaysIn strictness None all = all ≡ []
+SaysIn strictness (Some octets) all = SaysUnverified strictness octets all
+
+-- what the object at the URI says; nothing where there is none
+abbrev pub SaysAt : (List ℕ → Option (List ℕ)) → List ℕ → Strictness → Option (List ℕ) → List RouteOrigin → Type 0
+SaysAt files folder strictness None all = all ≡ []
+SaysAt files folder strictness (Some uri) all = SaysIn strictness (files (object_path folder (uri_of uri))) all
+
+-- the payload that it would be, and why it isn't; nothing where it doesn't cover the route
+abbrev pub refused_line : Route → List ℕ → Rejection → RouteOrigin → List ℕ
+refused_line route name r o =
+    if is_covered_by route (vrp_of o) then payload_text (vrp_of o) ++ codes ": " ++ rejected_line name r else []
+
+-- of all that is rejected
+abbrev pub AreRefused : (List ℕ → Option (List ℕ)) → List ℕ → Strictness → Route → List ℕ → List Rejection → List ℕ
+    → Type 0
+AreRefused files folder strictness route name [] text = text ≡ []
+AreRefused files folder strictness route name (r ∷ rs) text =
+    (all : List RouteOrigin) × (more : List ℕ) × SaysAt files folder strictness r.uri all
+    × AreRefused files folder strictness route name rs more
+    × (text ≡ flat_map (refused_line route name r) all ++ more)
+
+-- under a locator: nothing where it has no trust anchor
+abbrev pub AreRefusedIn : (List ℕ → Option (List ℕ)) → List ℕ → Strictness → Route → List ℕ → Walk → List ℕ → Type 0
+AreRefusedIn files folder strictness route name (NoAnchor reason) text = text ≡ []
+AreRefusedIn files folder strictness route name (Found o) text =
+    AreRefused files folder strictness route name o.rejections.items text

@@ -1,0 +1,273 @@
+//! What is explained: why an object counts or not, and what payloads say of a route.
+
+ghost use Rattle.std.specs.Prelude.{◌≡◌, ◌&&◌, IfOk, IfSome};
+ghost use Rattle.rpkivalid.specs.ExplainedView.{AreToldBy, Explains, IsObjectToldBy, IsRefusedBy, IsToldBy, Tells};
+ghost use Rattle.rpkivalid.specs.ExplainedView.{TellsRoute};
+ghost use Rattle.rpkivalid.specs.Refused.{AreRefusedIn};
+ghost use Rattle.rpkivalid.specs.Told.{is_found};
+
+use crate::denial::Denial;
+use crate::excepted::{exceptions_in, shown_of};
+use crate::found::{Found, found_under_all};
+use crate::locators::{Named, locators_in};
+use crate::paths::object_path;
+use crate::question::Question;
+use crate::refused::refused_text;
+use crate::request::Request;
+use crate::sources::Sources;
+use crate::told::file_text;
+use crate::walked::{Walk, walk_of};
+use crate::without::Without;
+use rpki::crypto::Provider;
+use rpki::repository::x509::Time;
+use rpki::uri::Rsync;
+use rpki_objects::Strictness;
+use rpki_payloads::Route;
+use std::alloc::{AllocError, Global};
+
+/// Whether a trust anchor is found.
+fn is_found(walk: &Walk) -> bool
+    ensures { result ≡ is_found walk.now }
+{
+    match walk {
+        Walk::Found(_) => true,
+        Walk::NoAnchor(_) => false,
+    }
+}
+
+/// What is said of the object under the locator, and whether that has a trust anchor.
+fn object_under<S: Sources, P: Provider>(
+    alloc: Global,
+    sources: &S,
+    folder: &str,
+    provider: &P,
+    strictness: Strictness,
+    depth: u32,
+    at: Time,
+    uri: &Rsync,
+    named: &Named,
+) -> Result<(Vec<u8>, bool), AllocError>
+    ensures { IfOk result (IsObjectToldBy P.rsa_of P.ecdsa_of P.sha1_of P.sha256_of provider.now
+        (S.holds sources.now) folder.now strictness at depth uri.now named.now) }
+{
+    let path = object_path(alloc, folder, &uri.view())?;
+    let others = Without {
+        sources,
+        path: path.as_str(),
+    };
+    let found = walk_of(
+        alloc, sources, folder, provider, strictness, depth, at, named,
+    )?;
+    let left = walk_of(
+        alloc, &others, folder, provider, strictness, depth, at, named,
+    )?;
+    let text = file_text(alloc, named.name.as_str(), uri, &found, &left)?;
+    Ok((text, is_found(&found)))
+}
+
+/// What attestations that are rejected under the locator say of the route; nothing if there is no trust anchor.
+fn refused_in<S: Sources>(
+    alloc: Global,
+    sources: &S,
+    folder: &str,
+    strictness: Strictness,
+    route: Route,
+    name: &str,
+    found: &Walk,
+) -> Result<Vec<u8>, AllocError>
+    ensures { IfOk result (λ text. IfSome (S.holds sources.now) (λ files. AreRefusedIn files folder.now strictness
+        route name.now found.now text.items)) }
+{
+    match found {
+        Walk::Found(outcome) => {
+            let rejections = outcome.rejections.as_slice();
+            refused_text(alloc, sources, folder, strictness, route, name, rejections)
+        }
+        Walk::NoAnchor(_) => Ok(Vec::new(alloc)),
+    }
+}
+
+/// What attestations that are rejected under the locator say of the route, and whether that has a trust anchor.
+fn refused_under<S: Sources, P: Provider>(
+    alloc: Global,
+    sources: &S,
+    folder: &str,
+    provider: &P,
+    strictness: Strictness,
+    depth: u32,
+    at: Time,
+    route: Route,
+    named: &Named,
+) -> Result<(Vec<u8>, bool), AllocError>
+    ensures { IfOk result (IsRefusedBy P.rsa_of P.ecdsa_of P.sha1_of P.sha256_of provider.now (S.holds sources.now)
+        folder.now strictness at depth route named.now) }
+{
+    let found = walk_of(
+        alloc, sources, folder, provider, strictness, depth, at, named,
+    )?;
+    let name = named.name.as_str();
+    let text = refused_in(alloc, sources, folder, strictness, route, name, &found)?;
+    Ok((text, is_found(&found)))
+}
+
+/// What is said under the locator of what is asked, and whether that has a trust anchor.
+fn told_under<S: Sources, P: Provider>(
+    alloc: Global,
+    sources: &S,
+    folder: &str,
+    provider: &P,
+    strictness: Strictness,
+    depth: u32,
+    at: Time,
+    question: &Question,
+    named: &Named,
+) -> Result<(Vec<u8>, bool), AllocError>
+    ensures { IfOk result (IsToldBy P.rsa_of P.ecdsa_of P.sha1_of P.sha256_of provider.now (S.holds sources.now)
+        folder.now strictness at depth question.now named.now) }
+{
+    match question {
+        Question::Object(uri) => object_under(
+            alloc, sources, folder, provider, strictness, depth, at, uri, named,
+        ),
+        Question::Origin(route) => refused_under(
+            alloc, sources, folder, provider, strictness, depth, at, *route, named,
+        ),
+    }
+}
+
+/// What is explained, and whether each locator has a trust anchor.
+#[derive(Drop)]
+pub struct Explained {
+    /// The text.
+    pub text: Vec<u8>,
+    /// Whether each locator has a trust anchor.
+    pub have_anchors: bool,
+}
+
+/// Whether both are so.
+fn both(one: bool, other: bool) -> bool
+    ensures { result ≡ (one && other) }
+{
+    one && other
+}
+
+/// What is said under all locators of what is asked, in their order.
+fn told_under_all<S: Sources, P: Provider>(
+    alloc: Global,
+    sources: &S,
+    folder: &str,
+    provider: &P,
+    strictness: Strictness,
+    depth: u32,
+    at: Time,
+    question: &Question,
+    locators: &[Named],
+) -> Result<Explained, AllocError>
+    ensures { IfOk result (AreToldBy P.rsa_of P.ecdsa_of P.sha1_of P.sha256_of provider.now (S.holds sources.now)
+        folder.now strictness at depth question.now locators.now) }
+{
+    let mut text = Vec::new(alloc);
+    let mut have_anchors = true;
+    let mut rest = locators;
+    'locators: while let Some((named, following)) = rest.split_first() {
+        let (one, has_anchor) = told_under(
+            alloc, sources, folder, provider, strictness, depth, at, question, named,
+        )?;
+        text.extend_from_slice(one.as_slice())?;
+        have_anchors = both(have_anchors, has_anchor);
+        rest = following;
+    }
+    Ok(Explained { text, have_anchors })
+}
+
+/// What is said under the locators that are asked for of what is asked.
+fn tell<S: Sources, P: Provider>(
+    alloc: Global,
+    question: &Question,
+    request: &Request<'_, '_>,
+    host: &S,
+    crypto: &P,
+    at: Time,
+    depth: u32,
+) -> Result<Explained, Denial>
+    ensures { IfOk result (Tells P.rsa_of P.ecdsa_of P.sha1_of P.sha256_of crypto.now (S.holds host.now)
+        at depth request.now question.now) }
+{
+    let locators = locators_in(alloc, host, request.locators)?;
+    let told = told_under_all(
+        alloc,
+        host,
+        request.cache,
+        crypto,
+        request.strictness,
+        depth,
+        at,
+        question,
+        locators.as_slice(),
+    )?;
+    Ok(told)
+}
+
+/// What the payloads under the locators that are asked for, with the local exceptions, say of the route. Adds to the
+/// report what is rejected.
+fn route_text<S: Sources, P: Provider>(
+    alloc: Global,
+    route: Route,
+    request: &Request<'_, '_>,
+    host: &S,
+    crypto: &P,
+    at: Time,
+    depth: u32,
+    report: &mut Vec<u8>,
+) -> Result<Explained, Denial>
+    ensures { IfOk result (TellsRoute P.rsa_of P.ecdsa_of P.sha1_of P.sha256_of crypto.now (S.holds host.now)
+        at depth request.now route) }
+{
+    let locators = locators_in(alloc, host, request.locators)?;
+    let local = exceptions_in(alloc, host, request.exceptions)?;
+    let found = found_under_all(
+        alloc,
+        host,
+        request.cache,
+        crypto,
+        request.strictness,
+        depth,
+        at,
+        locators.as_slice(),
+        report,
+    )?;
+    let Found {
+        payloads,
+        have_anchors,
+    } = found;
+    let shown = shown_of(alloc, local, payloads)?;
+    let text = route.text_of(alloc, shown.as_slice())?;
+    Ok(Explained { text, have_anchors })
+}
+
+/// What is asked, explained: of an object where it is rejected and what lists it, under each locator; of a route
+/// whether it is valid (RFC 6811 2), which payloads cover it, and what attestations that are rejected say of it. Adds
+/// to the report what is rejected, where a route is asked for.
+pub fn explain<S: Sources, P: Provider>(
+    alloc: Global,
+    question: &Question,
+    request: &Request<'_, '_>,
+    host: &S,
+    crypto: &P,
+    at: Time,
+    depth: u32,
+    report: &mut Vec<u8>,
+) -> Result<Explained, Denial>
+    ensures { IfOk result (Explains P.rsa_of P.ecdsa_of P.sha1_of P.sha256_of crypto.now (S.holds host.now) at depth
+        request.now question.now) }
+{
+    let told = tell(alloc, question, request, host, crypto, at, depth)?;
+    match question {
+        Question::Object(_) => Ok(told),
+        Question::Origin(route) => {
+            let mut said = route_text(alloc, *route, request, host, crypto, at, depth, report)?;
+            said.text.extend_from_slice(told.text.as_slice())?;
+            Ok(said)
+        }
+    }
+}

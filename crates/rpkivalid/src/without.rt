@@ -1,0 +1,38 @@
+//! Files but one.
+
+use crate::sources::Sources;
+use bytes::Bytes;
+use rpki::repository::x509::Time;
+use std::alloc::{AllocError, Global};
+
+/// Files but the one at this path, where there is none.
+#[derive(Drop)]
+pub struct Without<'a, S> {
+    /// The files.
+    pub sources: &'a S,
+    /// The path.
+    pub path: &'a str,
+}
+
+impl<S: Sources> Sources for Without<'_, S> {
+    ghost use Rattle.rpkivalid.specs.Walked.{without};
+
+    ghost holds = { λ w. without w.path.now (S.holds w.sources.now) };
+
+    ghost clock = { λ w. S.clock w.sources.now };
+
+    fn read(&self, alloc: Global, path: &str) -> Result<Option<Bytes>, AllocError> {
+        if path == self.path {
+            return Ok(None);
+        }
+        self.sources.read(alloc, path)
+    }
+
+    fn is_read(&self) -> bool {
+        self.sources.is_read()
+    }
+
+    fn now(&self) -> Option<Time> {
+        self.sources.now()
+    }
+}
