@@ -1,0 +1,36 @@
+-- Readers as functions: from octets to a value and what follows it, or to the number of an error (error_number).
+use Rattle.std.specs.Prelude.{◌≡◌, ℕ, ◌<◌, List, Result, Ok, Err, get_or, length}
+use Rattle.rpki_der.specs.Error.{error_number}
+use Rattle.rpki_der.specs.declared.error.DecodeError.{DecodeError}
+
+abbrev pub Parser : Type 0 → Type 0
+Parser V = List ℕ → Result (V × List ℕ) ℕ
+
+-- what a reader returned, in the words of such a function, and what it left
+abbrev pub parsed : {X V : Type 0} → (X → V) → Result X DecodeError → List ℕ → Result (V × List ℕ) ℕ
+parsed view (Ok x) r = Ok (view x, r)
+parsed view (Err e) r = Err (error_number e)
+
+-- the same of a reader of all that is left
+abbrev pub kinds : {A : Type 0} → Result A DecodeError → Result A ℕ
+kinds (Ok x) = Ok x
+kinds (Err e) = Err (error_number e)
+
+-- what is left of s by a reader of one value: less, and after an error all of it
+abbrev pub Moves : {X E : Type 0} → List ℕ → List ℕ → Result X E → Type 0
+Moves s r (Ok x) = length r < length s
+Moves s r (Err e) = r ≡ s
+
+-- one after another: the first error ends all
+abbrev pub bind : {A B E : Type 0} → Result A E → (A → Result B E) → Result B E
+bind (Ok x) K = K x
+bind (Err e) K = Err e
+
+-- an error is of this part
+abbrev pub named : {A P : Type 0} → P → Result A ℕ → Result A P
+named p (Ok x) = Ok x
+named p (Err e) = Err p
+
+-- each is an octet
+abbrev pub AreBytes : List ℕ → Type 0
+AreBytes s = (i : ℕ) → get_or s i 0 < 256
