@@ -1,5 +1,5 @@
 -- What a status says of an object beside the resources of its certificate (RFC 9582 5, RFC 9286 5.1).
-use Rattle.std.specs.Prelude.{◌≡◌, ◌⊎◌, ℕ, Bool, true, List}
+use Rattle.std.specs.Prelude.{◌≡◌, ◌⊎◌, ℕ, Bool, true, List, Ok, Err}
 use Rattle.rpki_resources.specs.declared.block.Block.{Block}
 use Rattle.rpki_resources.specs.Blocks.{IsAmong}
 use Rattle.rpki_cert.specs.declared.read.cert_part.CertPart.{CertPart}
@@ -7,8 +7,7 @@ use Rattle.rpki_cert.specs.Cert.{CertParts, SpellsCert}
 use Rattle.rpki_cert.specs.View.{IsCertWrong}
 use Rattle.rpki_contents.specs.declared.aspa_view.AspaPart.{AspaPart}
 use Rattle.rpki_contents.specs.declared.roa_view.RoaPart.{RoaPart}
-use Rattle.rpki_contents.specs.Aspa.{AspaParts, aspa}
-use Rattle.rpki_contents.specs.AspaView.{IsAspaWrong}
+use Rattle.rpki_contents.specs.AspaView.{FoundAspa, attestation}
 use Rattle.rpki_contents.specs.Roa.{AttestationParts, fields_of, roa}
 use Rattle.rpki_contents.specs.RoaView.{IsRoaWrong}
 use Rattle.rpki_contents.specs.Within.{AreWithin}
@@ -37,8 +36,8 @@ IsRoaTold strict s blocks status =
 abbrev pub IsAspaTold : List ℕ → List AsEntry → ℕ → Type 0
 IsAspaTold s blocks status =
     ((are_as_untold blocks ≡ true) × (status ≡ no_answer))
-    ⊎ ((q : AspaPart) × (status ≡ aspa_part_number q) × IsAspaWrong s q)
-    ⊎ ((x : AspaParts) × aspa.spells x s
+    ⊎ ((q : AspaPart) × (status ≡ aspa_part_number q) × (attestation s ≡ Err q))
+    ⊎ ((x : FoundAspa) × (attestation s ≡ Ok x)
     × (((status ≡ 0) × IsAmong x.customer (as_blocks blocks))
     ⊎ ((status ≡ other_resources) × (IsAmong x.customer (as_blocks blocks) → ⊥))))
 

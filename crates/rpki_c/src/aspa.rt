@@ -1,9 +1,8 @@
 //! Attestations of the providers of an autonomous system.
 
-ghost use Rattle.std.specs.Prelude.{◌≡◌};
-ghost use Rattle.rpki_contents.specs.Aspa.{AspaParts as Attestation};
-ghost use Rattle.rpki_contents.specs.AspaView.{IsAspaAt};
-ghost use Rattle.rpki_c.specs.Aspa.{aspa_part_number, HasAspa, IsAspaRead, IsProviderTaken};
+ghost use Rattle.std.specs.Prelude.{◌≡◌, Ok};
+ghost use Rattle.rpki_contents.specs.AspaView.{found_of};
+ghost use Rattle.rpki_c.specs.Aspa.{aspa_part_number, passed, IsAspaRead, IsProviderTaken};
 
 use crate::span::Span;
 use rpki_contents::{AspaPart, AspaView};
@@ -34,10 +33,9 @@ pub(crate) fn aspa_part_number(part: AspaPart) -> u8
     }
 }
 
-/// The parts of the attestation that the octets are.
-fn aspa_of<'a>(octets: &'a [u8], found: AspaView<'a>) -> AspaParts<'a>
-    requires { (x : Attestation) × IsAspaAt octets.now found x }
-    ensures { HasAspa octets.now result }
+/// The parts of the attestation.
+fn aspa_of<'a>(found: AspaView<'a>) -> AspaParts<'a>
+    ensures { Ok (passed result) ≡ found_of (Ok found.entry) }
 {
     AspaParts {
         providers: Span::of(found.providers),
@@ -57,7 +55,7 @@ pub extern "C" fn rpki_aspa<'a>(octets: &'a [u8], out: &mut AspaParts<'a>) -> u8
 {
     match AspaView::read(octets) {
         Ok(found) => {
-            *out = aspa_of(octets, found);
+            *out = aspa_of(found);
             0
         }
         Err(part) => aspa_part_number(part),

@@ -8,11 +8,13 @@
 -- What it authorizes, and whether that is within resources: OriginLaws, WithinLaws.
 -- Route origin attestations that are written: RoaWritingLaws.
 -- The providers of a customer: AspaLaws. Attestations of providers that are written: AspaWritingLaws.
--- Both in place: InPlaceLaws, AspaViewLaws, AddressViewLaws, FamilyViewLaws; where prefixes stand: StandsLaws.
+-- Both in place: InPlaceLaws, AspaViewLaws, AspaFoundLaws, AddressViewLaws, FamilyViewLaws; where prefixes stand:
+-- StandsLaws.
 -- Values whose header is two octets: ShortLaws; prefixes and files of such: ShortAddressLaws, ShortFileLaws.
 -- Lists that are written: ListedLaws.
 
 pub mod AddressViewLaws
+pub mod AspaFoundLaws
 pub mod AspaLaws
 pub mod AspaViewLaws
 pub mod AspaWritingLaws

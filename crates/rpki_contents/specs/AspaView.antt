@@ -1,82 +1,87 @@
--- Attestations of providers that are read in place: what stands where, and which part is wrong.
-use Rattle.std.specs.Prelude.{◌≡◌, ◌≢◌, ◌<◌, ℕ, true, List, [], ◌∷◌, Option, None, Some, length}
-use Rattle.rpki_der.specs.Prelude.{sequence, Refuses, Spells, SpellsNothing, SpellsContents}
+-- Attestations of providers that are read in place, as a function of their octets: what is found, or the leftmost part
+-- that is wrong. The parts are those of Aspa.antt.
+use Rattle.std.specs.Prelude.{ℕ, Bool, true, not, ◌&&◌, ◌^◌, List, Option, None, Some, Result, Ok, Err}
+use Rattle.std.specs.Prelude.{◌≡◌, length, if◌then◌else◌, nat_eq, nat_lt}
+use Rattle.rpki_der.specs.Prelude.{integer, sequence}
+use Rattle.rpki_parse.specs.Words.{Parser, bind, named}
+use Rattle.rpki_parse.specs.Value.{ended, value_at}
+use Rattle.rpki_parse.specs.Leaf.{below_in, leaf_at, number_in}
+use Rattle.rpki_parse.specs.Fold.{fold_at}
 use Rattle.rpki_contents.specs.declared.aspa_view.AspaPart.{AspaPart}
 use Rattle.rpki_contents.specs.declared.aspa_view.AspaPart.TheVariants as P
 use Rattle.rpki_contents.specs.declared.aspa_view.AspaView.{AspaView}
-use Rattle.rpki_contents.specs.Aspa.{version, as_number, each_number, numbers, AreProviders, AspaParts, aspa}
-use Rattle.rpki_contents.specs.Aspa.{aspa_parts, fields, fields_of}
+use Rattle.rpki_contents.specs.Aspa.{version_tag, aspa, aspa_parts, each_number}
 
--- ---- providers, one after another, behind those that were read
+-- [0] EXPLICIT INTEGER 1
+abbrev pub version_at : Parser (Unit {0})
+version_at s =
+    bind (value_at version_tag true s) (λ c.
+    bind (leaf_at integer (number_in 1) c.0) (λ v.
+    bind (ended v.1) (λ _. Ok (tt, c.1))))
 
--- the number may stand behind the last
-abbrev pub IsAfter : Option ℕ → ℕ → Type 0
-IsAfter None n = Unit {0}
-IsAfter (Some last) n = last < n
+-- an AS number
+abbrev pub number_at : Parser ℕ
+number_at = leaf_at integer (below_in (2 ^ 32))
 
--- there is a last one
-abbrev pub IsThere : Option ℕ → Type 0
-IsThere None = ⊥
-IsThere (Some last) = Unit {0}
+abbrev pub is_above : Option ℕ → ℕ → Bool
+is_above None n = true
+is_above (Some last) n = nat_lt last n
 
--- numbers that may stand behind the last, and are one at least where there is none; none is the customer
-abbrev pub AreBehind : ℕ → Option ℕ → List ℕ → Type 0
-AreBehind customer last [] = IsThere last
-AreBehind customer last (n ∷ ns) = IsAfter last n × (customer ≢ n) × AreBehind customer (Some n) ns
+-- a provider: a number above the last, and not the customer
+unfoldable pub provider_at : ℕ → Option ℕ → List ℕ → Result (Option ℕ × List ℕ) ℕ
+provider_at customer last s =
+    bind (number_at s) (λ n.
+    if is_above last n.0 && not (nat_eq n.0 customer) then Ok (Some n.0, n.1) else Err 5)
 
--- all of s is such numbers
-abbrev pub SpellsBehind : ℕ → Option ℕ → List ℕ → Type 0
-SpellsBehind customer last s = (ns : List ℕ) × each_number.spells ns s × AreBehind customer last ns
+-- the last provider, and how many there are: one at least
+abbrev pub some_provider : Option ℕ × ℕ → Result ℕ ℕ
+some_provider (None, n) = Err 5
+some_provider (Some last, n) = Ok n
 
--- the same, and so many
-abbrev pub CountsBehind : ℕ → Option ℕ → List ℕ → ℕ → Type 0
-CountsBehind customer last s n =
-    (ns : List ℕ) × each_number.spells ns s × AreBehind customer last ns × (length ns ≡ n)
+-- all of s is providers of the customer: how many they are
+unfoldable pub providers_at : ℕ → List ℕ → Result ℕ ℕ
+providers_at customer s = bind (fold_at (provider_at customer) None s) some_provider
 
--- all of s is a list of providers of the customer; p are the octets of these, and they are so many
-abbrev pub AreProvidersAt : ℕ → List ℕ → List ℕ → ℕ → Type 0
-AreProvidersAt customer s p n =
-    (ns : List ℕ) × (h : numbers.spells ns s) × (p ≡ h.contents) × AreProviders customer ns × (length ns ≡ n)
-
--- all of s is none
-abbrev pub HasNoProviders : ℕ → List ℕ → Type 0
-HasNoProviders customer s = (ns : List ℕ) → numbers.spells ns s → AreProviders customer ns → ⊥
-
--- ---- the whole
-
--- the attestation x is all of s, and the octets are those of its providers, and as many
-pub record IsAspaAt (s : List ℕ) (v : AspaView) (x : AspaParts) : Type 0 where
-  pub spelled : aspa.spells x s
-  pub customer : v.customer ≡ x.customer
-  pub providers : v.providers.now ≡ spelled.spelled.spelled.two.two.contents
-  pub count : length x.providers ≡ v.count
-
--- the same of the parts, which are all of c
-pub record IsAspaParts (c : List ℕ) (v : AspaView) : Type 0 where
+-- what is found: the octets of the providers, and how many they are
+pub record FoundAspa : Type 0 where
   pub customer : ℕ
-  pub is : v.customer ≡ customer
   pub providers : List ℕ
-  pub spelled : fields.spells (fields_of (aspa_parts customer providers)) c
-  pub stands : AreProviders customer providers
-  pub octets : v.providers.now ≡ spelled.two.two.contents
-  pub count : length providers ≡ v.count
+  pub count : ℕ
 
--- all of c is to be the parts: the leftmost that is wrong
-pub data AreAspaPartsWrong (c : List ℕ) (q : AspaPart) : Type 0 where
-  NoVersion : Refuses version.spells c → q ≡ P.Version → AreAspaPartsWrong c q
-  NoCustomer : (r : List ℕ) → Spells version.spells c tt r → Refuses as_number.spells r → q ≡ P.Customer
-      → AreAspaPartsWrong c q
-  NoProviders : (r m : List ℕ) (n : ℕ) → Spells version.spells c tt r → Spells as_number.spells r n m
-      → HasNoProviders n m → q ≡ P.Providers → AreAspaPartsWrong c q
+abbrev pub found_of : Result AspaView AspaPart → Result FoundAspa AspaPart
+found_of (Ok v) = Ok (record { customer = v.customer; providers = v.providers.now; count = v.count })
+found_of (Err q) = Err q
 
--- all of s is to be an attestation: the SEQUENCE around all, and then its parts
-pub data IsAspaWrong (s : List ℕ) (q : AspaPart) : Type 0 where
-  NoAspa : SpellsNothing (SpellsContents sequence true) s → q ≡ P.Attestation → IsAspaWrong s q
-  InAspa : (c : List ℕ) → SpellsContents sequence true c s → AreAspaPartsWrong c q → IsAspaWrong s q
+-- the parts, which are all of s
+abbrev pub members : List ℕ → Result FoundAspa AspaPart
+members s =
+    bind (named P.Version (version_at s)) (λ v.
+    bind (named P.Customer (number_at v.1)) (λ n.
+    bind (named P.Providers (value_at sequence true n.1)) (λ p.
+    bind (named P.Providers (ended p.1)) (λ _.
+    bind (named P.Providers (providers_at n.0 p.0)) (λ k.
+    Ok (record { customer = n.0; providers = p.0; count = k }))))))
+
+-- ASProviderAttestation: all of s
+abbrev pub attestation : List ℕ → Result FoundAspa AspaPart
+attestation s =
+    bind (named P.Attestation (value_at sequence true s)) (λ c.
+    bind (named P.Attestation (ended c.1)) (λ _.
+    members c.0))
+
+-- s is an attestation in the words of its grammar (Aspa.antt), x are its customer and the octets of its providers
+pub record IsAspaOf (s : List ℕ) (x : FoundAspa) : Type 0 where
+  pub providers : List ℕ
+  pub spelled : aspa.spells (aspa_parts x.customer providers) s
+  pub octets : each_number.spells providers x.providers
+  pub count : length providers ≡ x.count
 
 -- ---- a cursor over providers
 
--- of the numbers that were left the first was given, and the others are left now
-abbrev pub GivesNumber : List ℕ → Option ℕ → List ℕ → Type 0
-GivesNumber [] found s = (found ≡ None) × each_number.spells [] s
-GivesNumber (n ∷ ns) found s = (found ≡ Some n) × each_number.spells ns s
+-- the number in front and what follows it; none where there is none, and then nothing is read
+abbrev pub given : List ℕ → Result (ℕ × List ℕ) ℕ → Option ℕ × List ℕ
+given s (Ok n) = (Some n.0, n.1)
+given s (Err e) = (None, s)
+
+abbrev pub given_at : List ℕ → Option ℕ × List ℕ
+given_at s = given s (number_at s)

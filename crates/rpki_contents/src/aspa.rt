@@ -42,7 +42,7 @@ impl Model for AsProviderAttestation {
 }
 
 /// The version: 1, under the explicit tag 0.
-pub(crate) fn take_version(cons: &mut Constructed<'_>) -> Result<(), DecodeError>
+fn take_version(cons: &mut Constructed<'_>) -> Result<(), DecodeError>
     ensures { Takes (λ _. tt) version (left cons.old) (left cons.new) result }
 {
     cons.in_constructed(Tag::new(Class::Context, 0), |contents| {

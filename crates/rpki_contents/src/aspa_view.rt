@@ -1,17 +1,16 @@
 //! Attestations of the providers of an autonomous system, read in place without memory.
 
-ghost use Rattle.std.specs.Prelude.{◌≡◌, ◌<◌, ◌↔◌, List, None, ℕ, IsTrue, IfOk, IfErr, IfSome, IfNone, length};
-ghost use Rattle.rpki_der.specs.Prelude.{left, Accepts, Refuses};
-ghost use Rattle.rpki_contents.specs.Aspa.{AspaParts, as_number, each_number};
-ghost use Rattle.rpki_contents.specs.AspaView.{AreAspaPartsWrong, AreProvidersAt, CountsBehind, GivesNumber};
-ghost use Rattle.rpki_contents.specs.AspaView.{HasNoProviders, IsAfter, IsAspaAt, IsAspaParts, IsAspaWrong};
-ghost use Rattle.rpki_contents.specs.AspaView.{SpellsBehind};
+ghost use Rattle.std.specs.Prelude.{◌≡◌, ◌<◌, IfSome, length};
+ghost use Rattle.rpki_der.specs.Prelude.{left};
+ghost use Rattle.rpki_parse.specs.Words.{Moves, kinds, parsed};
+ghost use Rattle.rpki_contents.specs.AspaView.{attestation, found_of, is_above, members, number_at, provider_at};
+ghost use Rattle.rpki_contents.specs.AspaView.{given_at, providers_at, version_at};
 
-use crate::aspa::take_version;
-use crate::inside::inside;
 use crate::short::short_number;
-use rpki_der::Constructed;
-use rpki_resources::take_as_number;
+use rpki_der::{Class, Constructed, DecodeError, Tag};
+use rpki_parse::{
+    Step, at, finish, fold, skip_u8_if, take_constructed_if, take_sequence, take_u32,
+};
 
 /// The part of an attestation that is wrong.
 #[derive(Clone, Copy, Debug, PartialEq, Eq)]
@@ -44,9 +43,21 @@ pub struct ProviderCursor<'a> {
     pub rest: Constructed<'a>,
 }
 
+/// The version: 1, under the explicit tag 0.
+fn take_version(cons: &mut Constructed<'_>) -> Result<(), DecodeError>
+    ensures { parsed (λ v. v) result (left cons.new) ≡ version_at (left cons.old) }
+{
+    let mut after = *cons;
+    let mut contents = take_constructed_if(&mut after, Tag::new(Class::Context, 0))?;
+    skip_u8_if(&mut contents, 1)?;
+    finish(contents)?;
+    *cons = after;
+    Ok(())
+}
+
 /// Whether the number is above the last, or there is none.
-fn is_after(last: Option<u32>, number: u32) -> bool
-    ensures { IsTrue result ↔ IsAfter last number }
+fn is_above(last: Option<u32>, number: u32) -> bool
+    ensures { result ≡ is_above last number }
 {
     match last {
         Some(last) => last < number,
@@ -54,101 +65,90 @@ fn is_after(last: Option<u32>, number: u32) -> bool
     }
 }
 
-/// The AS number at the front, and what follows it; None where there is none.
+/// An AS number.
 #[inline(always)]
-fn first_number(octets: &[u8]) -> Option<(u32, &[u8])>
-    ensures some { IfSome result (λ x. Accepts as_number.spells octets.now x.0 x.1.now) }
-    ensures none { IfNone result (Refuses as_number.spells octets.now) }
+fn take_number(cons: &mut Constructed<'_>) -> Result<u32, DecodeError>
+    ensures reads { parsed (λ n. n) result (left cons.new) ≡ number_at (left cons.old) }
+    ensures moves { Moves (left cons.old) (left cons.new) result }
 {
-    match short_number(octets) {
-        Some(found) => Some(found),
-        None => any_number(octets),
+    match short_number(cons.rest()) {
+        Some((number, following)) => {
+            *cons = Constructed::from_slice(following);
+            Ok(number)
+        }
+        None => {
+            let mut after = *cons;
+            let number = take_any_number(&mut after)?;
+            *cons = after;
+            Ok(number)
+        }
     }
 }
 
 /// The same, of any length.
 #[inline(never)]
-fn any_number(octets: &[u8]) -> Option<(u32, &[u8])>
-    ensures some { IfSome result (λ x. Accepts as_number.spells octets.now x.0 x.1.now) }
-    ensures none { IfNone result (Refuses as_number.spells octets.now) }
+fn take_any_number(cons: &mut Constructed<'_>) -> Result<u32, DecodeError>
+    ensures reads { parsed (λ n. n) result (left cons.new) ≡ number_at (left cons.old) }
+    ensures moves { Moves (left cons.old) (left cons.new) result }
 {
-    let mut rest = Constructed::from_slice(octets);
-    match take_as_number(&mut rest) {
-        Ok(number) => Some((number, rest.rest())),
-        Err(_) => None,
+    take_u32(cons)
+}
+
+/// Reads a provider, behind the last.
+#[derive(Drop)]
+struct ProviderStep {
+    /// The customer.
+    customer: u32,
+}
+
+impl Step for ProviderStep {
+    type State = Option<u32>;
+
+    ghost next_at = { λ x. provider_at x.customer };
+
+    #[inline(always)]
+    #[tactic(auto, unfolding(crate::specs::AspaView::provider_at))]
+    fn next(
+        &self,
+        last: Option<u32>,
+        cons: &mut Constructed<'_>,
+    ) -> Result<Option<u32>, DecodeError> {
+        let mut after = *cons;
+        let number = take_number(&mut after)?;
+        if !is_above(last, number) || number == self.customer {
+            return Err(DecodeError::content("invalid provider"));
+        }
+        *cons = after;
+        Ok(Some(number))
     }
 }
 
-/// How many providers of the customer the octets are, one after another, and one at least; None where they are none.
-fn count_providers(octets: &[u8], customer: u32) -> Option<usize>
-    ensures some { IfSome result (λ n. CountsBehind customer None octets.now n) }
-    ensures none { IfNone result (SpellsBehind customer None octets.now → ⊥) }
+/// How many providers of the customer there are, which are all that is left: one at least.
+#[tactic(auto, unfolding(crate::specs::AspaView::providers_at))]
+fn count_providers(contents: Constructed<'_>, customer: u32) -> Result<usize, DecodeError>
+    ensures { kinds result ≡ providers_at customer (left contents.entry) }
 {
-    let mut rest = octets;
-    let mut last = None;
-    let mut count = 0;
-    'each: while !rest.is_empty() {
-        match first_number(rest) {
-            Some((number, following)) => {
-                if !is_after(last, number) {
-                    return None;
-                }
-                if number == customer {
-                    return None;
-                }
-                last = Some(number);
-                rest = following;
-                count += 1;
-            }
-            None => return None,
-        }
-    }
-    match last {
-        Some(_) => Some(count),
-        None => None,
-    }
-}
-
-/// The attestation of the customer, the list of whose providers is all that is left.
-fn read_providers<'a>(rest: Constructed<'a>, customer: u32) -> Option<AspaView<'a>>
-    ensures customer { IfSome result (λ v. v.customer ≡ customer) }
-    ensures some { IfSome result (λ v. AreProvidersAt customer (left rest.entry) v.providers.now v.count) }
-    ensures none { IfNone result (HasNoProviders customer (left rest.entry)) }
-{
-    match inside(rest) {
-        Some(contents) => {
-            let providers = contents.rest();
-            match count_providers(providers, customer) {
-                Some(count) => Some(AspaView {
-                    customer,
-                    providers,
-                    count,
-                }),
-                None => None,
-            }
-        }
-        None => None,
+    match fold(contents, None, &ProviderStep { customer })? {
+        (Some(_), count) => Ok(count),
+        (None, _) => Err(DecodeError::content("no provider")),
     }
 }
 
 /// The parts, which are all that is left.
 fn read_parts<'a>(contents: Constructed<'a>) -> Result<AspaView<'a>, AspaPart>
-    ensures ok { IfOk result (λ v. IsAspaParts (left contents.entry) v) }
-    ensures err { IfErr result (λ q. AreAspaPartsWrong (left contents.entry) q) }
+    ensures { found_of result ≡ members (left contents.entry) }
 {
     let mut rest = contents;
-    match take_version(&mut rest) {
-        Ok(()) => {}
-        Err(_) => return Err(AspaPart::Version),
-    }
-    let customer = match take_as_number(&mut rest) {
-        Ok(customer) => customer,
-        Err(_) => return Err(AspaPart::Customer),
-    };
-    match read_providers(rest, customer) {
-        Some(found) => Ok(found),
-        None => Err(AspaPart::Providers),
-    }
+    at(AspaPart::Version, take_version(&mut rest))?;
+    let customer = at(AspaPart::Customer, take_u32(&mut rest))?;
+    let listed = at(AspaPart::Providers, take_sequence(&mut rest))?;
+    at(AspaPart::Providers, finish(rest))?;
+    let count = at(AspaPart::Providers, count_providers(listed, customer))?;
+    Ok(AspaView {
+        customer,
+        providers: listed.rest(),
+        count,
+    })
 }
 
 impl<'a> AspaView<'a> {
@@ -157,13 +157,12 @@ impl<'a> AspaView<'a> {
     ///
     /// The error is the leftmost part that is wrong.
     pub fn read(octets: &'a [u8]) -> Result<AspaView<'a>, AspaPart>
-        ensures ok { IfOk result (λ v. (x : AspaParts) × IsAspaAt octets.now v x) }
-        ensures err { IfErr result (λ q. IsAspaWrong octets.now q) }
+        ensures { found_of result ≡ attestation octets.entry.now }
     {
-        match inside(Constructed::from_slice(octets)) {
-            Some(contents) => read_parts(contents),
-            None => Err(AspaPart::Attestation),
-        }
+        let mut rest = Constructed::from_slice(octets);
+        let contents = at(AspaPart::Attestation, take_sequence(&mut rest))?;
+        at(AspaPart::Attestation, finish(rest))?;
+        read_parts(contents)
     }
 
     /// A cursor over the providers, in ascending order.
@@ -179,14 +178,10 @@ impl<'a> AspaView<'a> {
 impl<'a> ProviderCursor<'a> {
     /// The next provider; None where none is left, or the octets that are left are no AS numbers.
     pub fn next_provider(&mut self) -> Option<u32>
-        ensures given { (ns : List ℕ) → each_number.spells ns (left self.old.rest)
-            → GivesNumber ns result (left self.new.rest) }
+        ensures given { (result, left self.new.rest) ≡ given_at (left self.old.rest) }
         ensures shorter { IfSome result (λ _. length (left self.new.rest) < length (left self.old.rest)) }
     {
-        if self.rest.is_empty() {
-            return None;
-        }
-        match take_as_number(&mut self.rest) {
+        match take_u32(&mut self.rest) {
             Ok(number) => Some(number),
             Err(_) => None,
         }

@@ -1,7 +1,8 @@
 //! Laws of the definitions. A law over definitions alone is a function that does nothing; a law of a call makes that
 //! call. The contract is the law.
 
-ghost use Rattle.std.specs.Prelude.{◌≡◌, ◌↔◌, ℕ, List, IsTrue};
+ghost use Rattle.std.specs.Prelude.{◌≡◌, ◌↔◌, ℕ, List, IsTrue, Ok};
+ghost use Rattle.rpki_contents.specs.AspaView.{FoundAspa, IsAspaOf, attestation};
 ghost use Rattle.rpki_contents.specs.declared.aspa_view.AspaPart.{AspaPart as WrongAspa};
 ghost use Rattle.rpki_contents.specs.declared.manifest_part.ManifestPart.{ManifestPart as WrongManifest};
 ghost use Rattle.rpki_contents.specs.declared.manifest_view.ManifestView.{ManifestView as View};
@@ -37,6 +38,14 @@ pub fn manifests_in_place_are_decoded(
     ensures wrong { (part : WrongManifest) → IsManifestWrong bytes part → IsNotDecoded result }
 {
     ManifestContent::decode(alloc, bytes)
+}
+
+/// What [AspaView::read](crate::AspaView::read) finds is an attestation, in the words of its grammar: returns how many
+/// octets there are.
+pub fn attestations_in_place_are_spelled(octets: &[u8]) -> usize
+    ensures { (x : FoundAspa) → attestation octets.now ≡ Ok x → IsAspaOf octets.now x }
+{
+    octets.len()
 }
 
 /// Digests are equal exactly where their octets are.

@@ -1,14 +1,12 @@
 -- Which part of octets is wrong that are no object of their kind: the leftmost, as readers in place tell it; none where
 -- these read all parts, so that what is wrong is seen of several together, or of a part that they don't look into.
-use Rattle.std.specs.Prelude.{◌≡◌, ◌⊎◌, ℕ, false, List, Option, Some, None}
+use Rattle.std.specs.Prelude.{◌≡◌, ◌⊎◌, ℕ, false, List, Option, Some, None, Ok, Err}
 use Rattle.rpki_cert.specs.declared.read.view.CertView.{CertView}
 use Rattle.rpki_cert.specs.Cert.{CertParts}
 use Rattle.rpki_cert.specs.View.{IsCertAt, IsCertWrong}
 use Rattle.rpki_contents.specs.declared.manifest_view.ManifestView.{ManifestView}
 use Rattle.rpki_contents.specs.declared.roa_view.RoaView.{RoaView}
-use Rattle.rpki_contents.specs.declared.aspa_view.AspaView.{AspaView}
-use Rattle.rpki_contents.specs.Aspa.{AspaParts}
-use Rattle.rpki_contents.specs.AspaView.{IsAspaAt, IsAspaWrong}
+use Rattle.rpki_contents.specs.AspaView.{FoundAspa, attestation}
 use Rattle.rpki_contents.specs.ListedFile.{ListedFile}
 use Rattle.rpki_contents.specs.ManifestView.{IsManifestAt, IsManifestWrong}
 use Rattle.rpki_contents.specs.Roa.{AttestationParts}
@@ -44,7 +42,7 @@ abbrev pub ReadsOrigins : List ℕ → Type 0
 ReadsOrigins octets = (v : RoaView) × (x : AttestationParts) × IsRoaAt false octets v x
 
 abbrev pub ReadsProviders : List ℕ → Type 0
-ReadsProviders octets = (v : AspaView) × (x : AspaParts) × IsAspaAt octets v x
+ReadsProviders octets = (x : FoundAspa) × (attestation octets ≡ Ok x)
 
 -- the contents of signed objects
 abbrev pub IsFilesPart : List ℕ → Option Place → Type 0
@@ -54,7 +52,7 @@ abbrev pub IsOriginsPart : List ℕ → Option Place → Type 0
 IsOriginsPart = IsPart ReadsOrigins (IsRoaWrong false) P.Origins
 
 abbrev pub IsProvidersPart : List ℕ → Option Place → Type 0
-IsProvidersPart = IsPart ReadsProviders IsAspaWrong P.Providers
+IsProvidersPart = IsPart ReadsProviders (λ octets q. attestation octets ≡ Err q) P.Providers
 
 -- of any other content nothing is known
 abbrev pub IsOtherPart : List ℕ → Option Place → Type 0
