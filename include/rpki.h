@@ -1014,6 +1014,18 @@ bool rpki_serials_have(const struct rpki_serial_number *serials, size_t count, c
 rpki_status rpki_signed_object(const uint8_t *octets, size_t size, bool strict,
                                struct rpki_signed_object_parts *out) RPKI_CHECKED;
 
+/*
+ * Reads a signed object and its signer's certificate once: writes what rpki_signed_object writes to `object`, and what
+ * rpki_certificate_checked writes of that certificate, by the profile RPKI_CERTIFICATE_EE, to `certificate` and
+ * `extensions`. `attributes` and `names` are what these calls have as `strict`. Takes no memory, and verifies nothing.
+ *
+ * Where the status is not 0, it is the first that these two calls have, in this order, and nothing is written.
+ */
+rpki_status rpki_signed_object_checked(const uint8_t *octets, size_t size, bool attributes, bool names,
+                                       struct rpki_signed_object_parts *object,
+                                       struct rpki_certificate_parts *certificate,
+                                       struct rpki_known_extensions *extensions) RPKI_CHECKED;
+
 /* ---- What signed objects contain: all of the octets are a content, as of rpki_signed_object ---- */
 
 /*

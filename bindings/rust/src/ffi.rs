@@ -384,6 +384,23 @@ pub(crate) fn signed_object(octets: &[u8], strict: bool) -> Result<SignedObjectP
     told(|out| unsafe { rpki_signed_object(octets.as_ptr(), octets.len(), strict, out) })
 }
 
+/// The parts of a signed object, and those and the extensions of its certificate, which has the profile of an end
+/// entity.
+pub(crate) fn signed_object_checked(
+    octets: &[u8],
+    attributes: bool,
+    names: bool,
+) -> Result<(SignedObjectParts, CertificateParts, KnownExtensions), Status> {
+    let (mut certificate, mut extensions) = Default::default();
+    // SAFETY: pointer and size are those of one slice, which is borrowed for the call; what is written is this
+    // function's own.
+    let object = told(|out| unsafe {
+        let (start, size) = (octets.as_ptr(), octets.len());
+        rpki_signed_object_checked(start, size, attributes, names, out, &mut certificate, &mut extensions)
+    })?;
+    Ok((object, certificate, extensions))
+}
+
 pub(crate) fn roa(octets: &[u8], strict: bool) -> Result<RoaParts, Status> {
     // SAFETY: pointer and size are those of one slice, which is borrowed for the call.
     told(|out| unsafe { rpki_roa(octets.as_ptr(), octets.len(), strict, out) })

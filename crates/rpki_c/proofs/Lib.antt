@@ -12,7 +12,7 @@
 --   SignedObjectLaws; manifests and attestations: ContentLaws. Where something is: AccessLaws.
 -- Entries of blocks, one after another, and how many there are: BlockListLaws, ViewCountLaws. Statuses of
 --   contents of resources: ResourceStatusLaws. Resources settled under an issuer's: SettlingLaws,
---   CertificateResourcesLaws. Objects and their certificates, read apart: ObjectVerifiedLaws.
+--   CertificateResourcesLaws.
 
 mod RefusedLaws
 mod KeyStatusLaws
@@ -40,5 +40,4 @@ mod SerialTableLaws
 pub mod SignedObjectLaws
 mod ContentLaws
 mod SettlingLaws
-mod ObjectVerifiedLaws
 mod CertificateResourcesLaws

@@ -55,6 +55,7 @@ pub mod FileDigest
 pub mod SignedBy
 pub mod ListIssued
 pub mod ObjectVerified
+pub mod ObjectChecked
 pub mod Held
 pub mod Settling
 pub mod CertificateResources

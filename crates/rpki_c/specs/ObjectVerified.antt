@@ -2,12 +2,13 @@
 use Rattle.std.specs.Prelude.{◌≡◌, ◌⊎◌, ℕ, Bool, List, Some}
 use Rattle.sha2.specs.Sha256.{sha256}
 use Rattle.rpki_cert.specs.declared.extension.known_view.KnownView.{KnownView}
-use Rattle.rpki_cert.specs.Cert.{CertParts, SpellsCert}
-use Rattle.rpki_cert.specs.KnownView.{AreKnown}
+use Rattle.rpki_cert.specs.declared.extension.known_part.KnownPart.{KnownPart}
+use Rattle.rpki_cert.specs.Cert.{CertParts}
+use Rattle.rpki_cert.specs.KnownView.{AreKnown, IsFirstWrong}
 use Rattle.rpki_objects.specs.declared.object_part.ObjectPart.{ObjectPart}
 use Rattle.rpki_objects.specs.SignedObject.{ObjectParts, object_fields_of, signed_object}
 use Rattle.rpki_objects.specs.SignedObjectView.{IsObjectWrong}
-use Rattle.rpki_c.specs.KnownCert.{IsRead, IsUnknown}
+use Rattle.rpki_c.specs.KnownCert.{known_number}
 use Rattle.rpki_c.specs.SignedObject.{object_part_number, IsNoObject}
 use Rattle.rpki_c.specs.Verified.{IsVerifiedBy}
 use Rattle.rpki_c.specs.Status.{other_type, other_digest, other_signer}
@@ -32,16 +33,13 @@ IsSignerTold x known identifier message signature status =
     ((status ≡ other_signer) × (known.subject_key_identifier ≡ Some identifier → ⊥))
     ⊎ ((known.subject_key_identifier ≡ Some identifier) × IsVerifiedBy x.tbs.key message signature status)
 
--- 64 to 84: the octets aren't read as a certificate. Else they are.
-abbrev pub IsSignerRead : List ℕ → List ℕ → List ℕ → List ℕ → ℕ → Type 0
-IsSignerRead c identifier message signature status =
-    IsUnknown c status
-    ⊎ ((x : CertParts) × (known : KnownView) × IsRead c x known
+-- 80 to 84: the extension of this number, and none before it, is malformed or not as critical as it has to be. Else the
+-- extensions say what is said of the signer.
+abbrev pub IsCertTold : CertParts → List ℕ → List ℕ → List ℕ → ℕ → Type 0
+IsCertTold x identifier message signature status =
+    ((q : KnownPart) × (status ≡ known_number q) × IsFirstWrong x.tbs.extensions q)
+    ⊎ ((known : KnownView) × AreKnown x.tbs.extensions known
     × IsSignerTold x known identifier message signature status)
-
--- 64 to 84: what the object has as its certificate isn't read, as a reader of that alone says
-abbrev pub IsCertTold : ObjectParts → ℕ → Type 0
-IsCertTold x status = (c : List ℕ) × SpellsCert x.cert c × IsUnknown c status
 
 -- 55: the type of the content is not the one that is signed. 54: it is, and the digest is not.
 abbrev pub IsContentWrong : ObjectParts → ℕ → Type 0
@@ -57,9 +55,8 @@ IsContentTold x status = ((status ≡ 0) × HasSignedContent x) ⊎ IsContentWro
 abbrev pub IsToldOfObject : ObjectParts → ℕ → Type 0
 IsToldOfObject x status =
     IsContentWrong x status
-    ⊎ (HasSignedContent x × IsCertTold x status)
-    ⊎ (HasSignedContent x × (known : KnownView) × AreKnown x.cert.tbs.extensions known
-    × IsSignerTold x.cert known x.signer.identifier x.signer.attributes.message x.signer.signature.value status)
+    ⊎ (HasSignedContent x
+    × IsCertTold x.cert x.signer.identifier x.signer.attributes.message x.signer.signature.value status)
 
 -- 64 to 137: this part of the object is wrong. Else the octets are a signed object.
 abbrev pub IsObjectVerified : Bool → List ℕ → ℕ → Type 0

@@ -76,6 +76,11 @@ pub record HasObject (strict : Bool) (s : List ℕ) (p : Parts) : Type 0 where
   pub spelled : (signed_object strict).spells (object_fields_of object) s
   pub parts : HasData strict object spelled.spelled.two.spelled.contents spelled.spelled.two.spelled.spelled p
 
+-- the octets of its certificate in those of an object, as the grammar divides these
+abbrev pub certificate_in : (strict : Bool) (x : ObjectParts) (s : List ℕ)
+    → (signed_object strict).spells (object_fields_of x) s → List ℕ
+certificate_in strict x s h = h.spelled.two.spelled.spelled.two.two.two.one.contents
+
 -- the octets are no signed object, but for one whose certificate has more extensions than are compared
 abbrev pub IsNoObject : Bool → List ℕ → Type 0
 IsNoObject strict s =

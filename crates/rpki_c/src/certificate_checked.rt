@@ -10,7 +10,7 @@ use crate::status::NO_PROFILE;
 use rpki_cert::{CertView, CheckError, Profile};
 
 /// How the error of a check is passed.
-fn check_number(error: CheckError) -> u8
+pub(crate) fn check_number(error: CheckError) -> u8
     ensures { result ≡ check_number error }
 {
     match error {

@@ -45,6 +45,7 @@ mod manifest;
 mod manifest_names;
 mod moments;
 mod names;
+mod object_checked;
 mod object_verified;
 mod periods;
 mod place;

@@ -1,19 +1,22 @@
 //! Signed objects that the key of their certificate has signed.
 
-ghost use Rattle.std.specs.Prelude.{◌≡◌, ◌↔◌, ℕ, Bool, List, IsTrue, Option};
+ghost use Rattle.std.specs.Prelude.{◌≡◌, ℕ, Bool, List};
 ghost use Rattle.sha2.specs.Sha256.{sha256};
 ghost use Rattle.rpki_objects.specs.SignedAttributes.{message_of};
 ghost use Rattle.rpki_objects.specs.SignedObject.{ObjectParts};
 ghost use Rattle.rpki_objects.specs.SignedObjectView.{IsObjectAt};
-ghost use Rattle.rpki_c.specs.ObjectVerified.{IsContentTold, IsSignerRead, IsObjectVerified};
+ghost use Rattle.rpki_cert.specs.Cert.{CertParts};
+ghost use Rattle.rpki_cert.specs.View.{IsCertAt};
+ghost use Rattle.rpki_c.specs.ObjectVerified.{IsContentTold, IsCertTold, IsObjectVerified};
 ghost use Rattle.rpki_c.specs.Verified.{IsVerifiedBy};
 
+use crate::certificate_extensions::known_number;
 use crate::file_digest::has_digest;
 use crate::issued::is_identifier;
-use crate::known_cert::{KnownCert, known_cert};
 use crate::signed_object::{are_same, object_part_number};
 use crate::status::{BAD_SIGNATURE, KEY_NOT_ACCEPTED, OTHER_DIGEST, OTHER_SIGNER, OTHER_TYPE};
 use rpki::crypto::{KeyIdentifier, PublicKeyFormat, PublicKeyView};
+use rpki_cert::CertView;
 use rpki_objects::SignedObjectView;
 use rpki_rsa::Key;
 use sha2::{Digest, Sha256};
@@ -72,27 +75,26 @@ fn content_told(found: &SignedObjectView<'_>) -> u8
     0
 }
 
-/// Whether the certificate's subject key identifier is there, and is this one.
-fn is_signer(found: &KnownCert<'_>, identifier: KeyIdentifier) -> bool
-    ensures { IsTrue result ↔ (found.now.known.subject_key_identifier ≡ Option.Some identifier) }
+/// The status of the certificate, as the one of the signer with this identifier, and of a signature of the attributes
+/// by its key.
+fn signer_told(
+    cert: &CertView<'_>,
+    identifier: KeyIdentifier,
+    attributes: &[u8],
+    signature: &[u8],
+) -> u8
+    ensures { (s : List ℕ) (x : CertParts) → IsCertAt s cert.now x
+        → IsCertTold x identifier (message_of attributes.now) signature.now result }
 {
-    is_identifier(found.known.subject_key_identifier, identifier)
-}
-
-/// The status of the certificate that the octets are, as the one of the signer with this identifier, and of a signature
-/// of the attributes by its key.
-fn signer_told(octets: &[u8], identifier: KeyIdentifier, attributes: &[u8], signature: &[u8]) -> u8
-    ensures { IsSignerRead octets.now identifier (message_of attributes.now) signature.now result }
-{
-    let found = match known_cert(octets) {
-        Ok(found) => found,
-        Err(status) => return status,
+    let keyed = &cert.tbs.named.keyed;
+    let known = match keyed.known() {
+        Ok(known) => known,
+        Err(part) => return known_number(part),
     };
-    if !is_signer(&found, identifier) {
+    if !is_identifier(known.subject_key_identifier, identifier) {
         return OTHER_SIGNER;
     }
-    let cert = &found.cert;
-    attributes_verified(&cert.tbs.named.keyed.key, attributes, signature)
+    attributes_verified(&keyed.key, attributes, signature)
 }
 
 /// Reads a signed object, and says whether the key of its certificate has signed it (RFC 6488 3, RFC 5652 5.4, 5.6):
@@ -117,7 +119,7 @@ pub extern "C" fn rpki_object_verify(octets: &[u8], strict: bool) -> u8
     }
     let signer = &found.signer;
     signer_told(
-        found.cert.octets,
+        &found.cert.parts,
         signer.identifier,
         signer.signed_attrs.octets.octets,
         signer.signature.octets,

@@ -95,13 +95,14 @@ pub(crate) fn are_same(one: &[u8], other: &[u8]) -> bool
 }
 
 /// The parts of the signed object that the octets are.
-fn object_of<'a>(
+pub(crate) fn object_of<'a>(
     octets: &'a [u8],
     strict: bool,
     found: &SignedObjectView<'a>,
 ) -> SignedObjectParts<'a>
     requires { (x : ObjectParts) × IsObjectAt strict octets.now found.now x }
-    ensures { HasObject strict octets.now result }
+    ensures object { HasObject strict octets.now result }
+    ensures certificate { result.certificate.octets.now ≡ found.now.cert.octets.octets.now }
 {
     let content = &found.content;
     let signer = &found.signer;
@@ -109,7 +110,7 @@ fn object_of<'a>(
     SignedObjectParts {
         content_type: Span::of(content.content_type.octets),
         content: Span::of(content.content.octets),
-        certificate: Span::of(found.cert.octets),
+        certificate: Span::of(found.cert.octets.octets),
         signed_attributes: Span::of(signer.signed_attrs.octets.octets),
         signature: Span::of(signer.signature.octets),
         signing_time: moment_if(values.signing_time),

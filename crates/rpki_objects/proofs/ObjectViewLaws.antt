@@ -233,13 +233,13 @@ data-read strict s m n o p v version digests content cert signer = (
           first = cert.2.spells.front;
           second = p;
           parts = cert.2.spells.parts;
-          one = record { contents = cert.0; value = cert.2.spells.spelled; spelled = cert.3 };
+          one = record { contents = cert.0; value = cert.2.spells.spelled; spelled = cert.3.spelled };
           two = signer.1;
         };
       };
     };
   },
-  record { content = content.2; cert = cert.4; signer = signer.2 },
+  record { content = content.2; cert = cert.4; cert_parts = cert.3; signer = signer.2 },
 )
 
 -- ---- a signed object

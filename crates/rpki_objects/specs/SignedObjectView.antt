@@ -8,13 +8,14 @@ use Rattle.rpki_cert.specs.declared.read.cert_part.CertPart.{CertPart}
 use Rattle.rpki_der.specs.declared.section.Section.{Section}
 use Rattle.rpki_cert.specs.Cert.{CertParts, SpellsCert}
 use Rattle.rpki_der.specs.Section.{IsSection}
-use Rattle.rpki_cert.specs.View.{IsCertWrong, most_extensions}
+use Rattle.rpki_cert.specs.View.{IsCertAt, IsCertWrong, most_extensions}
 use Rattle.rpki_objects.specs.declared.object_part.ObjectPart.{ObjectPart}
 use Rattle.rpki_objects.specs.declared.object_part.ObjectPart.TheVariants as P
 use Rattle.rpki_objects.specs.declared.content_view.ContentView.{ContentView}
 use Rattle.rpki_objects.specs.declared.signed_attrs_view.SignedAttrsView.{SignedAttrsView}
 use Rattle.rpki_objects.specs.declared.signer_view.SignerView.{SignerView}
 use Rattle.rpki_objects.specs.declared.signed_object_view.SignedObjectView.{SignedObjectView}
+use Rattle.rpki_objects.specs.declared.signed_object_view.SignerCertView.{SignerCertView}
 use Rattle.rpki_objects.specs.SignedAttributes.{Attribute, AttributeValues, AttributesParts, AreSigned, each_attribute}
 use Rattle.rpki_objects.specs.SignedAttributes.{message_of, signed_attributes, values_known}
 use Rattle.rpki_objects.specs.SignedObject.{zero_tag, kept_octets, ContentParts, content_fields_of, encapsulated}
@@ -80,10 +81,11 @@ pub data IsFirstCertWrong (L : List ℕ → ObjectPart → Type 0) (s : List ℕ
 abbrev pub NoneFollows : List ℕ → ObjectPart → Type 0
 NoneFollows s q = ⊥
 
--- a reader of the SET of the certificate found s and left r: Ok is the section of the certificate
-abbrev pub TakesCertificate : List ℕ → List ℕ → Result Section ObjectPart → Type 0
-TakesCertificate s r (Ok p) =
-    (c : List ℕ) × (x : CertParts) × Accepts (SpellsContents zero_tag true) s c r × SpellsCert x c × IsSection p c r
+-- a reader of the SET of the certificate found s and left r: Ok is the section of the certificate, and its parts
+abbrev pub TakesCertificate : List ℕ → List ℕ → Result SignerCertView ObjectPart → Type 0
+TakesCertificate s r (Ok v) =
+    (c : List ℕ) × (x : CertParts) × Accepts (SpellsContents zero_tag true) s c r × IsCertAt c v.parts x
+    × IsSection v.octets c r
 TakesCertificate s r (Err q) = IsFirstCertWrong NoneFollows s q
 
 -- ---- the signed attributes
@@ -146,7 +148,8 @@ AreSignersWrong strict = WrongWithin set P.Signers (WrongWithin sequence P.Signe
 pub record IsDataAt (strict : Bool) (x : ObjectParts) (s : List ℕ)
     (h : (data_fields strict).spells (data_fields_of x) s) (v : SignedObjectView) : Type 0 where
   pub content : IsContentAt x.content h.two.two.first h.two.two.one h.two.two.second v.content
-  pub cert : IsSection v.cert h.two.two.two.one.contents h.two.two.two.second
+  pub cert : IsSection v.cert.octets h.two.two.two.one.contents h.two.two.two.second
+  pub cert_parts : IsCertAt h.two.two.two.one.contents v.cert.parts x.cert
   pub signer : IsSignerAt strict x.signer h.two.two.two.two.spelled.contents h.two.two.two.two.spelled.spelled v.signer
 
 -- these fields are all of s, and the sections are theirs

@@ -57,7 +57,7 @@ pub use rpki_contents::MessageDigest;
 pub use signed_attrs::SignedAttrs;
 pub use signed_attrs_view::SignedAttrsView;
 pub use signed_object::SignedObject;
-pub use signed_object_view::SignedObjectView;
+pub use signed_object_view::{SignedObjectView, SignerCertView};
 pub use signer_info::SignerInfo;
 pub use signer_view::SignerView;
 pub use strictness::Strictness;

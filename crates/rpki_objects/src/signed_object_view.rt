@@ -15,19 +15,28 @@ use rpki::oid;
 use rpki_cert::CertView;
 use rpki_cert::objects::inside;
 
+/// The certificate of a signer.
+#[derive(Drop)]
+pub struct SignerCertView<'a> {
+    /// The octets of the certificate.
+    pub octets: Section<'a>,
+    /// Its parts, whose sections stand in these octets.
+    pub parts: CertView<'a>,
+}
+
 /// A signed object whose parts are borrowed from the octets that it was read from. Nothing of it is verified.
-#[derive(Clone, Copy)]
+#[derive(Drop)]
 pub struct SignedObjectView<'a> {
     /// The content, and its type.
     pub content: ContentView<'a>,
-    /// The octets of the signer's certificate.
-    pub cert: Section<'a>,
+    /// The signer's certificate.
+    pub cert: SignerCertView<'a>,
     /// The signer.
     pub signer: SignerView<'a>,
 }
 
-/// The octets of the one certificate, under the implicit tag 0.
-fn take_certificate<'a>(cons: &mut Constructed<'a>) -> Result<Section<'a>, ObjectPart>
+/// The one certificate, under the implicit tag 0.
+fn take_certificate<'a>(cons: &mut Constructed<'a>) -> Result<SignerCertView<'a>, ObjectPart>
     ensures { TakesCertificate (left cons.old) (left cons.new) result }
 {
     let octets = match cons.take_constructed_if(Tag::new(Class::Context, 0)) {
@@ -35,9 +44,12 @@ fn take_certificate<'a>(cons: &mut Constructed<'a>) -> Result<Section<'a>, Objec
         Err(_) => return Err(ObjectPart::Certificates),
     };
     match CertView::read(octets) {
-        Ok(_) => Ok(Section {
-            octets,
-            following: cons.rest().len(),
+        Ok(parts) => Ok(SignerCertView {
+            octets: Section {
+                octets,
+                following: cons.rest().len(),
+            },
+            parts,
         }),
         Err(wrong) => Err(ObjectPart::Certificate(wrong.part)),
     }

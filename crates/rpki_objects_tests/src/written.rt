@@ -120,7 +120,7 @@ pub fn certificate(alloc: Global, object: &[u8]) -> Result<Option<Captured>, All
     let Ok(view) = SignedObjectView::read(object, true) else {
         return Ok(None);
     };
-    match Constructed::from_slice(view.cert.octets).capture_one(alloc) {
+    match Constructed::from_slice(view.cert.octets.octets).capture_one(alloc) {
         Ok(certificate) => Ok(Some(certificate)),
         Err(_) => Ok(None),
     }

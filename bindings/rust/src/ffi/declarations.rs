@@ -600,6 +600,15 @@ extern "C" {
         strict: bool,
         out: *mut SignedObjectParts,
     ) -> Status;
+    pub(super) fn rpki_signed_object_checked(
+        octets: *const u8,
+        size: usize,
+        attributes: bool,
+        names: bool,
+        object: *mut SignedObjectParts,
+        certificate: *mut CertificateParts,
+        extensions: *mut KnownExtensions,
+    ) -> Status;
     pub(super) fn rpki_manifest(octets: *const u8, size: usize, out: *mut ManifestParts) -> Status;
     pub(super) fn rpki_manifest_file(rest: *mut Span, out: *mut ManifestFileParts) -> Status;
     pub(super) fn rpki_manifest_names(

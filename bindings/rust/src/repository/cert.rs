@@ -192,21 +192,36 @@ impl Cert {
 
     /// Reads a certificate, in one call where it keeps the profile of this number.
     pub(crate) fn read(octets: Bytes, profile: u8) -> Result<Self, CertError> {
+        if let Ok((found, extensions)) = ffi::certificate_checked(&octets, profile, true) {
+            let kept = Arc::new(Kept::of(&octets, &extensions));
+            return Ok(Cert::of(octets, found, Ok(kept), Some(profile)));
+        }
+        // What is not of the profile is a certificate, perhaps, and perhaps with good extensions.
         let rejected = |_| CertError::of(&octets).expect("octets that were rejected");
-        let keep = |found: ffi::KnownExtensions| Arc::new(Kept::of(&octets, &found));
-        let (found, kept, profile) = match ffi::certificate_checked(&octets, profile, true) {
-            Ok((found, extensions)) => (found, Ok(keep(extensions)), Some(profile)),
-            // What is not of the profile is a certificate, perhaps, and perhaps with good extensions.
-            Err(_) => {
-                let found = ffi::certificate(&octets).map_err(rejected)?;
-                let extensions = ffi::certificate_extensions(&octets).map(keep);
-                (found, extensions.map_err(ExtensionError::from_status), None)
-            }
-        };
-        // What the call has found to be names, a key and a number is that.
+        let found = ffi::certificate(&octets).map_err(rejected)?;
+        let extensions = ffi::certificate_extensions(&octets).map_err(ExtensionError::from_status);
+        let kept = extensions.map(|extensions| Arc::new(Kept::of(&octets, &extensions)));
+        Ok(Cert::of(octets, found, kept, None))
+    }
+
+    /// The certificate that the octets are, which has these parts and extensions, and keeps the profile of an end
+    /// entity.
+    pub(crate) fn checked(octets: Bytes, found: ffi::CertificateParts, extensions: ffi::KnownExtensions) -> Self {
+        let kept = Arc::new(Kept::of(&octets, &extensions));
+        Cert::of(octets, found, Ok(kept), Some(ffi::CERTIFICATE_EE))
+    }
+
+    /// The certificate that the octets are, which has these parts. What was found to be names, a key and a number is
+    /// that.
+    fn of(
+        octets: Bytes,
+        found: ffi::CertificateParts,
+        kept: Result<Arc<Kept>, ExtensionError>,
+        profile: Option<u8>,
+    ) -> Self {
         let part = |part: ffi::Span| octets.slice(part.range(&octets));
         let algorithm = RpkiSignatureAlgorithm { has_parameters: found.has_parameters };
-        Ok(Cert {
+        Cert {
             signed: part(found.data),
             signature: Signature::new(algorithm, part(found.signature)),
             serial_number: Serial::read(found.serial_number),
@@ -218,7 +233,7 @@ impl Cert {
             kept,
             profile,
             octets,
-        })
+        }
     }
 
     /// The octets of the certificate.

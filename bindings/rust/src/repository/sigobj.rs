@@ -263,14 +263,21 @@ impl SignedObject {
     /// The part that is wrong.
     pub fn decode(octets: impl IntoOctets, strict: bool) -> Result<Self, SignedObjectError> {
         let octets = octets.into_octets();
-        let found = ffi::signed_object(&octets, strict).map_err(SignedObjectError::from_status)?;
         let part = |part: ffi::Span| octets.slice(part.range(&octets));
+        let (found, cert) = match ffi::signed_object_checked(&octets, strict, true) {
+            Ok((found, parts, extensions)) => (found, Cert::checked(part(found.certificate), parts, extensions)),
+            // An object is read as well whose certificate is not of the profile.
+            Err(_) => {
+                let found = ffi::signed_object(&octets, strict).map_err(SignedObjectError::from_status)?;
+                let cert = Cert::read(part(found.certificate), ffi::CERTIFICATE_EE);
+                (found, cert.map_err(|error| SignedObjectError::Certificate(error.part()))?)
+            }
+        };
         let algorithm = RpkiSignatureAlgorithm { has_parameters: found.has_parameters };
         Ok(SignedObject {
             content_type: Oid(part(found.content_type)),
             content: part(found.content),
-            cert: Cert::read(part(found.certificate), ffi::CERTIFICATE_EE)
-                .map_err(|error| SignedObjectError::Certificate(error.part()))?,
+            cert,
             sid: KeyIdentifier::from(found.signer_identifier),
             signed_attrs: SignedAttrs {
                 octets: part(found.signed_attributes),

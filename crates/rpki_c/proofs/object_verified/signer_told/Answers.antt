@@ -1,27 +1,31 @@
 use Rattle.std.proofs.Common.{inl, inr, refl}
 use Rattle.std.proofs.lemmas.Bool.{iff_false}
+use Rattle.rpki_c.proofs.CertificateLaws.{listed}
 use Rattle.rpki_c.proofs.object_verified.signer_told.Goals as goal
 
 pub returns-in-Err : goal.returns-in-Err
-returns-in-Err c = inl c.in-Err.ensures
+returns-in-Err c = λ s x h.
+    inl (
+      c.in-Err.part,
+      c.known_number.ensures,
+      c.in-Err.ensures.err x.tbs.extensions (listed s c.args.cert.now x h),
+    )
 
-pub returns-then-not-is_signer : goal.returns-then-not-is_signer
-returns-then-not-is_signer c =
-    let (x, h) = c.in-Ok.ensures in
+pub returns-then-not-is_identifier : goal.returns-then-not-is_identifier
+returns-then-not-is_identifier c = λ s x h.
     inr (
-      x,
-      c.in-Ok.found.known,
-      record { spelled = h.cert.spelled; says = h.says },
-      inl (refl, iff_false c.is_signer.ensures c.if-not-is_signer.true),
+      c.in-Ok.known,
+      c.in-Ok.ensures.ok x.tbs.extensions (listed s c.args.cert.now x h),
+      inl (refl, iff_false c.is_identifier.ensures c.if-not-is_identifier.true),
     )
 
 pub returns : goal.returns
-returns c =
-    let (x, h) = c.in-Ok.ensures in
-    let signed = rw h.cert.tbs.named.keyed.same at c.attributes_verified.ensures in
+returns c = λ s x h.
     inr (
-      x,
-      c.in-Ok.found.known,
-      record { spelled = h.cert.spelled; says = h.says },
-      inr (c.is_signer.ensures.0 c.if-not-is_signer.false, signed),
+      c.in-Ok.known,
+      c.in-Ok.ensures.ok x.tbs.extensions (listed s c.args.cert.now x h),
+      inr (
+        c.is_identifier.ensures.0 c.if-not-is_identifier.false,
+        rw h.tbs.named.keyed.same at c.attributes_verified.ensures,
+      ),
     )

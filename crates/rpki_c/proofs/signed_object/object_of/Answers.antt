@@ -3,8 +3,8 @@ use Rattle.rpki_objects.specs.SignedAttributes.{AttributeValues, values_known, m
 use Rattle.rpki_c.proofs.SignedObjectLaws.{values-told, same-told}
 use Rattle.rpki_c.proofs.signed_object.object_of.Goals as goal
 
-pub returns : goal.returns
-returns c =
+pub returns-clause-object : goal.returns-clause-object
+returns-clause-object c =
     let strict = c.args.strict in
     let v = c.args.found.now in
     let x = c.requires.0 in

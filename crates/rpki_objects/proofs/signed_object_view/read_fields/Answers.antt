@@ -31,4 +31,4 @@ pub returns-in-Err-read_signers-clause-err : goal.returns-in-Err-read_signers-cl
 returns-in-Err-read_signers-clause-err c =
     let k = c.in-Ok-take_certificate.ensures in
     Later _ _ c.in-Ok.ensures (Later _ _ c.in-Ok-skip_set.ensures (Later _ _ c.in-Some.ensures.1
-    (BehindCert _ _ k.1 k.2 k.3 c.in-Err-read_signers.ensures.err)))
+    (BehindCert _ _ k.1 k.2 k.3.spelled c.in-Err-read_signers.ensures.err)))

@@ -12,7 +12,7 @@ pub returns-in-Ok-read : goal.returns-in-Ok-read
 returns-in-Ok-read c =
     let a = rw c.new.ensures at c.in-Ok.ensures in
     let k = rw c.rest-octets.ensures at c.in-Ok-read.ensures.ok in
-    (_, k.0, a, k.1.spelled, record { octets = c.rest-octets.ensures; following = ap length c.rest.ensures })
+    (_, k.0, a, k.1, record { octets = c.rest-octets.ensures; following = ap length c.rest.ensures })
 
 pub returns-in-Err-read : goal.returns-in-Err-read
 returns-in-Err-read c =
