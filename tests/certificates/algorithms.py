@@ -7,6 +7,7 @@ import os
 import re
 import subprocess
 
+import forms
 from authority import openssl
 
 ROOTS = "/etc/ssl/certs/*.pem"
@@ -98,11 +99,12 @@ def expected_fields(path):
     objection = f"with a key of {key[0][1]}" if signature == "sha256WithRSAEncryption" else f"signed by {signature}"
     (_, _, _), (_, bits, _) = values(parts[6][1])
     fields = [
-        ("Version", re.search(r"Version: (\d+)", text)[1]), ("Serial Number", told(path, "-serial")),
+        ("Type", "certificate"),
+        ("Version", re.search(r"Version: (\d+)", text)[1]), ("Cert Serial", told(path, "-serial")),
         ("Signature Algorithm", signature), ("RPKI Profile", f"{objection}, which the RPKI doesn't use"),
-        ("Issuer", name_text(parts[3][1])),
-        ("Not Before", told(path, "-startdate", "-dateopt", "iso_8601")),
-        ("Not After", told(path, "-enddate", "-dateopt", "iso_8601")),
+        ("Cert Issuer", name_text(parts[3][1])),
+        ("Valid Since", told(path, "-startdate", "-dateopt", "iso_8601")),
+        ("Valid Until", told(path, "-enddate", "-dateopt", "iso_8601")),
         ("Subject", name_text(parts[5][1])), *key,
         ("Public Key SHA-1", ":".join(f"{octet:02X}" for octet in hashlib.sha1(bits[1:]).digest()))]
     for tag, contents, _ in parts[7:]:
@@ -137,11 +139,11 @@ def is_rpki(path):
 def of_other(program, name, path):
     """A certificate of other algorithms: as lines, as JSON, checked, and held to a profile."""
     fields, objection = expected_fields(path)
-    fields = [("Signature", "not checked")] + fields
+    fields = [forms.hash_id(openssl("x509", "-in", path, "-outform", "DER")), ("Signature", "not checked")] + fields
     status, output, faults = run(program, path)
     yield f"{name}", (status, lines_of(output), faults), (0, [("File", path)] + fields, b"")
     status, output, faults = run(program, "--json", path)
-    named = [(label.lower().replace(" ", "_").replace("-", "_"), value) for label, value in [("File", path)] + fields]
+    named = forms.pairs([("File", path)] + fields)
     yield f"{name} as JSON", (status, json.loads(output, object_pairs_hook=list), faults), (0, named, b"")
     line = f"{path}: {objection}, which the RPKI doesn't use\n".encode()
     yield f"{name}, checked", run(program, "--check", path), (1, line, b"")

@@ -67,12 +67,12 @@ def issued(program, folder):
     path = paths["ca"] + ".der"
     plain, marked = run(program, path)[1].splitlines(), run(program, "--issuer", paths["ta"] + ".der", path)
     yield "a field", (marked[0], marked[1].splitlines(), marked[2]), (
-        0, plain[:1] + [b"Signature: good"] + plain[2:], b"")
-    yield "without an issuer", plain[1], b"Signature: not checked"
+        0, plain[:2] + [b"Signature: good"] + plain[3:], b"")
+    yield "without an issuer", plain[2], b"Signature: not checked"
     status, output, faults = run(program, "--json", "--issuer", paths["ta"] + ".der", path)
     yield "a member", (status, json.loads(output)["signature"], faults), (0, "good", b"")
-    verdicts = {"ta": {"signature": "good", "validation": OK},
-                "ca": {"signature": BAD, "validation": OF_CERTIFICATE + BAD}}
+    verdicts = {"ta": {"signature": "good", "verdict": OK},
+                "ca": {"signature": BAD, "verdict": OF_CERTIFICATE + BAD}}
     for issuer, told in verdicts.items():
         status, output, faults = run(program, "--json", "--check", "--issuer", paths[issuer] + ".der", path)
         yield f"a verdict as JSON, {issuer}", (status, json.loads(output), faults), (

@@ -10,6 +10,7 @@ import subprocess
 import sys
 from datetime import datetime
 
+import forms
 import lists
 import objects
 import payloads
@@ -77,10 +78,16 @@ def signed_at(path):
     return moment(text.split("signingTime", 1)[1].split("UTCTIME:", 1)[1].splitlines()[0].strip())
 
 
+def digest(path):
+    """The digest of the file."""
+    with open(path, "rb") as file:
+        return forms.hash_id(file.read())
+
+
 def of_list(repository, name):
     """A revocation list: its fields and what it lists."""
     path = os.path.join(repository, "rpki.example/repo", name, name + ".crl")
-    fields = [("File", path), ("Signature", "not checked"), ("Type", "crl"),
+    fields = [("File", path), digest(path), ("Signature", "not checked"), ("Type", "crl"),
               ("CRL Issuer", told("crl", path, "-issuer", *NAMED)),
               ("CRL Serial", told("crl", path, "-crlnumber").replace("0x", "")),
               ("Valid Since", PERIOD[0]), ("Valid Until", PERIOD[1]),
@@ -89,7 +96,7 @@ def of_list(repository, name):
     items = []
     for entry in text.split("Serial Number: ")[1:]:
         items.append([("Serial", entry.split()[0]),
-                      ("Date", moment(entry.split("Revocation Date: ", 1)[1].splitlines()[0].strip()))])
+                      ("Revocation Date", moment(entry.split("Revocation Date: ", 1)[1].splitlines()[0].strip()))])
     return path, fields, ("Revoked Certs", items)
 
 
@@ -98,12 +105,14 @@ def of_signed(repository, name):
     folder, issuer, entity, kind = SIGNED[name]
     path = os.path.join(repository, folder, name)
     cert = os.path.join(repository, "work", entity + ".cer")
-    fields = [("File", path), ("Signature", "good, issuer not checked"), ("Type", kind), ("SKI", key_of(cert)),
+    of_cert = "Cert " if kind == "manifest" else ""
+    fields = [("File", path), digest(path), ("Signature", "good, issuer not checked"), ("Type", kind),
+              ("SKI", key_of(cert)),
               ("AKI", key_of(os.path.join(repository, "rpki.example/repo/ta", issuer + ".cer"))),
               ("Cert Issuer", told("x509", cert, "-issuer", *NAMED)), ("Cert Serial", told("x509", cert, "-serial")),
               ("AIA", f"{BASE}/ta/{issuer}.cer"), ("SIA", f"{BASE}/{issuer}/{name}"), ("Signing Time", signed_at(path)),
-              ("Not Before", told("x509", cert, "-startdate", "-dateopt", "iso_8601")),
-              ("Not After", told("x509", cert, "-enddate", "-dateopt", "iso_8601"))]
+              (of_cert + "Valid Since", told("x509", cert, "-startdate", "-dateopt", "iso_8601")),
+              (of_cert + "Valid Until", told("x509", cert, "-enddate", "-dateopt", "iso_8601"))]
     if kind == "manifest":
         fields += [("Manifest Number", "07"), ("Valid Since", PERIOD[0]), ("Valid Until", PERIOD[1])]
         return path, fields, ("FilesAndHashes", files_beside(path))
@@ -133,16 +142,10 @@ def as_text(fields, listing):
     return "".join(line + "\n" for line in lines).encode()
 
 
-def member(label):
-    """The name of a field in JSON."""
-    return label.lower().replace(" ", "_").replace("-", "_")
-
-
 def as_pairs(fields, listing):
     """The members, in order."""
     label, items = listing
-    listed = [[(member(name), value) for name, value in item] for item in items]
-    return [(member(name), value) for name, value in fields] + [(member(label), listed)]
+    return forms.pairs(fields) + [(forms.member(label), [forms.pairs(item) for item in items])]
 
 
 def made(folder):
@@ -167,6 +170,9 @@ def repository(program, folder):
             octets = file.read()
         fields[0] = ("File", "-")
         yield f"{name} as input", run(program, "-", octets=octets), (0, as_text(fields, listing), b"")
+        if name.endswith(".crl"):
+            text = b"a list\n" + openssl("crl", "-inform", "DER", "-in", path)
+            yield f"{name} as PEM", run(program, "-", octets=text), (0, as_text(fields, listing), b"")
         for ending in ("cer", "crl", "mft", "roa", "asa", "txt"):
             other = os.path.join(folder, "object." + ending)
             with open(other, "wb") as file:

@@ -160,7 +160,7 @@ def keys(program, folder):
             seen = run(program, "--check", "--issuer", issuer, path)
             yield f"{name} by {issuer}", seen, (0 if said == OK else 1, line(path, said), b"")
             status, output, _ = run(program, "--json", "--check", "--issuer", issuer, path)
-            told = {"file": path, "signature": signature, "validation": said}
+            told = {"file": path, "signature": signature, "verdict": said}
             yield f"{name} by {issuer} as JSON", (status, json.loads(output)), (0 if said == OK else 1, told)
         status, output, _ = run(program, "--issuer", right, path)
         yield f"{name}, a field", (status, b"Signature: good\n" in output), (0, True)

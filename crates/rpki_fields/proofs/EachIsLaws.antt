@@ -21,6 +21,13 @@ each-taken R view xs i x ys y lt e h k =
     ∙ ap (λ w. map view (take i xs) ++ (view w ∷ [])) (sym e) in
     subst (λ w. EachIs R w (ys ++ (y ∷ []))) (sym same) (each-more R (map view (take i xs)) ys (view x) y h k)
 
+-- the same of those items themselves
+pub each-next : {A C : Type 0} (R : A → C → Type 0) (xs : List A) (i : ℕ) (d : A) (ys : List C) (y : C)
+    → i < length xs → EachIs R (take i xs) ys → R (get_or xs i d) y → EachIs R (take (i + 1) xs) (ys ++ (y ∷ []))
+each-next R xs i d ys y lt h k =
+    subst (λ w. EachIs R w (ys ++ (y ∷ []))) (sym (take_more xs i d lt))
+    (each-more R (take i xs) ys (get_or xs i d) y h k)
+
 -- where each item is related to one at most, so is the list
 pub one-each : {A B : Type 0} (R : A → B → Type 0) → ((x : A) (y z : B) → R x y → R x z → y ≡ z)
     → (xs : List A) (ys zs : List B) → EachIs R xs ys → EachIs R xs zs → ys ≡ zs

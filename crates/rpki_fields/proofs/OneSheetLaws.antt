@@ -21,11 +21,13 @@ use Rattle.rpki_fields.specs.ContentText.{AreManifestFields, IsManifestSheet, Is
 use Rattle.rpki_fields.specs.ContentText.{IsOtherSheet}
 use Rattle.rpki_fields.specs.Field.{FieldParts}
 use Rattle.rpki_fields.specs.ListText.{AreListFields, IsEntryItem, IsListSheet}
-use Rattle.rpki_fields.specs.ObjectText.{IsSheet}
+use Rattle.rpki_fields.specs.ObjectText.{IsCertSheet, IsSheet}
 use Rattle.rpki_fields.specs.Sheet.{SheetParts, plain_sheet}
 use Rattle.rpki_fields.specs.SignedText.{AreSignerKeys, AreSignerNames, AreSignerPlaces, AreSignedFields}
+use Rattle.rpki_fields.specs.SignedText.{SignedLabels, labels_of, manifest_labels}
 use Rattle.rpki_fields.specs.ValueText.{colon_digits}
 use Rattle.rpki_fields.proofs.EachIsLaws.{one-each}
+use Rattle.rpki_fields.proofs.ResourceItemLaws.{one-resource-items}
 use Rattle.rpki_fields.proofs.OtherTextLaws.{one-other-fields}
 use Rattle.rpki_fields.proofs.OneTextLaws.{one-number, one-name-text, one-only, one-uri, one-fields}
 
@@ -68,9 +70,9 @@ one-signer-places es xs ys g h =
     let object = one-uri subject_info_access (SpellsRsyncAccess signed_object) es g.1 h.1 g.3 h.3 in
     (rw (issuer, object) at g.4) ∙ sym h.4
 
-one-signed-fields : (type : List ℕ) (x : ObjectParts) (xs ys : List FieldParts) → AreSignedFields type x xs
-    → AreSignedFields type x ys → xs ≡ ys
-one-signed-fields type x xs ys g h =
+one-signed-fields : (labels : SignedLabels) (x : ObjectParts) (xs ys : List FieldParts) → AreSignedFields labels x xs
+    → AreSignedFields labels x ys → xs ≡ ys
+one-signed-fields labels x xs ys g h =
     let keys = one-signer-keys x.cert.tbs.extensions g.keys h.keys g.are_keys h.are_keys in
     let names = one-signer-names x.cert.tbs g.names h.names g.are_names h.are_names in
     let places = one-signer-places x.cert.tbs.extensions g.places h.places g.are_places h.are_places in
@@ -83,27 +85,36 @@ one-manifest-fields m xs ys g h = let number = one-number m.number g.0 h.0 g.1 h
 one-manifest-sheet : (x : TypedParts ManifestParts) (a b : SheetParts) → IsManifestSheet x a → IsManifestSheet x b
     → a ≡ b
 one-manifest-sheet x a b g h =
-    let signed = one-signed-fields (codes "manifest") x.object g.0 h.0 g.2 h.2 in
+    let signed = one-signed-fields manifest_labels x.object g.0 h.0 g.2 h.2 in
     let own = one-manifest-fields x.content g.1 h.1 g.3 h.3 in
     (rw (signed, own) at g.4) ∙ sym h.4
 
 one-origin-sheet : (x : TypedParts AttestationParts) (a b : SheetParts) → IsOriginSheet x a → IsOriginSheet x b → a ≡ b
-one-origin-sheet x a b g h = let signed = one-signed-fields (codes "roa") x.object g.0 h.0 g.1 h.1 in (rw signed at g.2)
-    ∙ sym h.2
+one-origin-sheet x a b g h =
+    let signed = one-signed-fields (labels_of (codes "roa")) x.object g.0 h.0 g.1 h.1 in
+    (rw signed at g.2) ∙ sym h.2
 
 one-provider-sheet : (x : TypedParts AspaParts) (a b : SheetParts) → IsProviderSheet x a → IsProviderSheet x b → a ≡ b
-one-provider-sheet x a b g h = let signed = one-signed-fields (codes "aspa") x.object g.0 h.0 g.1 h.1 in
+one-provider-sheet x a b g h = let signed = one-signed-fields (labels_of (codes "aspa")) x.object g.0 h.0 g.1 h.1 in
     (rw signed at g.2) ∙ sym h.2
 
 one-other-sheet : (x : ObjectParts) (a b : SheetParts) → IsOtherSheet x a → IsOtherSheet x b → a ≡ b
-one-other-sheet x a b g h = let signed = one-signed-fields (codes "signed_object") x g.0 h.0 g.1 h.1 in
+one-other-sheet x a b g h = let signed = one-signed-fields (labels_of (codes "signed_object")) x g.0 h.0 g.1 h.1 in
     (rw signed at g.2) ∙ sym h.2
+
+-- ---- certificates
+
+one-cert-sheet : (octets : List ℕ) (t : TbsParts) (a b : SheetParts) → IsCertSheet octets t a → IsCertSheet octets t b
+    → a ≡ b
+one-cert-sheet octets t a b g h =
+    let fields = one-fields octets t g.0 h.0 g.2 h.2 in
+    let items = one-resource-items t.extensions g.1 h.1 g.3 h.3 in
+    (rw (fields, items) at g.4) ∙ sym h.4
 
 -- ---- objects
 
 pub one-sheet : (octets : List ℕ) (x : Object) (a b : SheetParts) → IsSheet octets x a → IsSheet octets x b → a ≡ b
-one-sheet octets (Certificate c) a b g h = g.2
-    ∙ ap (λ (fields : List FieldParts). plain_sheet fields) (one-fields octets c.tbs g.0 h.0 g.1 h.1) ∙ sym h.2
+one-sheet octets (Certificate c) a b g h = one-cert-sheet octets c.tbs a b g h
 one-sheet octets (RevocationList l) a b g h = one-list-sheet l.list a b g h
 one-sheet octets (FileList m) a b g h = one-manifest-sheet m a b g h
 one-sheet octets (RouteOrigins r) a b g h = one-origin-sheet r a b g h

@@ -185,4 +185,4 @@ one-fields octets t xs ys g h =
     let issuer = one-issuer t.extensions g.issuer h.issuer g.are_issuer h.are_issuer in
     let subject = one-subject t.extensions g.subject h.subject g.are_subject h.are_subject in
     let resources = one-resources t.extensions g.resources h.resources g.are_resources h.are_resources in
-    (rw (head, middle, key, identifiers, uses, issuer, subject, resources) at g.parts) ∙ sym h.parts
+    (rw (uses, identifiers, head, middle, key, issuer, subject, resources) at g.parts) ∙ sym h.parts

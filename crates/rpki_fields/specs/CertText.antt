@@ -1,6 +1,6 @@
 -- What is shown of a certificate: a list of fields.
 use Rattle.std.specs.Prelude.{◌≡◌, ◌⊎◌, ℕ, Bool, false, true, if◌then◌else◌, List, [], ◌∷◌, ◌++◌, map, codes, bytes_eq}
-use Rattle.std.specs.Prelude.{Option, Some}
+use Rattle.std.specs.Prelude.{Option, Some, unwrap_or}
 use Rattle.std.specs.Option.{option_map}
 use Rattle.sha1.specs.Sha1.{sha1}
 use Rattle.sha2.specs.Sha256.{sha256}
@@ -23,9 +23,10 @@ use Rattle.rpki_cert.specs.ExtensionContent.{SpellsConstraints, SpellsAuthority,
 use Rattle.rpki_cert.specs.ExtensionContent.{SpellsPolicies}
 use Rattle.rpki_cert.specs.Access.{SpellsRsyncAccess, SpellsHttpsAccess, SpellsPoints, HasUri, ca_issuers}
 use Rattle.rpki_cert.specs.Access.{ca_repository, rpki_manifest, signed_object, rpki_notify}
-use Rattle.rpki_fields.specs.Field.{FieldParts, field_parts, field_if, other_text}
+use Rattle.rpki_fields.specs.Field.{FieldParts, field_parts, number_parts, time_parts, size_parts, field_if}
+use Rattle.rpki_fields.specs.Field.{other_text}
 use Rattle.rpki_fields.specs.IdentifierText.{identifier_text}
-use Rattle.rpki_fields.specs.ValueText.{colon_digits, IsNumberText, time_text}
+use Rattle.rpki_fields.specs.ValueText.{colon_digits, IsNumberText}
 use Rattle.rpki_fields.specs.NameText.{IsNameText}
 use Rattle.rpki_fields.specs.KeySize.{IsSizeText}
 use Rattle.rpki_fields.specs.ResourceText.{AreResources}
@@ -36,16 +37,16 @@ use Rattle.rpki_fields.specs.ResourceText.{AreResources}
 abbrev pub AreHead : TbsParts → List FieldParts → Type 0
 AreHead t fields =
     (serial : List ℕ) × (issuer : List ℕ) × IsNumberText t.serial serial × IsNameText t.issuer issuer
-    × (fields ≡ field_parts (codes "Version") (codes "3") ∷ field_parts (codes "Serial Number") serial
+    × (fields ≡ number_parts (codes "Version") 3 ∷ field_parts (codes "Cert Serial") serial
     ∷ field_parts (codes "Signature Algorithm") (codes "sha256WithRSAEncryption")
-    ∷ field_parts (codes "Issuer") issuer ∷ [])
+    ∷ field_parts (codes "Cert Issuer") issuer ∷ [])
 
 -- the period and the subject
 abbrev pub AreMiddle : Period → List ℕ → List FieldParts → Type 0
 AreMiddle validity name fields =
     (subject : List ℕ) × IsNameText name subject
-    × (fields ≡ field_parts (codes "Not Before") (time_text validity.not_before)
-    ∷ field_parts (codes "Not After") (time_text validity.not_after)
+    × (fields ≡ time_parts (codes "Valid Since") validity.not_before
+    ∷ time_parts (codes "Valid Until") validity.not_after
     ∷ field_parts (codes "Subject") subject ∷ [])
 
 abbrev pub algorithm_text : PublicKeyFormat → List ℕ
@@ -56,7 +57,7 @@ algorithm_text EcdsaP256 = codes "id-ecPublicKey prime256v1"
 abbrev pub key_fields : KeyParts → List ℕ → List FieldParts
 key_fields k size =
     field_parts (codes "Public Key Algorithm") (algorithm_text k.format)
-    ∷ field_parts (codes "Public Key Bits") size
+    ∷ size_parts (codes "Public Key Bits") size
     ∷ field_parts (codes "Public Key SHA-1") (colon_digits (sha1 k.bits.octets)) ∷ []
 
 abbrev pub AreKey : KeyParts → List FieldParts → Type 0
@@ -128,17 +129,29 @@ abbrev pub AreIdentifiers : List ExtensionParts → List FieldParts → Type 0
 AreIdentifiers xs fields =
     (subject : Option (List ℕ)) × (authority : Option (List ℕ))
     × IsSubjectText xs subject × IsAuthorityText xs authority
-    × (fields ≡ field_if (codes "Subject Key Identifier") subject
-    ++ field_if (codes "Authority Key Identifier") authority)
+    × (fields ≡ field_if (codes "SKI") subject ++ field_if (codes "AKI") authority)
 
--- what the key is for
+-- the text is there, and is this one
+abbrev pub has_text : Option (List ℕ) → List ℕ → Bool
+has_text o text = bytes_eq (unwrap_or o []) text
+
+-- the type of a certificate, by what is shown of its basic constraints and of its extended key usage: that of an
+-- authority, of a router (RFC 8209), or of another end entity
+abbrev pub cert_type : (constraints purposes : Option (List ℕ)) → List ℕ
+cert_type constraints purposes =
+    if has_text constraints (codes "CA:TRUE") then codes "ca_cert"
+    else if has_text purposes (codes "BGPsec Router") then codes "router_key"
+    else codes "ee_cert"
+
+-- the type, and what the key is for
 abbrev pub AreUses : List ExtensionParts → List FieldParts → Type 0
 AreUses xs fields =
     (constraints : Option (List ℕ)) × (usage : Option (List ℕ)) × (purposes : Option (List ℕ))
     × (policies : Option (List ℕ))
     × IsConstraintsText xs constraints × IsUsageText xs usage × IsPurposesText xs purposes
     × IsPolicyText xs policies
-    × (fields ≡ field_if (codes "Basic Constraints") constraints ++ field_if (codes "Key Usage") usage
+    × (fields ≡ field_parts (codes "Type") (cert_type constraints purposes)
+    ∷ field_if (codes "Basic Constraints") constraints ++ field_if (codes "Key Usage") usage
     ++ field_if (codes "Extended Key Usage") purposes ++ field_if (codes "Certificate Policies") policies)
 
 -- a URI as it is
@@ -151,7 +164,7 @@ AreIssuerPlaces xs fields =
     (revocation : Option (List ℕ)) × (issuer : Option (List ℕ))
     × SaysUri crl_distribution_points SpellsPoints xs revocation
     × SaysUri authority_info_access (SpellsRsyncAccess ca_issuers) xs issuer
-    × (fields ≡ field_if (codes "CRL Distribution Points") revocation ++ field_if (codes "CA Issuers") issuer)
+    × (fields ≡ field_if (codes "CRL Distribution Points") revocation ++ field_if (codes "AIA") issuer)
 
 -- where the subject publishes
 abbrev pub AreSubjectPlaces : List ExtensionParts → List FieldParts → Type 0
@@ -162,8 +175,8 @@ AreSubjectPlaces xs fields =
     × SaysUri subject_info_access (SpellsRsyncAccess rpki_manifest) xs manifest
     × SaysUri subject_info_access (SpellsRsyncAccess signed_object) xs object
     × SaysUri subject_info_access (SpellsHttpsAccess rpki_notify) xs notify
-    × (fields ≡ field_if (codes "CA Repository") repository ++ field_if (codes "RPKI Manifest") manifest
-    ++ field_if (codes "Signed Object") object ++ field_if (codes "RPKI Notify") notify)
+    × (fields ≡ field_if (codes "CARepository") repository ++ field_if (codes "Manifest") manifest
+    ++ field_if (codes "SIA") object ++ field_if (codes "Notify URL") notify)
 
 -- ---- the list of extensions
 
@@ -221,5 +234,5 @@ pub record AreFields (octets : List ℕ) (t : TbsParts) (fields : List FieldPart
   pub are_issuer : AreIssuerPlaces t.extensions issuer
   pub are_subject : AreSubjectPlaces t.extensions subject
   pub are_resources : AreResources t.extensions resources
-  pub parts : fields ≡ head ++ middle ++ key ++ identifiers ++ uses ++ issuer ++ subject ++ resources
+  pub parts : fields ≡ uses ++ identifiers ++ head ++ middle ++ key ++ issuer ++ subject ++ resources
       ++ map extension_field t.extensions ++ field_parts (codes "SHA-256 Fingerprint") (fingerprint_text octets) ∷ []

@@ -8,6 +8,7 @@ pub mod KeySize
 pub mod Field
 pub mod Sheet
 pub mod ResourceText
+pub mod ResourceItems
 pub mod CertText
 pub mod OtherCert
 pub mod OtherView

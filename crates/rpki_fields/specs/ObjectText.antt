@@ -1,5 +1,6 @@
 -- What is shown of an object.
-use Rattle.std.specs.Prelude.{◌≡◌, ℕ, List}
+use Rattle.std.specs.Prelude.{◌≡◌, ℕ, false, List, codes}
+use Rattle.rpki_cert.specs.Cert.{TbsParts}
 use Rattle.rpki_fields.specs.declared.object.Object.{Object}
 use Rattle.rpki_fields.specs.declared.object.Object.TheVariants.{Certificate, RevocationList, FileList, RouteOrigins}
 use Rattle.rpki_fields.specs.declared.object.Object.TheVariants.{Providers, OtherContent, OtherCertificate}
@@ -8,12 +9,19 @@ use Rattle.rpki_fields.specs.ContentText.{IsManifestSheet, IsOriginSheet, IsProv
 use Rattle.rpki_fields.specs.Field.{FieldParts}
 use Rattle.rpki_fields.specs.ListText.{IsListSheet}
 use Rattle.rpki_fields.specs.OtherText.{AreOtherFields}
-use Rattle.rpki_fields.specs.Sheet.{SheetParts, plain_sheet}
+use Rattle.rpki_fields.specs.ResourceItems.{AreResourceItems}
+use Rattle.rpki_fields.specs.Sheet.{SheetParts, listing_parts, plain_sheet, sheet_with}
+
+-- the sheet of a certificate: its fields, and, in JSON, its resources block by block
+abbrev pub IsCertSheet : List ℕ → TbsParts → SheetParts → Type 0
+IsCertSheet octets t s =
+    (fields : List FieldParts) × (items : List (List FieldParts)) × AreFields octets t fields
+    × AreResourceItems t.extensions items
+    × (s ≡ sheet_with (listing_parts (codes "Subordinate Resources") items false) (plain_sheet fields))
 
 -- the sheet of the object that these octets are
 abbrev pub IsSheet : List ℕ → Object → SheetParts → Type 0
-IsSheet octets (Certificate c) s =
-    (fields : List FieldParts) × AreFields octets c.tbs fields × (s ≡ plain_sheet fields)
+IsSheet octets (Certificate c) s = IsCertSheet octets c.tbs s
 IsSheet octets (RevocationList l) s = IsListSheet l.list s
 IsSheet octets (FileList m) s = IsManifestSheet m s
 IsSheet octets (RouteOrigins r) s = IsOriginSheet r s

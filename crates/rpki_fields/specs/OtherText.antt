@@ -4,7 +4,7 @@ use Rattle.std.specs.Prelude.{◌≡◌, ℕ, Bool, true, false, nat_lt, nat_eq,
 use Rattle.std.specs.Prelude.{bytes_eq, Option, Some, None}
 use Rattle.sha1.specs.Sha1.{sha1}
 use Rattle.rpki.specs.Oids.{rsa_encryption, ec_public_key}
-use Rattle.rpki_fields.specs.Field.{FieldParts, field_parts, field_if}
+use Rattle.rpki_fields.specs.Field.{FieldParts, field_parts, number_parts, size_if}
 use Rattle.rpki_fields.specs.IdentifierText.{identifier_text}
 use Rattle.rpki_fields.specs.ValueText.{hex_digits, colon_digits}
 use Rattle.rpki_fields.specs.NameText.{IsNameText}
@@ -88,7 +88,7 @@ abbrev pub AreOtherKey : OtherKeyParts → List FieldParts → Type 0
 AreOtherKey k fields =
     (size : Option (List ℕ)) × IsOtherSize k size
     × (fields ≡ field_parts (codes "Public Key Algorithm") (key_name k.algorithm)
-    ∷ field_if (codes "Public Key Bits") size
+    ∷ size_if (codes "Public Key Bits") size
     ++ field_parts (codes "Public Key SHA-1") (colon_digits (sha1 k.bits.octets)) ∷ [])
 
 -- ---- the serial number: as digits, without a zero octet in front; the octets of a negative one, after a word
@@ -117,15 +117,15 @@ unused_algorithm c =
 abbrev pub objection : OtherCertParts → List ℕ
 objection c = unused_algorithm c ++ codes ", which the RPKI doesn't use"
 
--- version, serial number, signature algorithm, what is not of the RPKI, and issuer
+-- type, version, serial number, signature algorithm, what is not of the RPKI, and issuer
 abbrev pub AreOtherHead : OtherCertParts → List FieldParts → Type 0
 AreOtherHead c fields =
     (issuer : List ℕ) × IsNameText c.tbs.issuer issuer
-    × (fields ≡ field_parts (codes "Version") (codes "3")
-    ∷ field_parts (codes "Serial Number") (integer_text c.tbs.serial)
+    × (fields ≡ field_parts (codes "Type") (codes "certificate") ∷ number_parts (codes "Version") 3
+    ∷ field_parts (codes "Cert Serial") (integer_text c.tbs.serial)
     ∷ field_parts (codes "Signature Algorithm") (algorithm_name c.algorithm.identifier)
     ∷ field_parts (codes "RPKI Profile") (objection c)
-    ∷ field_parts (codes "Issuer") issuer ∷ [])
+    ∷ field_parts (codes "Cert Issuer") issuer ∷ [])
 
 -- the fields of the certificate that these octets are, in order
 pub record AreOtherFields (octets : List ℕ) (c : OtherCertParts) (fields : List FieldParts) : Type 0 where

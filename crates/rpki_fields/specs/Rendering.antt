@@ -30,12 +30,12 @@ item_line label fields = label ++ codes ": " ++ drop 2 (flat_map item_field fiel
 abbrev pub item_lines : List ℕ → List (List FieldParts) → List ℕ
 item_lines label items = flat_map (item_line label) items
 
-abbrev pub listing_lines : Option ListingParts → List ℕ
-listing_lines None = []
-listing_lines (Some l) = item_lines l.label l.items
+-- a list: nothing where JSON alone has it
+abbrev pub listing_lines : ListingParts → List ℕ
+listing_lines l = if l.in_lines then item_lines l.label l.items else []
 
 abbrev pub sheet_lines : SheetParts → List ℕ
-sheet_lines s = lines s.fields ++ listing_lines s.listing
+sheet_lines s = lines s.fields ++ flat_map listing_lines s.listings
 
 -- ---- an object of JSON (RFC 8259 4)
 
@@ -52,9 +52,13 @@ name_octet octet = if nat_eq octet 32 || nat_eq octet 45 then 95 else to_ascii_l
 abbrev pub member_name : List ℕ → List ℕ
 member_name label = map name_octet label
 
--- a number as it is (RFC 8259 6), any other value as a string
+-- a value that JSON has otherwise, as a number (RFC 8259 6), is as it is; any other is a string of its text
+abbrev pub json_or : Option (List ℕ) → (text : List ℕ) → List ℕ
+json_or None text = json_text text
+json_or (Some json) text = json
+
 abbrev pub json_value : FieldParts → List ℕ
-json_value f = if f.number then f.value else json_text f.value
+json_value f = json_or f.json f.value
 
 -- a field as a member
 abbrev pub member : FieldParts → List ℕ
@@ -78,13 +82,12 @@ abbrev pub array_member : List ℕ → List (List FieldParts) → List ℕ
 array_member label items =
     codes "," ++ json_text (member_name label) ++ codes ":[" ++ drop 1 (flat_map next_item items) ++ codes "]"
 
-abbrev pub listing_member : Option ListingParts → List ℕ
-listing_member None = []
-listing_member (Some l) = array_member l.label l.items
+abbrev pub listing_member : ListingParts → List ℕ
+listing_member l = array_member l.label l.items
 
--- the fields, and the items of the list behind them, as an object on a line; there is a field before a list
+-- the fields, and the lists behind them, as an object on a line; there is a field before a list
 abbrev pub object : SheetParts → List ℕ
-object s = codes "{" ++ members s.fields ++ listing_member s.listing ++ codes "}\n"
+object s = codes "{" ++ members s.fields ++ flat_map listing_member s.listings ++ codes "}\n"
 
 -- ---- one form or the other
 

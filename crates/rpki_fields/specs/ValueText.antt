@@ -1,7 +1,9 @@
 -- Values as texts: octets, numbers and times.
 use Rattle.std.specs.Prelude.{◌≡◌, ℕ, ◌/◌, ◌%◌, List, [], ◌∷◌, ◌++◌}
+use Rattle.std.specs.Fmt.{signed_decimal}
 use Rattle.std.specs.List.{flat_map}
 use Rattle.jiff.specs.Types.{DateTime}
+use Rattle.jiff.specs.Words.{civil_seconds}
 use Rattle.rpki_der.specs.Number.{number_of}
 use Rattle.rpki_der.specs.Integer.{IsMagnitude}
 use Rattle.rpki_text.specs.HexText.{hex_digit}
@@ -31,3 +33,7 @@ time_text t =
     two_digits (year_number t / 100) ++ two_digits (year_number t % 100) ++ 45 ∷ two_digits t.date.month
     ++ 45 ∷ two_digits t.date.day ++ 32 ∷ two_digits t.time.hour ++ 58 ∷ two_digits t.time.minute
     ++ 58 ∷ two_digits t.time.second ++ 90 ∷ []
+
+-- the same as the whole seconds since 1970-01-01 00:00:00, in decimal digits, with a hyphen in front before it
+abbrev pub seconds_text : DateTime → List ℕ
+seconds_text t = signed_decimal (civil_seconds t)

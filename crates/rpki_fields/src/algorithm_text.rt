@@ -6,7 +6,7 @@ ghost use Rattle.rpki_fields.specs.OtherText.{curve_algorithm_name, algorithm_na
 ghost use Rattle.rpki_fields.specs.OtherText.{size_by_curve, IsOtherSize, AreOtherKey};
 
 use crate::algorithm::{Algorithm, OtherKey, PRIME256V1};
-use crate::field::{Field, push_field, push_field_if};
+use crate::field::{Field, push_field, push_size_if};
 use crate::identifier::push_identifier;
 use crate::key_size::rsa_size;
 use crate::value::colon_digits;
@@ -152,7 +152,7 @@ pub fn other_key(alloc: Global, key: &OtherKey) -> Result<Vec<Field>, AllocError
     let digest = colon_digits(alloc, &Sha1::digest(key.bits().octet_slice()))?;
     let mut fields = Vec::new(alloc);
     push_field(&mut fields, b"Public Key Algorithm", name.as_slice())?;
-    push_field_if(&mut fields, b"Public Key Bits", size)?;
+    push_size_if(&mut fields, b"Public Key Bits", size)?;
     push_field(&mut fields, b"Public Key SHA-1", digest.as_slice())?;
     Ok(fields)
 }

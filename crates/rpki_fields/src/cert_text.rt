@@ -5,13 +5,13 @@ ghost use Rattle.rpki_fields.specs.CertText.{algorithm_text, AreHead, AreMiddle,
 ghost use Rattle.rpki_fields.specs.CertText.{private_name, critical_text, extension_field, fingerprint_text, AreFields};
 
 use crate::extension_text::{identifiers, uses};
-use crate::field::{Field, push_field};
+use crate::field::{Field, push_field, push_number, push_size, push_time};
 use crate::identifier::push_identifier;
 use crate::key_size::size_text;
 use crate::name::name_text;
 use crate::place_text::{issuer_places, subject_places};
 use crate::resource_text::resources;
-use crate::value::{colon_digits, serial_text, time_text};
+use crate::value::{colon_digits, serial_text};
 use rpki::crypto::{PublicKey, PublicKeyFormat};
 use rpki::der::Oid;
 use rpki::oid;
@@ -28,14 +28,14 @@ fn head(alloc: Global, tbs: &TbsCert) -> Result<Vec<Field>, AllocError>
     let serial = serial_text(alloc, tbs.serial_number())?;
     let issuer = name_text(alloc, tbs.issuer())?;
     let mut fields = Vec::new(alloc);
-    push_field(&mut fields, b"Version", b"3")?;
-    push_field(&mut fields, b"Serial Number", serial.as_slice())?;
+    push_number(&mut fields, b"Version", 3)?;
+    push_field(&mut fields, b"Cert Serial", serial.as_slice())?;
     push_field(
         &mut fields,
         b"Signature Algorithm",
         b"sha256WithRSAEncryption",
     )?;
-    push_field(&mut fields, b"Issuer", issuer.as_slice())?;
+    push_field(&mut fields, b"Cert Issuer", issuer.as_slice())?;
     Ok(fields)
 }
 
@@ -49,12 +49,8 @@ pub fn middle(
 {
     let subject = name_text(alloc, subject)?;
     let mut fields = Vec::new(alloc);
-    push_field(
-        &mut fields,
-        b"Not Before",
-        &time_text(validity.not_before()),
-    )?;
-    push_field(&mut fields, b"Not After", &time_text(validity.not_after()))?;
+    push_time(&mut fields, b"Valid Since", validity.not_before())?;
+    push_time(&mut fields, b"Valid Until", validity.not_after())?;
     push_field(&mut fields, b"Subject", subject.as_slice())?;
     Ok(fields)
 }
@@ -80,7 +76,7 @@ fn key_fields(alloc: Global, key: &PublicKey, size: &[u8]) -> Result<Vec<Field>,
         b"Public Key Algorithm",
         algorithm_text(key.algorithm()),
     )?;
-    push_field(&mut fields, b"Public Key Bits", size)?;
+    push_size(&mut fields, b"Public Key Bits", size)?;
     push_field(&mut fields, b"Public Key SHA-1", identifier.as_slice())?;
     Ok(fields)
 }
@@ -190,20 +186,20 @@ pub fn fingerprint(alloc: Global, octets: &[u8]) -> Result<Vec<u8>, AllocError>
 pub fn fields(alloc: Global, octets: &[u8], tbs: &TbsCert) -> Result<Vec<Field>, AllocError>
     ensures { IfOk result (λ fields. AreFields octets.now tbs.now fields.items) }
 {
-    let mut fields = head(alloc, tbs)?;
+    let mut fields = uses(alloc, tbs)?;
+    let mut identifiers = identifiers(alloc, tbs)?;
+    let mut head = head(alloc, tbs)?;
     let mut middle = middle(alloc, tbs.validity(), tbs.subject())?;
     let mut key = key(alloc, tbs)?;
-    let mut identifiers = identifiers(alloc, tbs)?;
-    let mut uses = uses(alloc, tbs)?;
     let mut issuer = issuer_places(alloc, tbs)?;
     let mut subject = subject_places(alloc, tbs)?;
     let mut resources = resources(alloc, tbs)?;
     let mut extensions = extensions(alloc, tbs.extensions())?;
     let fingerprint = fingerprint(alloc, octets)?;
+    fields.append(&mut identifiers)?;
+    fields.append(&mut head)?;
     fields.append(&mut middle)?;
     fields.append(&mut key)?;
-    fields.append(&mut identifiers)?;
-    fields.append(&mut uses)?;
     fields.append(&mut issuer)?;
     fields.append(&mut subject)?;
     fields.append(&mut resources)?;

@@ -5,9 +5,9 @@ ghost use Rattle.std.specs.Option.{option_map};
 ghost use Rattle.rpki_fields.specs.Field.{other_text};
 ghost use Rattle.rpki_fields.specs.CertText.{usage_text, purposes_text, policy_text, IsSubjectText, IsAuthorityText};
 ghost use Rattle.rpki_fields.specs.CertText.{IsConstraintsText, IsUsageText, IsPurposesText, IsPolicyText};
-ghost use Rattle.rpki_fields.specs.CertText.{AreIdentifiers, AreUses};
+ghost use Rattle.rpki_fields.specs.CertText.{AreIdentifiers, has_text, cert_type, AreUses};
 
-use crate::field::{Field, other_text, push_field_if};
+use crate::field::{Field, other_text, push_field, push_field_if};
 use crate::memory::is_memory;
 use crate::value::colon_digits;
 use rpki_cert::{KeyUsage, Overclaim, TbsCert};
@@ -57,8 +57,8 @@ pub fn identifiers(alloc: Global, tbs: &TbsCert) -> Result<Vec<Field>, AllocErro
     let subject = subject_identifier(alloc, tbs)?;
     let authority = authority_identifier(alloc, tbs)?;
     let mut fields = Vec::new(alloc);
-    push_field_if(&mut fields, b"Subject Key Identifier", subject)?;
-    push_field_if(&mut fields, b"Authority Key Identifier", authority)?;
+    push_field_if(&mut fields, b"SKI", subject)?;
+    push_field_if(&mut fields, b"AKI", authority)?;
     Ok(fields)
 }
 
@@ -150,7 +150,31 @@ fn policies(alloc: Global, tbs: &TbsCert) -> Result<Option<Vec<u8>>, AllocError>
     }
 }
 
-/// What the key is for.
+/// Whether the text is there, and is this one.
+fn has_text(found: &Option<Vec<u8>>, text: &[u8]) -> bool
+    ensures { result ≡ has_text (option_map (λ v. v.items) found.now) text.now }
+{
+    match found {
+        Some(found) => found.as_slice() == text,
+        None => text.is_empty(),
+    }
+}
+
+/// The type of a certificate, by what is shown of its basic constraints and of its extended key usage.
+fn cert_type(constraints: &Option<Vec<u8>>, purposes: &Option<Vec<u8>>) -> &'static [u8]
+    ensures { result.now
+        ≡ cert_type (option_map (λ v. v.items) constraints.now) (option_map (λ v. v.items) purposes.now) }
+{
+    if has_text(constraints, b"CA:TRUE") {
+        b"ca_cert"
+    } else if has_text(purposes, b"BGPsec Router") {
+        b"router_key"
+    } else {
+        b"ee_cert"
+    }
+}
+
+/// The type, and what the key is for.
 pub fn uses(alloc: Global, tbs: &TbsCert) -> Result<Vec<Field>, AllocError>
     ensures { IfOk result (λ fields. AreUses tbs.now.extensions fields.items) }
 {
@@ -159,6 +183,7 @@ pub fn uses(alloc: Global, tbs: &TbsCert) -> Result<Vec<Field>, AllocError>
     let purposes = purposes(alloc, tbs)?;
     let policies = policies(alloc, tbs)?;
     let mut fields = Vec::new(alloc);
+    push_field(&mut fields, b"Type", cert_type(&constraints, &purposes))?;
     push_field_if(&mut fields, b"Basic Constraints", constraints)?;
     push_field_if(&mut fields, b"Key Usage", usage)?;
     push_field_if(&mut fields, b"Extended Key Usage", purposes)?;

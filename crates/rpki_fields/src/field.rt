@@ -2,8 +2,11 @@
 
 ghost use Rattle.std.specs.Prelude.{◌≡◌, ◌++◌, ◌∷◌, [], OnOk, IfOk, decimal};
 ghost use Rattle.std.specs.Option.{option_map};
-ghost use Rattle.rpki_fields.specs.Field.{field_parts, number_parts, field_if, other_text};
+ghost use Rattle.rpki_fields.specs.Field.{field_parts, json_parts, number_parts, time_parts, size_parts, field_if};
+ghost use Rattle.rpki_fields.specs.Field.{time_if, size_if, other_text};
 
+use crate::value::{seconds_text, time_text};
+use rpki_time::Time;
 use std::alloc::{AllocError, Global};
 use std::marker::Model;
 
@@ -18,20 +21,21 @@ pub fn other_text(alloc: Global, section: &[u8]) -> Result<Vec<u8>, AllocError>
     Ok(text)
 }
 
-/// A label and a value, which is a text or a number.
+/// A label and a value: as a person reads it, and as JSON has it.
 #[derive(Drop)]
 pub struct Field {
     label: Vec<u8>,
     value: Vec<u8>,
-    is_number: bool,
+    json: Option<Vec<u8>>,
 }
 
 impl Model for Field {
+    ghost use Rattle.std.specs.Option.{option_map};
     ghost use Rattle.rpki_fields.specs.Field.{FieldParts, any_parts};
 
     ghost Value = { FieldParts };
 
-    ghost view = { λ f. any_parts f.label.items f.value.items f.is_number };
+    ghost view = { λ f. any_parts f.label.items f.value.items (option_map (λ v. v.items) f.json) };
 }
 
 impl Field {
@@ -49,11 +53,11 @@ impl Field {
         self.value.as_slice()
     }
 
-    /// Whether the value is a number, in decimal digits.
-    pub fn is_number(&self) -> bool
-        ensures { result ≡ self.now.number }
+    /// The value as JSON has it, where that isn't a string of the same text.
+    pub fn json(&self) -> &Option<Vec<u8>>
+        ensures { option_map (λ v. v.items) result.now ≡ self.now.json }
     {
-        self.is_number
+        &self.json
     }
 }
 
@@ -69,7 +73,30 @@ pub fn push_field(fields: &mut Vec<Field>, label: &[u8], value: &[u8]) -> Result
     fields.push(Field {
         label,
         value,
-        is_number: false,
+        json: None,
+    })?;
+    Ok(())
+}
+
+/// Adds a field whose value is this text, and this in JSON.
+///
+/// Returns `AllocError` if allocation fails.
+pub fn push_json(
+    fields: &mut Vec<Field>,
+    label: &[u8],
+    value: &[u8],
+    json: &[u8],
+) -> Result<(), AllocError>
+    ensures { OnOk result (fields.new.items ≡ fields.old.items ++ json_parts label.now value.now json.now ∷ []) }
+{
+    let alloc = *fields.allocator();
+    let label = Vec::from_slice(alloc, label)?;
+    let shown = Vec::from_slice(alloc, value)?;
+    let json = Vec::from_slice(alloc, json)?;
+    fields.push(Field {
+        label,
+        value: shown,
+        json: Some(json),
     })?;
     Ok(())
 }
@@ -88,15 +115,31 @@ pub fn digits(alloc: Global, number: u64) -> Result<Vec<u8>, AllocError>
 pub fn push_number(fields: &mut Vec<Field>, label: &[u8], number: u64) -> Result<(), AllocError>
     ensures { OnOk result (fields.new.items ≡ fields.old.items ++ number_parts label.now number ∷ []) }
 {
-    let alloc = *fields.allocator();
-    let value = digits(alloc, number)?;
-    let label = Vec::from_slice(alloc, label)?;
-    fields.push(Field {
-        label,
-        value,
-        is_number: true,
-    })?;
-    Ok(())
+    let text = digits(*fields.allocator(), number)?;
+    push_json(fields, label, text.as_slice(), text.as_slice())
+}
+
+/// Adds a field whose value is a time: in JSON the seconds since 1970.
+///
+/// Returns `AllocError` if allocation fails.
+pub fn push_time(fields: &mut Vec<Field>, label: &[u8], time: Time) -> Result<(), AllocError>
+    ensures { OnOk result (fields.new.items ≡ fields.old.items ++ time_parts label.now time ∷ []) }
+{
+    let seconds = seconds_text(*fields.allocator(), time)?;
+    push_json(fields, label, &time_text(time), seconds.as_slice())
+}
+
+/// Adds a field whose value is a size in decimal digits, which is a number in JSON, or a word for one that isn't known.
+///
+/// Returns `AllocError` if allocation fails.
+pub fn push_size(fields: &mut Vec<Field>, label: &[u8], size: &[u8]) -> Result<(), AllocError>
+    ensures { OnOk result (fields.new.items ≡ fields.old.items ++ size_parts label.now size.now ∷ []) }
+{
+    if size == b"malformed".as_slice() {
+        push_field(fields, label, size)
+    } else {
+        push_json(fields, label, size, size)
+    }
 }
 
 /// Adds a field where there is a value.
@@ -112,6 +155,39 @@ pub fn push_field_if(
 {
     match value {
         Some(value) => push_field(fields, label, value.as_slice()),
+        None => Ok(()),
+    }
+}
+
+/// Adds a field where there is a time.
+///
+/// Returns `AllocError` if allocation fails.
+pub fn push_time_if(
+    fields: &mut Vec<Field>,
+    label: &[u8],
+    time: Option<Time>,
+) -> Result<(), AllocError>
+    ensures { OnOk result (fields.new.items ≡ fields.old.items ++ time_if label.now time) }
+{
+    match time {
+        Some(time) => push_time(fields, label, time),
+        None => Ok(()),
+    }
+}
+
+/// Adds a field where there is a size.
+///
+/// Returns `AllocError` if allocation fails.
+pub fn push_size_if(
+    fields: &mut Vec<Field>,
+    label: &[u8],
+    size: Option<Vec<u8>>,
+) -> Result<(), AllocError>
+    ensures { OnOk result (fields.new.items
+        ≡ fields.old.items ++ size_if label.now (option_map (λ v. v.items) size)) }
+{
+    match size {
+        Some(size) => push_size(fields, label, size.as_slice()),
         None => Ok(()),
     }
 }

@@ -7,7 +7,9 @@ use rpki::crypto::{PublicKey, PublicKeyFormat, RsaPublicKey};
 use std::alloc::{AllocError, Global};
 
 /// A number in decimal digits.
-fn number_text(alloc: Global, number: u128) -> Result<Vec<u8>, AllocError>
+///
+/// Returns `AllocError` if allocation fails.
+pub fn number_text(alloc: Global, number: u128) -> Result<Vec<u8>, AllocError>
     ensures { IfOk result (λ text. text.items ≡ decimal number) }
 {
     let text = format!(in alloc; "{number}")?;

@@ -27,6 +27,7 @@ mod place;
 mod place_text;
 mod provider_text;
 mod rendering;
+mod resource_items;
 mod resource_text;
 mod sheet;
 mod signed_text;

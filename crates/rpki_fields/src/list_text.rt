@@ -5,10 +5,10 @@ ghost use Rattle.rpki_objects.specs.Crl.{entry_of, entries_in};
 ghost use Rattle.rpki_fields.specs.EachIs.{EachIs};
 ghost use Rattle.rpki_fields.specs.ListText.{AreListFields, IsEntryItem, IsListSheet};
 
-use crate::field::{Field, push_field};
+use crate::field::{Field, push_field, push_time};
 use crate::name::name_text;
 use crate::sheet::{Item, Sheet};
-use crate::value::{colon_digits, serial_text, time_text};
+use crate::value::{colon_digits, serial_text};
 use rpki_objects::{Crl, CrlEntry};
 use std::alloc::{AllocError, Global};
 
@@ -24,8 +24,8 @@ fn list_fields(alloc: Global, list: &Crl) -> Result<Vec<Field>, AllocError>
     push_field(&mut fields, b"Type", b"crl")?;
     push_field(&mut fields, b"CRL Issuer", issuer.as_slice())?;
     push_field(&mut fields, b"CRL Serial", number.as_slice())?;
-    push_field(&mut fields, b"Valid Since", &time_text(list.this_update()))?;
-    push_field(&mut fields, b"Valid Until", &time_text(list.next_update()))?;
+    push_time(&mut fields, b"Valid Since", list.this_update())?;
+    push_time(&mut fields, b"Valid Until", list.next_update())?;
     push_field(&mut fields, b"AKI", authority.as_slice())?;
     Ok(fields)
 }
@@ -37,7 +37,7 @@ fn entry_item(alloc: Global, entry: CrlEntry) -> Result<Item, AllocError>
     let serial = serial_text(alloc, entry.user_certificate)?;
     let mut fields = Vec::new(alloc);
     push_field(&mut fields, b"Serial", serial.as_slice())?;
-    push_field(&mut fields, b"Date", &time_text(entry.revocation_date))?;
+    push_time(&mut fields, b"Revocation Date", entry.revocation_date)?;
     Ok(Item::new(fields))
 }
 

@@ -3,10 +3,10 @@
 ghost use Rattle.std.specs.Prelude.{◌≡◌, map, IfOk};
 ghost use Rattle.rpki_fields.specs.ContentText.{AreManifestFields, file_item, IsManifestSheet};
 
-use crate::field::{Field, push_field};
+use crate::field::{Field, push_field, push_time};
 use crate::sheet::{Item, Sheet};
 use crate::signed_text::signed_fields;
-use crate::value::{serial_text, time_text};
+use crate::value::serial_text;
 use base64::engine::general_purpose::STANDARD;
 use rpki_contents::{FileAndHash, ManifestContent};
 use rpki_objects::Manifest;
@@ -19,16 +19,8 @@ fn manifest_fields(alloc: Global, content: &ManifestContent) -> Result<Vec<Field
     let number = serial_text(alloc, content.manifest_number())?;
     let mut fields = Vec::new(alloc);
     push_field(&mut fields, b"Manifest Number", number.as_slice())?;
-    push_field(
-        &mut fields,
-        b"Valid Since",
-        &time_text(content.this_update()),
-    )?;
-    push_field(
-        &mut fields,
-        b"Valid Until",
-        &time_text(content.next_update()),
-    )?;
+    push_time(&mut fields, b"Valid Since", content.this_update())?;
+    push_time(&mut fields, b"Valid Until", content.next_update())?;
     Ok(fields)
 }
 
@@ -62,7 +54,13 @@ fn file_items(alloc: Global, files: &[FileAndHash]) -> Result<Vec<Item>, AllocEr
 pub fn manifest_sheet(alloc: Global, manifest: &Manifest) -> Result<Sheet, AllocError>
     ensures { IfOk result (λ s. IsManifestSheet manifest.now s) }
 {
-    let mut fields = signed_fields(alloc, b"manifest", manifest.object())?;
+    let mut fields = signed_fields(
+        alloc,
+        b"manifest",
+        b"Cert Valid Since",
+        b"Cert Valid Until",
+        manifest.object(),
+    )?;
     let mut own = manifest_fields(alloc, manifest.content())?;
     let items = file_items(alloc, manifest.content().file_list())?;
     fields.append(&mut own)?;

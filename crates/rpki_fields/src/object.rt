@@ -20,6 +20,7 @@ use crate::other_cert::OtherCert;
 use crate::other_cert_text::{objection, other_fields};
 use crate::other_text::other_sheet;
 use crate::provider_text::provider_sheet;
+use crate::resource_items::resource_items;
 use crate::sheet::Sheet;
 use bytes::Bytes;
 use rpki::der::{Constructed, DecodeError, Shared};
@@ -152,8 +153,10 @@ fn other_content(alloc: Global, octets: Bytes) -> Result<Object, DecodeError>
 fn cert_sheet(alloc: Global, octets: &[u8], cert: &Cert) -> Result<Sheet, AllocError>
     ensures { IfOk result (λ s. IsSheet octets.now (Certificate cert.now) s) }
 {
-    let fields = fields(alloc, octets, cert.tbs())?;
-    Ok(Sheet::plain(fields))
+    let tbs = cert.tbs();
+    let fields = fields(alloc, octets, tbs)?;
+    let items = resource_items(alloc, tbs)?;
+    Sheet::plain(fields).with_members(alloc, b"Subordinate Resources", items)
 }
 
 /// The sheet of the certificate of other algorithms that these octets are.

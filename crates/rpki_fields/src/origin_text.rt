@@ -15,7 +15,9 @@ use rpki_resources::Prefix;
 use std::alloc::{AllocError, Global};
 
 /// A prefix as a text.
-fn prefix_text(alloc: Global, prefix: Prefix) -> Result<Vec<u8>, AllocError>
+///
+/// Returns `AllocError` if allocation fails.
+pub fn prefix_text(alloc: Global, prefix: Prefix) -> Result<Vec<u8>, AllocError>
     ensures { IfOk result (λ text. text.items ≡ prefix_text (ip_text prefix.addr) prefix.len) }
 {
     let text = format!(in alloc; "{prefix}")?;
@@ -54,7 +56,13 @@ pub fn origin_sheet(alloc: Global, origins: &Roa) -> Result<Sheet, AllocError>
     ensures { IfOk result (λ s. IsOriginSheet origins.now s) }
 {
     let content = origins.content();
-    let mut fields = signed_fields(alloc, b"roa", origins.object())?;
+    let mut fields = signed_fields(
+        alloc,
+        b"roa",
+        b"Valid Since",
+        b"Valid Until",
+        origins.object(),
+    )?;
     let items = origin_items(alloc, content)?;
     push_number(&mut fields, b"ASID", u64::from(content.as_id()))?;
     Sheet::of_list(alloc, fields, b"VRPs", items)

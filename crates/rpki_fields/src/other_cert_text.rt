@@ -6,7 +6,7 @@ ghost use Rattle.rpki_fields.specs.OtherText.{unused_algorithm, AreOtherFields};
 
 use crate::algorithm_text::{other_key, push_algorithm, push_key_name};
 use crate::cert_text::{extensions, fingerprint, middle};
-use crate::field::{Field, push_field};
+use crate::field::{Field, push_field, push_number};
 use crate::name::{after, name_text};
 use crate::other_cert::OtherCert;
 use crate::value::push_digits;
@@ -78,7 +78,7 @@ pub fn objection(alloc: Global, cert: &OtherCert) -> Result<Vec<u8>, AllocError>
     Ok(text)
 }
 
-/// Version, serial number, signature algorithm, what isn't of the RPKI, and issuer.
+/// Type, version, serial number, signature algorithm, what isn't of the RPKI, and issuer.
 fn head(alloc: Global, cert: &OtherCert) -> Result<Vec<Field>, AllocError>
     ensures { IfOk result (λ fields. AreOtherHead cert.now fields.items) }
 {
@@ -88,11 +88,12 @@ fn head(alloc: Global, cert: &OtherCert) -> Result<Vec<Field>, AllocError>
     let objection = objection(alloc, cert)?;
     let issuer = name_text(alloc, cert.tbs().issuer())?;
     let mut fields = Vec::new(alloc);
-    push_field(&mut fields, b"Version", b"3")?;
-    push_field(&mut fields, b"Serial Number", serial.as_slice())?;
+    push_field(&mut fields, b"Type", b"certificate")?;
+    push_number(&mut fields, b"Version", 3)?;
+    push_field(&mut fields, b"Cert Serial", serial.as_slice())?;
     push_field(&mut fields, b"Signature Algorithm", name.as_slice())?;
     push_field(&mut fields, b"RPKI Profile", objection.as_slice())?;
-    push_field(&mut fields, b"Issuer", issuer.as_slice())?;
+    push_field(&mut fields, b"Cert Issuer", issuer.as_slice())?;
     Ok(fields)
 }
 

@@ -27,7 +27,13 @@ pub fn other_sheet(alloc: Global, object: &SignedObject) -> Result<Sheet, AllocE
     ensures { IfOk result (λ s. IsOtherSheet object.now s) }
 {
     let identifier = identifier_text(alloc, object.content_type().0.as_slice())?;
-    let mut fields = signed_fields(alloc, b"signed_object", object)?;
+    let mut fields = signed_fields(
+        alloc,
+        b"signed_object",
+        b"Valid Since",
+        b"Valid Until",
+        object,
+    )?;
     push_field(&mut fields, b"Content Type", identifier.as_slice())?;
     push_number(
         &mut fields,

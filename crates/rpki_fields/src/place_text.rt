@@ -118,7 +118,7 @@ pub fn issuer_places(alloc: Global, tbs: &TbsCert) -> Result<Vec<Field>, AllocEr
     let issuer = issuer(alloc, tbs)?;
     let mut fields = Vec::new(alloc);
     push_field_if(&mut fields, b"CRL Distribution Points", revocation)?;
-    push_field_if(&mut fields, b"CA Issuers", issuer)?;
+    push_field_if(&mut fields, b"AIA", issuer)?;
     Ok(fields)
 }
 
@@ -131,9 +131,9 @@ pub fn subject_places(alloc: Global, tbs: &TbsCert) -> Result<Vec<Field>, AllocE
     let object = object(alloc, tbs)?;
     let notify = notify(alloc, tbs)?;
     let mut fields = Vec::new(alloc);
-    push_field_if(&mut fields, b"CA Repository", repository)?;
-    push_field_if(&mut fields, b"RPKI Manifest", manifest)?;
-    push_field_if(&mut fields, b"Signed Object", object)?;
-    push_field_if(&mut fields, b"RPKI Notify", notify)?;
+    push_field_if(&mut fields, b"CARepository", repository)?;
+    push_field_if(&mut fields, b"Manifest", manifest)?;
+    push_field_if(&mut fields, b"SIA", object)?;
+    push_field_if(&mut fields, b"Notify URL", notify)?;
     Ok(fields)
 }

@@ -37,7 +37,13 @@ pub fn provider_sheet(alloc: Global, attestation: &Aspa) -> Result<Sheet, AllocE
     ensures { IfOk result (λ s. IsProviderSheet attestation.now s) }
 {
     let content = attestation.content();
-    let mut fields = signed_fields(alloc, b"aspa", attestation.object())?;
+    let mut fields = signed_fields(
+        alloc,
+        b"aspa",
+        b"Valid Since",
+        b"Valid Until",
+        attestation.object(),
+    )?;
     let items = provider_items(alloc, content.providers())?;
     push_number(
         &mut fields,

@@ -2,10 +2,11 @@
 
 ghost use Rattle.std.specs.Prelude.{◌≡◌, ◌++◌, OnOk, IfOk, string_bytes};
 ghost use Rattle.std.specs.List.{flat_map};
+ghost use Rattle.std.specs.Option.{option_map};
 ghost use Rattle.rpki_fields.specs.Rendering.{field_line, lines, item_field, item_line, item_lines, listing_lines};
 ghost use Rattle.rpki_fields.specs.Rendering.{sheet_lines, json_text, name_octet, member_name, json_value, member};
 ghost use Rattle.rpki_fields.specs.Rendering.{next_member, members, next_item, array_member, listing_member, object};
-ghost use Rattle.rpki_fields.specs.Rendering.{rendering};
+ghost use Rattle.rpki_fields.specs.Rendering.{rendering, json_or};
 
 use crate::field::Field;
 use crate::name::after;
@@ -88,14 +89,25 @@ fn push_item_lines(text: &mut Vec<u8>, label: &[u8], items: &[Item]) -> Result<(
     Ok(())
 }
 
-/// Adds the items of a list, if there is one.
-fn push_listing_lines(text: &mut Vec<u8>, listing: &Option<Listing>) -> Result<(), AllocError>
+/// Adds the items of a list, where lines have them.
+fn push_listing_lines(text: &mut Vec<u8>, listing: &Listing) -> Result<(), AllocError>
     ensures { OnOk result (text.new.items ≡ text.old.items ++ listing_lines listing.now) }
 {
-    match listing {
-        Some(listing) => push_item_lines(text, listing.label(), listing.items()),
-        None => Ok(()),
+    if listing.is_in_lines() {
+        push_item_lines(text, listing.label(), listing.items())
+    } else {
+        Ok(())
     }
+}
+
+/// Adds the items of each list.
+fn push_listings_lines(text: &mut Vec<u8>, listings: &[Listing]) -> Result<(), AllocError>
+    ensures { OnOk result (text.new.items ≡ text.old.items ++ flat_map listing_lines listings.now) }
+{
+    'listings: for listing in listings {
+        push_listing_lines(text, listing)?;
+    }
+    Ok(())
 }
 
 /// The sheet as lines.
@@ -103,7 +115,7 @@ fn sheet_lines(alloc: Global, sheet: &Sheet) -> Result<Vec<u8>, AllocError>
     ensures { IfOk result (λ text. text.items ≡ sheet_lines sheet.now) }
 {
     let mut text = lines(alloc, sheet.fields())?;
-    push_listing_lines(&mut text, sheet.listing())?;
+    push_listings_lines(&mut text, sheet.listings())?;
     Ok(text)
 }
 
@@ -140,15 +152,22 @@ fn member_name(alloc: Global, label: &[u8]) -> Result<Vec<u8>, AllocError>
     label.iter().map(|octet| name_octet(*octet)).collect(alloc)
 }
 
-/// Adds the value of a field: a number as it is, any other as a string.
+/// Adds a value: this text of JSON, if there is one, else a string.
+fn push_json_or(text: &mut Vec<u8>, json: &Option<Vec<u8>>, value: &[u8]) -> Result<(), AllocError>
+    ensures { OnOk result (text.new.items
+        ≡ text.old.items ++ json_or (option_map (λ v. v.items) json.now) value.now) }
+{
+    match json {
+        Some(json) => text.extend_from_slice(json.as_slice()),
+        None => push_json(text, value),
+    }
+}
+
+/// Adds the value of a field: what JSON has otherwise as it is, any other as a string.
 fn push_value(text: &mut Vec<u8>, field: &Field) -> Result<(), AllocError>
     ensures { OnOk result (text.new.items ≡ text.old.items ++ json_value field.now) }
 {
-    if field.is_number() {
-        text.extend_from_slice(field.value())
-    } else {
-        push_json(text, field.value())
-    }
+    push_json_or(text, field.json(), field.value())
 }
 
 /// Adds a field as a member of an object.
@@ -225,14 +244,21 @@ fn push_array(text: &mut Vec<u8>, label: &[u8], items: &[Item]) -> Result<(), Al
     text.extend_from_slice(b"]")
 }
 
-/// Adds the items of a list, if there is one, as a member after another one.
-fn push_listing(text: &mut Vec<u8>, listing: &Option<Listing>) -> Result<(), AllocError>
+/// Adds the items of a list as a member after another one.
+fn push_listing(text: &mut Vec<u8>, listing: &Listing) -> Result<(), AllocError>
     ensures { OnOk result (text.new.items ≡ text.old.items ++ listing_member listing.now) }
 {
-    match listing {
-        Some(listing) => push_array(text, listing.label(), listing.items()),
-        None => Ok(()),
+    push_array(text, listing.label(), listing.items())
+}
+
+/// Adds the items of each list as a member after another one.
+fn push_listings(text: &mut Vec<u8>, listings: &[Listing]) -> Result<(), AllocError>
+    ensures { OnOk result (text.new.items ≡ text.old.items ++ flat_map listing_member listings.now) }
+{
+    'listings: for listing in listings {
+        push_listing(text, listing)?;
     }
+    Ok(())
 }
 
 /// The sheet as an object on a line.
@@ -241,7 +267,7 @@ fn object(alloc: Global, sheet: &Sheet) -> Result<Vec<u8>, AllocError>
 {
     let mut text = Vec::from_slice(alloc, b"{")?;
     push_members(&mut text, sheet.fields())?;
-    push_listing(&mut text, sheet.listing())?;
+    push_listings(&mut text, sheet.listings())?;
     text.extend_from_slice(b"}\n")?;
     Ok(text)
 }

@@ -1,8 +1,8 @@
 //! Sheets: what is shown of an object, as fields and as items that it lists.
 
-ghost use Rattle.std.specs.Prelude.{◌≡◌, IfOk};
+ghost use Rattle.std.specs.Prelude.{◌≡◌, IfOk, true, false};
 ghost use Rattle.rpki_fields.specs.Field.{field_parts};
-ghost use Rattle.rpki_fields.specs.Sheet.{plain_sheet, list_sheet, sheet_behind};
+ghost use Rattle.rpki_fields.specs.Sheet.{plain_sheet, list_sheet, listing_parts, sheet_behind, sheet_with};
 
 use crate::field::{Field, push_field};
 use std::alloc::{AllocError, Global};
@@ -44,6 +44,7 @@ impl Item {
 pub struct Listing {
     label: Vec<u8>,
     items: Vec<Item>,
+    in_lines: bool,
 }
 
 impl Model for Listing {
@@ -51,7 +52,7 @@ impl Model for Listing {
 
     ghost Value = { ListingParts };
 
-    ghost view = { λ x. listing_parts x.label.items x.items.items };
+    ghost view = { λ x. listing_parts x.label.items x.items.items x.in_lines };
 }
 
 impl Listing {
@@ -68,13 +69,20 @@ impl Listing {
     {
         self.items.as_slice()
     }
+
+    /// Whether lines have the items, or JSON alone.
+    pub fn is_in_lines(&self) -> bool
+        ensures { result ≡ self.now.in_lines }
+    {
+        self.in_lines
+    }
 }
 
-/// What is shown of an object: fields, and the items that it lists, where it is one that does.
+/// What is shown of an object: fields, and the items that it lists.
 #[derive(Drop)]
 pub struct Sheet {
     fields: Vec<Field>,
-    listing: Option<Listing>,
+    listings: Vec<Listing>,
 }
 
 impl Model for Sheet {
@@ -82,7 +90,7 @@ impl Model for Sheet {
 
     ghost Value = { SheetParts };
 
-    ghost view = { λ x. sheet_parts x.fields.items x.listing };
+    ghost view = { λ x. sheet_parts x.fields.items x.listings.items };
 }
 
 impl Sheet {
@@ -90,10 +98,8 @@ impl Sheet {
     pub fn plain(fields: Vec<Field>) -> Sheet
         ensures { result ≡ plain_sheet fields.items }
     {
-        Sheet {
-            fields,
-            listing: None,
-        }
+        let listings = Vec::new(*fields.allocator());
+        Sheet { fields, listings }
     }
 
     /// The sheet of these fields, and of these items under a label.
@@ -108,10 +114,37 @@ impl Sheet {
         ensures { IfOk result (λ s. s ≡ list_sheet fields.items label.now items.items) }
     {
         let label = Vec::from_slice(alloc, label)?;
-        Ok(Sheet {
+        let mut listings = Vec::new(alloc);
+        listings.push(Listing {
+            label,
+            items,
+            in_lines: true,
+        })?;
+        Ok(Sheet { fields, listings })
+    }
+
+    /// The same with items at the end, under a label, which JSON alone has.
+    ///
+    /// Returns `AllocError` if allocation fails.
+    pub fn with_members(
+        self,
+        alloc: Global,
+        label: &[u8],
+        items: Vec<Item>,
+    ) -> Result<Sheet, AllocError>
+        ensures { IfOk result (λ s. s ≡ sheet_with (listing_parts label.now items.items false) self) }
+    {
+        let Sheet {
             fields,
-            listing: Some(Listing { label, items }),
-        })
+            mut listings,
+        } = self;
+        let label = Vec::from_slice(alloc, label)?;
+        listings.push(Listing {
+            label,
+            items,
+            in_lines: false,
+        })?;
+        Ok(Sheet { fields, listings })
     }
 
     /// The same with a field in front.
@@ -122,12 +155,12 @@ impl Sheet {
     {
         let Sheet {
             fields: mut others,
-            listing,
+            listings,
         } = self;
         let mut fields = Vec::new(alloc);
         push_field(&mut fields, label, value)?;
         fields.append(&mut others)?;
-        Ok(Sheet { fields, listing })
+        Ok(Sheet { fields, listings })
     }
 
     /// The fields.
@@ -137,10 +170,10 @@ impl Sheet {
         self.fields.as_slice()
     }
 
-    /// The items, where the object is one that lists.
-    pub fn listing(&self) -> &Option<Listing>
-        ensures { result.now ≡ self.now.listing }
+    /// The lists of items, in order.
+    pub fn listings(&self) -> &[Listing]
+        ensures { result.now ≡ self.now.listings }
     {
-        &self.listing
+        self.listings.as_slice()
     }
 }

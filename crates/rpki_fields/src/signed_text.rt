@@ -1,18 +1,14 @@
 //! What is shown of each signed object: of the certificate of its signer, and when it was signed.
 
-ghost use Rattle.std.specs.Prelude.{◌≡◌, ◌++◌, OnOk, IfOk};
-ghost use Rattle.std.specs.Option.{option_map};
-ghost use Rattle.rpki_fields.specs.Field.{field_if};
+ghost use Rattle.std.specs.Prelude.{◌≡◌, IfOk};
 ghost use Rattle.rpki_fields.specs.SignedText.{AreSignerKeys, AreSignerNames, AreSignerPlaces, signed_times};
-ghost use Rattle.rpki_fields.specs.SignedText.{AreSignedFields};
-ghost use Rattle.rpki_fields.specs.ValueText.{time_text};
+ghost use Rattle.rpki_fields.specs.SignedText.{signed_labels, AreSignedFields};
 
 use crate::extension_text::{authority_identifier, subject_identifier};
-use crate::field::{Field, push_field, push_field_if};
+use crate::field::{Field, push_field, push_field_if, push_time, push_time_if};
 use crate::name::name_text;
 use crate::place_text::{issuer, object as object_place};
-use crate::value::{serial_text, time_text};
-use rpki::repository::x509::Time;
+use crate::value::serial_text;
 use rpki_cert::TbsCert;
 use rpki_objects::SignedObject;
 use std::alloc::{AllocError, Global};
@@ -53,47 +49,41 @@ fn signer_places(alloc: Global, tbs: &TbsCert) -> Result<Vec<Field>, AllocError>
     Ok(fields)
 }
 
-/// Adds a time where there is one.
-fn push_time_if(fields: &mut Vec<Field>, label: &[u8], time: Option<Time>) -> Result<(), AllocError>
-    ensures { OnOk result (fields.new.items ≡ fields.old.items ++ field_if label.now (option_map time_text time)) }
-{
-    match time {
-        Some(time) => push_field(fields, label, &time_text(time)),
-        None => Ok(()),
-    }
-}
-
-/// When the object was signed, and the period of the certificate.
-fn signed_times(alloc: Global, object: &SignedObject) -> Result<Vec<Field>, AllocError>
-    ensures { IfOk result (λ fields. fields.items ≡ signed_times object.now) }
+/// When the object was signed, and the period of the certificate, under these labels.
+fn signed_times(
+    alloc: Global,
+    since: &[u8],
+    until: &[u8],
+    object: &SignedObject,
+) -> Result<Vec<Field>, AllocError>
+    ensures { IfOk result (λ fields. fields.items ≡ signed_times since.now until.now object.now) }
 {
     let validity = object.cert().tbs().validity();
     let mut fields = Vec::new(alloc);
     push_time_if(&mut fields, b"Signing Time", object.signing_time())?;
-    push_field(
-        &mut fields,
-        b"Not Before",
-        &time_text(validity.not_before()),
-    )?;
-    push_field(&mut fields, b"Not After", &time_text(validity.not_after()))?;
+    push_time(&mut fields, since, validity.not_before())?;
+    push_time(&mut fields, until, validity.not_after())?;
     Ok(fields)
 }
 
-/// The fields of a signed object whose type is told by this word.
+/// The fields of a signed object whose type is told by this word, and the period of whose certificate has these labels.
 ///
 /// Returns `AllocError` if allocation fails.
 pub fn signed_fields(
     alloc: Global,
     kind: &[u8],
+    since: &[u8],
+    until: &[u8],
     object: &SignedObject,
 ) -> Result<Vec<Field>, AllocError>
-    ensures { IfOk result (λ fields. AreSignedFields kind.now object.now fields.items) }
+    ensures { IfOk result (λ fields.
+        AreSignedFields (signed_labels kind.now since.now until.now) object.now fields.items) }
 {
     let tbs = object.cert().tbs();
     let mut keys = signer_keys(alloc, tbs)?;
     let mut names = signer_names(alloc, tbs)?;
     let mut places = signer_places(alloc, tbs)?;
-    let mut times = signed_times(alloc, object)?;
+    let mut times = signed_times(alloc, since, until, object)?;
     let mut fields = Vec::new(alloc);
     push_field(&mut fields, b"Type", kind)?;
     fields.append(&mut keys)?;

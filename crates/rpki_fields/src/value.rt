@@ -5,6 +5,7 @@ ghost use Rattle.std.specs.List.{flat_map};
 ghost use Rattle.rpki_text.specs.HexText.{hex_digit};
 ghost use Rattle.rpki_time.specs.TimeText.{two_digits};
 ghost use Rattle.rpki_fields.specs.ValueText.{hex_pair, hex_digits, colon_digits, IsNumberText, time_text};
+ghost use Rattle.rpki_fields.specs.ValueText.{seconds_text};
 
 use rpki_der::Unsigned;
 use rpki_time::{Serial, Time};
@@ -113,4 +114,15 @@ pub fn time_text(time: Time) -> [u8; 20]
         century[0], century[1], year[0], year[1], b'-', month[0], month[1], b'-', day[0], day[1],
         b' ', hour[0], hour[1], b':', minute[0], minute[1], b':', second[0], second[1], b'Z',
     ]
+}
+
+/// A time as the whole seconds since 1970-01-01 00:00:00, in decimal digits, with a hyphen in front before it.
+///
+/// Returns `AllocError` if allocation fails.
+pub fn seconds_text(alloc: Global, time: Time) -> Result<Vec<u8>, AllocError>
+    ensures { IfOk result (λ text. text.items ≡ seconds_text time) }
+{
+    let seconds = time.date_time().to_plain().to_second();
+    let text = format!(in alloc; "{seconds}")?;
+    Ok(text.into_bytes())
 }

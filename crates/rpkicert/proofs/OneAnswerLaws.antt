@@ -19,8 +19,8 @@ use Rattle.rpkicert.specs.Profiled.{IsProfiled}
 use Rattle.rpkicert.specs.Signature.{signature_of}
 use Rattle.rpkicert.specs.Request.{Asked}
 use Rattle.rpkicert.specs.Terms.{TermParts, term_parts, no_terms, IsVerified}
-use Rattle.rpkicert.specs.Shown.{file_text, marked, IsTextOf, ShownParts, shown_parts, IsShown, IsSeen, LacksMemory}
-use Rattle.rpkicert.specs.Shown.{AreSeen, outputs, faults, worst, IsRun}
+use Rattle.rpkicert.specs.Shown.{file_text, hashed, marked, IsTextOf, ShownParts, shown_parts, IsShown, IsSeen}
+use Rattle.rpkicert.specs.Shown.{LacksMemory, AreSeen, outputs, faults, worst, IsRun}
 use Rattle.rpkicert.specs.Shown.{joined, numbered, IsSeenIn, AreSeenFrom, IsSeenEach, IsSeenOf}
 use Rattle.rpkicert.specs.Shown.IsSeenOf.{OfAll, OfEach, OfNone}
 use Rattle.rpkicert.specs.Shown.IsRun.{Whole, Cut}
@@ -41,8 +41,8 @@ pub one-text-of : (form : Form) (issued : Bool) (name octets : List ℕ) (x : Ob
     → IsTextOf form issued name octets x text → IsTextOf form issued name octets x other → text ≡ other
 one-text-of form issued name octets x text other g h =
     g.2 ∙ ap (λ (s : SheetParts). rendering form
-    (sheet_behind (field_parts (codes "File") (file_text form name)) (marked (signature_of issued x) s)))
-    (one-sheet octets x g.0 h.0 g.1 h.1) ∙ sym h.2
+    (sheet_behind (field_parts (codes "File") (file_text form name))
+    (hashed octets (marked (signature_of issued x) s)))) (one-sheet octets x g.0 h.0 g.1 h.1) ∙ sym h.2
 
 -- ---- what is found
 

@@ -25,7 +25,7 @@ use Rattle.rpkicert.specs.Violation.{has_section, violation_text}
 
 -- a file has at most so many octets
 abbrev pub most_octets : ℕ
-most_octets = 1_048_576
+most_octets = 4_000_000
 
 -- the cause that the host's error of a kind is
 abbrev pub cause_of : ErrorKind → Cause
@@ -71,7 +71,7 @@ clause_told clause said = if has_section said then said else clause_text clause 
 
 abbrev pub fault_text : Fault → List ℕ
 fault_text (Unreadable cause) = unreadable_text cause
-fault_text TooLarge = codes "larger than 1048576 octets"
+fault_text TooLarge = codes "larger than 4000000 octets"
 fault_text OutOfMemory = codes "out of memory"
 fault_text Malformed = codes "malformed PEM"
 fault_text (Refused kind place e) = codes "not a " ++ kind_text kind ++ codes ": " ++ place_text place ++ error_text e

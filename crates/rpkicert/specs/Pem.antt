@@ -1,4 +1,4 @@
--- Certificates in the textual encoding of RFC 7468.
+-- Certificates and revocation lists in the textual encoding of RFC 7468.
 use Rattle.std.specs.Prelude.{ℕ, nat_eq, nat_lt, ◌-◌, ◌==◌, ◌||◌, ◌&&◌, not, Bool, if◌then◌else◌, List, [], ◌∷◌, length}
 use Rattle.std.specs.Prelude.{take, drop, map, filter, take_while, codes, Option, Some, None}
 use Rattle.std.specs.List.{starts_with}
@@ -13,6 +13,27 @@ begin_line = codes "-----BEGIN CERTIFICATE-----"
 abbrev pub end_line : List ℕ
 end_line = codes "-----END CERTIFICATE-----"
 
+-- those of a revocation list (RFC 7468 6)
+abbrev pub begin_list : List ℕ
+begin_list = codes "-----BEGIN X509 CRL-----"
+
+abbrev pub end_list : List ℕ
+end_list = codes "-----END X509 CRL-----"
+
+-- a text begins with the first line of one of them
+abbrev pub begins : List ℕ → Bool
+begins text = starts_with nat_eq text begin_line || starts_with nat_eq text begin_list
+
+-- of a text that begins so: how long that line is, the last line, and how long that is
+abbrev pub begin_size : List ℕ → ℕ
+begin_size text = if starts_with nat_eq text begin_list then 24 else 27
+
+abbrev pub end_of : List ℕ → List ℕ
+end_of text = if starts_with nat_eq text begin_list then end_list else end_line
+
+abbrev pub end_size : List ℕ → ℕ
+end_size text = if starts_with nat_eq text begin_list then 22 else 25
+
 -- space, tab, line feed and carriage return
 abbrev pub is_space : ℕ → Bool
 is_space octet = nat_eq octet 32 || nat_eq octet 9 || nat_eq octet 10 || nat_eq octet 13
@@ -24,40 +45,40 @@ before_hyphen text = take_while (λ octet. not (octet == 45)) text
 abbrev pub without_space : List ℕ → List ℕ
 without_space text = filter (λ octet. not (is_space octet)) text
 
--- the text from the first line on that begins a certificate; None where there is none
+-- the text from the first line on that begins a certificate or a list; None where there is none
 unfoldable pub from_begin : List ℕ → Option (List ℕ)
 from_begin [] = None
 from_begin (octet ∷ text) =
-    if starts_with nat_eq (octet ∷ text) begin_line then Some (octet ∷ text) else from_begin text
+    if begins (octet ∷ text) then Some (octet ∷ text) else from_begin text
 
--- The octets of the one certificate in a text that begins with it: the first line, its octets in base 64 (RFC 4648 4)
--- with white space anywhere, the last line, and text that begins no other (RFC 7468 2). None of any other text.
+-- The octets of the one certificate or list in a text that begins with it: the first line, its octets in base 64 (RFC
+-- 4648 4) with white space anywhere, the last line, and text that begins no other (RFC 7468 2). None of any other text.
 abbrev pub pem_octets : List ℕ → Option (List ℕ)
 pem_octets text =
-    let rest = drop 27 text in
+    let rest = drop (begin_size text) text in
     let body = before_hyphen rest in
     let tail = drop (length body) rest in
-    if starts_with nat_eq tail end_line && is_none (from_begin (drop 25 tail))
+    if starts_with nat_eq tail (end_of text) && is_none (from_begin (drop (end_size text) tail))
     then result_ok (decode_of standard (without_space body)) else None
 
--- the octets of a text, and of its end from the line on that begins a certificate, where it has one
+-- the octets of a text, and of its end from the line on that begins a certificate or a list, where it has one
 abbrev pub text_octets : List ℕ → Option (List ℕ) → Option (List ℕ)
 text_octets input (Some text) = pem_octets text
 text_octets input None = if starts_with nat_eq input (codes "-----BEGIN") then None else Some input
 
 -- The octets that an input stands for: itself where it begins with the identifier octet of a SEQUENCE (X.690 8.9), as a
--- certificate does; else those of the certificate in it, with any text in front (RFC 7468 2); else itself, unless it
--- begins as another text of RFC 7468.
+-- certificate does; else those of the certificate or list in it, with any text in front (RFC 7468 2); else itself,
+-- unless it begins as another text of RFC 7468.
 abbrev pub octets_of : List ℕ → Option (List ℕ)
 octets_of input = if starts_with nat_eq input (48 ∷ []) then Some input else text_octets input (from_begin input)
 
--- ---- several certificates
+-- ---- several certificates or lists
 
 -- the ends of a text that begin with a first line, in order
 unfoldable pub begun_in : List ℕ → List (List ℕ)
 begun_in [] = []
 begun_in (octet ∷ text) =
-    if starts_with nat_eq (octet ∷ text) begin_line then (octet ∷ text) ∷ begun_in text else begun_in text
+    if begins (octet ∷ text) then (octet ∷ text) ∷ begun_in text else begun_in text
 
 -- what a text has in front of this end of it; all of it without one
 abbrev pub up_to : List ℕ → Option (List ℕ) → List ℕ

@@ -8,6 +8,9 @@ use Rattle.rpki_fields.specs.declared.rendering.Form.{Form}
 use Rattle.rpki_fields.specs.declared.rendering.Form.TheVariants.{Text, Json}
 use Rattle.rpkicert.specs.declared.fault.Fault.TheVariants.{OutOfMemory}
 use Rattle.rpki_fields.specs.ValueText.{hex_pair}
+use Rattle.base64.specs.Engines.{standard}
+use Rattle.base64.specs.GeneralPurpose.{encode_of}
+use Rattle.sha2.specs.Sha256.{sha256}
 use Rattle.rpki_fields.specs.Field.{field_parts}
 use Rattle.rpki_fields.specs.Rendering.{rendering}
 use Rattle.rpki_fields.specs.Object.{objection_to}
@@ -46,20 +49,28 @@ file_text Json name = name
 abbrev pub marked : Signature → SheetParts → SheetParts
 marked signature s = sheet_behind (field_parts (codes "Signature") (signature_text signature)) s
 
--- the text of the object that these octets are: its file, and then its sheet, in one form or the other
+-- the digest of a file by SHA-256, in base 64, as manifests have it (RFC 9286 4.2.1, RFC 4648 4)
+abbrev pub hash_text : (octets : List ℕ) → List ℕ
+hash_text octets = encode_of standard (sha256 octets)
+
+-- a sheet with a field in front that has the digest of the file
+abbrev pub hashed : (octets : List ℕ) → SheetParts → SheetParts
+hashed octets s = sheet_behind (field_parts (codes "Hash ID") (hash_text octets)) s
+
+-- the text of the object that these octets are: its file and the digest, and then its sheet, in one form or the other
 abbrev pub IsTextOf : Form → (issued : Bool) → List ℕ → List ℕ → Object → List ℕ → Type 0
 IsTextOf form issued name octets x text =
     (s : SheetParts) × IsSheet octets x s
     × (text ≡ rendering form (sheet_behind (field_parts (codes "File") (file_text form name))
-    (marked (signature_of issued x) s)))
+    (hashed octets (marked (signature_of issued x) s))))
 
--- The verdict on a file, OK or what is wrong: a line, or an object of JSON on a line, whose names are those of
--- `rpki-client -f -j` where that has one; and there what was checked of the signatures.
+-- The verdict on a file, OK or what is wrong: a line, or an object of JSON on a line; and there what was checked of the
+-- signatures. It isn't under the name `validation`, by which `rpki-client -f -j` means a whole path.
 abbrev pub verdict : Form → Signature → (name said : List ℕ) → List ℕ
 verdict Text signature name said = line name said
 verdict Json signature name said =
     rendering Json (sheet_behind (field_parts (codes "File") name)
-    (marked signature (sheet_behind (field_parts (codes "Validation") said) (plain_sheet []))))
+    (marked signature (sheet_behind (field_parts (codes "Verdict") said) (plain_sheet []))))
 
 -- what goes to the output, what goes to the faults, and the status
 pub record ShownParts : Type 0 where

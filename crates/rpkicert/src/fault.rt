@@ -107,7 +107,7 @@ impl Clause {
 pub enum Fault {
     /// There is no such file, or it could not be read to its end.
     Unreadable(Cause),
-    /// It has more than 1,048,576 octets.
+    /// It has more than 4,000,000 octets.
     TooLarge,
     /// Allocation failed.
     OutOfMemory,
@@ -191,7 +191,7 @@ impl Fault {
     {
         match self {
             Fault::Unreadable(cause) => String::from_str(alloc, cause.text()),
-            Fault::TooLarge => String::from_str(alloc, "larger than 1048576 octets"),
+            Fault::TooLarge => String::from_str(alloc, "larger than 4000000 octets"),
             Fault::OutOfMemory => String::from_str(alloc, "out of memory"),
             Fault::Malformed => String::from_str(alloc, "malformed PEM"),
             Fault::Refused(kind, place, e) => refused_text(alloc, kind, place, e),

@@ -9,18 +9,18 @@ use std::alloc::Global;
 use std::io::Read;
 
 /// How many octets a file has at most.
-const MOST: usize = 1_048_576;
+const MOST: usize = 4_000_000;
 
 /// All that the reader has left.
 ///
-/// Returns `TooLarge` if that is more than 1,048,576 octets; `Unreadable` if the reader fails; `OutOfMemory` if
+/// Returns `TooLarge` if that is more than 4,000,000 octets; `Unreadable` if the reader fails; `OutOfMemory` if
 /// allocation fails.
 pub fn read_whole<R: Read>(alloc: Global, input: &mut R) -> Result<Vec<u8>, Fault>
     ensures { IfSome (R.remaining input.old) (λ octets. IsReadFrom octets (read_of result)) }
 {
     let mut all = Vec::new(alloc);
     let mut buffer = [0u8; 4096];
-    for _ in 0..1_048_577u32 {
+    for _ in 0..4_000_001u32 {
         match input.read(&mut buffer) {
             Ok(0) => return Ok(all),
             Ok(n) => {

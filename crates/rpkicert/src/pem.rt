@@ -1,9 +1,9 @@
-//! Certificates in the textual encoding of RFC 7468.
+//! Certificates and revocation lists in the textual encoding of RFC 7468.
 
 ghost use Rattle.std.specs.Prelude.{◌≡◌, drop, map, IfOk};
 ghost use Rattle.std.specs.Option.{option_map};
-ghost use Rattle.rpkicert.specs.Pem.{is_space, from_begin, before_hyphen, without_space, pem_octets, octets_of};
-ghost use Rattle.rpkicert.specs.Pem.{up_to, certificate_texts, bundle_in};
+ghost use Rattle.rpkicert.specs.Pem.{begins, begin_size, end_of, end_size, is_space, from_begin, before_hyphen};
+ghost use Rattle.rpkicert.specs.Pem.{without_space, pem_octets, octets_of, up_to, certificate_texts, bundle_in};
 
 use base64::DecodeAllocError;
 use base64::engine::general_purpose::STANDARD;
@@ -16,6 +16,44 @@ const BEGIN: &[u8] = b"-----BEGIN CERTIFICATE-----";
 /// The last line.
 const END: &[u8] = b"-----END CERTIFICATE-----";
 
+/// The first line of a revocation list (RFC 7468 6).
+const BEGIN_LIST: &[u8] = b"-----BEGIN X509 CRL-----";
+
+/// The last line of a revocation list.
+const END_LIST: &[u8] = b"-----END X509 CRL-----";
+
+/// Whether the text begins with the first line of a certificate or a list.
+fn begins(text: &[u8]) -> bool
+    ensures { result ≡ begins text.now }
+{
+    text.starts_with(BEGIN) || text.starts_with(BEGIN_LIST)
+}
+
+/// How long the first line of the text is.
+fn begin_size(text: &[u8]) -> usize
+    ensures { result ≡ begin_size text.now }
+{
+    if text.starts_with(BEGIN_LIST) { 24 } else { 27 }
+}
+
+/// The last line of a text that begins so.
+fn end_of(text: &[u8]) -> &'static [u8]
+    ensures { result.now ≡ end_of text.now }
+{
+    if text.starts_with(BEGIN_LIST) {
+        END_LIST
+    } else {
+        END
+    }
+}
+
+/// How long that is.
+fn end_size(text: &[u8]) -> usize
+    ensures { result ≡ end_size text.now }
+{
+    if text.starts_with(BEGIN_LIST) { 22 } else { 25 }
+}
+
 /// Whether the octet is white space.
 fn is_space(octet: u8) -> bool
     ensures { result ≡ is_space octet }
@@ -23,13 +61,13 @@ fn is_space(octet: u8) -> bool
     octet == b' ' || octet == b'\t' || octet == b'\n' || octet == b'\r'
 }
 
-/// The text from the first line on that begins a certificate. None if there is none.
+/// The text from the first line on that begins a certificate or a list. None if there is none.
 fn from_begin(text: &[u8]) -> Option<&[u8]>
     ensures { option_map (λ rest. rest.now) result ≡ from_begin text.entry.now }
 {
     for at in 0..text.len() {
         let rest = after(text, at);
-        if rest.starts_with(BEGIN) {
+        if begins(rest) {
             return Some(rest);
         }
     }
@@ -56,14 +94,14 @@ fn without_space(alloc: Global, text: &[u8]) -> Result<Vec<u8>, AllocError>
         .collect(alloc)
 }
 
-/// The octets of the one certificate in the text, which begins with its first line.
+/// The octets of the one certificate or list in the text, which begins with its first line.
 fn pem_octets(alloc: Global, text: &[u8]) -> Result<Option<Vec<u8>>, AllocError>
     ensures { IfOk result (λ o. option_map (λ v. v.items) o ≡ pem_octets text.now) }
 {
-    let rest = after(text, 27);
+    let rest = after(text, begin_size(text));
     let body = before_hyphen(alloc, rest)?;
     let tail = after(rest, body.len());
-    if tail.starts_with(END) && from_begin(after(tail, 25)).is_none() {
+    if tail.starts_with(end_of(text)) && from_begin(after(tail, end_size(text))).is_none() {
         let digits = without_space(alloc, body.as_slice())?;
         return match STANDARD.decode(alloc, digits.as_slice()) {
             Ok(octets) => Ok(Some(octets)),
@@ -74,9 +112,9 @@ fn pem_octets(alloc: Global, text: &[u8]) -> Result<Option<Vec<u8>>, AllocError>
     Ok(None)
 }
 
-/// The octets that an input stands for: its own where it begins as a SEQUENCE; else those of the certificate in it in
-/// the textual encoding; else its own. None if it begins as a text, or a certificate in it does, and isn't exactly one
-/// certificate in that encoding.
+/// The octets that an input stands for: its own where it begins as a SEQUENCE; else those of the certificate or list in
+/// it in the textual encoding; else its own. None if it begins as a text, or a certificate or list in it does, and
+/// isn't exactly one in that encoding.
 ///
 /// Returns `AllocError` if allocation fails.
 pub fn octets_of(alloc: Global, input: Vec<u8>) -> Result<Option<Vec<u8>>, AllocError>
@@ -94,7 +132,7 @@ pub fn octets_of(alloc: Global, input: Vec<u8>) -> Result<Option<Vec<u8>>, Alloc
     Ok(Some(input))
 }
 
-/// From the first line that a text begins with to the next that begins a certificate.
+/// From the first line that a text begins with to the next that begins a certificate or a list.
 fn certificate_text(text: &[u8]) -> &[u8]
     ensures { result.now ≡ up_to text.entry.now (from_begin (drop 1 text.entry.now)) }
 {
@@ -104,21 +142,21 @@ fn certificate_text(text: &[u8]) -> &[u8]
     }
 }
 
-/// The texts of the certificates in a text.
+/// The texts of the certificates and lists in a text.
 fn certificate_texts(alloc: Global, text: &[u8]) -> Result<Vec<&[u8]>, AllocError>
     ensures { IfOk result (λ v. map (λ t. t.now) v.items ≡ certificate_texts text.entry.now) }
 {
     let mut texts = Vec::new(alloc);
     for at in 0..text.len() {
         let rest = after(text, at);
-        if rest.starts_with(BEGIN) {
+        if begins(rest) {
             texts.push(certificate_text(rest))?;
         }
     }
     Ok(texts)
 }
 
-/// The texts of the certificates in an input that has several. None of octets that begin as a SEQUENCE.
+/// The texts of the certificates and lists in an input that has several. None of octets that begin as a SEQUENCE.
 ///
 /// Returns `AllocError` if allocation fails.
 pub fn bundle_in(alloc: Global, input: &[u8]) -> Result<Option<Vec<&[u8]>>, AllocError>

@@ -1,8 +1,8 @@
 //! What is shown of a file.
 
-ghost use Rattle.std.specs.Prelude.{◌≡◌, ◌++◌, OnOk, IfOk, Bool, Ok, Err};
+ghost use Rattle.std.specs.Prelude.{◌≡◌, ◌++◌, OnOk, IfOk, Bool, Ok, Err, string_bytes};
 ghost use Rattle.rpki_fields.specs.declared.rendering.Form.TheVariants.{Json};
-ghost use Rattle.rpkicert.specs.Shown.{name_octet, visible, line, file_text, marked, verdict};
+ghost use Rattle.rpkicert.specs.Shown.{name_octet, visible, line, file_text, marked, hash_text, hashed, verdict};
 ghost use Rattle.rpkicert.specs.Shown.{IsTextOf, IsShown, checked_parts};
 ghost use Rattle.rpki_fields.specs.Object.{objection_to};
 ghost use Rattle.rpkicert.specs.FindingView.{finding_of};
@@ -11,7 +11,9 @@ ghost use Rattle.rpkicert.specs.ShownView.{parts_of};
 use crate::fault::Fault;
 use crate::finding::Found;
 use crate::signature::{Signature, signature_in, signature_of};
+use base64::engine::general_purpose::STANDARD;
 use rpki_fields::{Form, Object, Sheet, hex_pair};
+use sha2::{Digest, Sha256};
 use std::alloc::{AllocError, Global};
 
 /// What is shown of a file.
@@ -84,6 +86,21 @@ fn marked(alloc: Global, signature: Signature, sheet: Sheet) -> Result<Sheet, Al
     sheet.behind(alloc, b"Signature", signature.text())
 }
 
+/// The digest of a file by SHA-256, in base 64, as manifests have it (RFC 9286 4.2.1).
+fn hash_text(alloc: Global, octets: &[u8]) -> Result<String, AllocError>
+    ensures { IfOk result (λ text. string_bytes text ≡ hash_text octets.now) }
+{
+    STANDARD.encode(alloc, &Sha256::digest(octets))
+}
+
+/// The sheet with a field in front that has the digest of the file.
+fn hashed(alloc: Global, octets: &[u8], sheet: Sheet) -> Result<Sheet, AllocError>
+    ensures { IfOk result (λ s. s ≡ hashed octets.now sheet) }
+{
+    let text = hash_text(alloc, octets)?;
+    sheet.behind(alloc, b"Hash ID", text.as_bytes())
+}
+
 /// The text of an object, in this form.
 fn text_of(
     alloc: Global,
@@ -99,7 +116,8 @@ fn text_of(
     let sheet = found.object.as_ref().sheet(alloc, found.octets.as_slice())?;
     let signature = signature_of(issued, found.object.as_ref());
     let own = marked(alloc, signature, sheet)?;
-    let all = own.behind(alloc, b"File", file.as_slice())?;
+    let told = hashed(alloc, found.octets.as_slice(), own)?;
+    let all = told.behind(alloc, b"File", file.as_slice())?;
     form.render(alloc, &all)
 }
 
@@ -122,7 +140,7 @@ fn member_of(
     ensures { IfOk result (λ text. text.items ≡ verdict Json signature name.now said.now) }
 {
     let none = Sheet::plain(Vec::new(alloc));
-    let told = none.behind(alloc, b"Validation", said)?;
+    let told = none.behind(alloc, b"Verdict", said)?;
     let own = marked(alloc, signature, told)?;
     let all = own.behind(alloc, b"File", name.as_bytes())?;
     Form::Json.render(alloc, &all)

@@ -16,7 +16,7 @@ pub trait Sources {
 
     /// The octets of the file of this name.
     ///
-    /// Returns `TooLarge` if they are more than 1,048,576; `Unreadable` if there is none, or it can't be read to its
+    /// Returns `TooLarge` if they are more than 4,000,000; `Unreadable` if there is none, or it can't be read to its
     /// end; `OutOfMemory` if allocation fails.
     fn read(&self, alloc: Global, name: &str) -> Result<Vec<u8>, Fault>
         ensures { IfSome (holds self.now name.now) (λ source. IsRead source (read_of result)) };

@@ -28,9 +28,9 @@ of certificates (RFC 5280, in the profiles of RFC 6487 and RFC 8209),
 revocation lists (RFC 6487 5), and signed objects (RFC 6488): manifests (RFC
 9286), route origin attestations (RFC 9582), attestations of providers (ASPA)
 and other contents. Its octets tell which one a FILE has, not its name. It has
-at most 1048576 octets, as DER; certificates may be in the textual encoding of
-RFC 7468 (PEM) with other text around them, and of several each is printed as
-of a file of its own: FILE (1), FILE (2) .. - is standard input.
+at most 4000000 octets, as DER; certificates and lists may be in the textual
+encoding of RFC 7468 (PEM) with other text around them, and of several each is
+printed as of a file of its own: FILE (1), FILE (2) .. - is standard input.
 
 An object is held to all that it says by itself, and of one that breaks a rule
 only that is printed: of a signed object the type and the digest of the content,
@@ -42,7 +42,7 @@ signature. Signature: says what was checked.
   --json       print an object of JSON a line
   --check      print a verdict a line and file: its name, and OK, OK, issuer not
                checked, or what is wrong; with --json as an object of JSON, with
-               file, signature and validation
+               file, signature and verdict
   --profile P  hold each certificate, and that of the signer of each signed
                object, to the profile of a trust anchor (ta), a certification
                authority (ca), an end entity (ee), one without subject

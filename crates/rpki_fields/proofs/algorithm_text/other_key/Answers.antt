@@ -6,7 +6,7 @@ returns c = (
   _,
   c.in_ok-size.ensures,
   c.in_ok-push_field-2.ensures ∙ rw (
-    c.in_ok-push_field_if.ensures,
+    c.in_ok-push_size_if.ensures,
     c.in_ok-push_field.ensures,
     c.new-fields.ensures.items,
     c.as_slice.ensures.value,

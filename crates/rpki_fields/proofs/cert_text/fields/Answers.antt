@@ -3,19 +3,19 @@ use Rattle.rpki_fields.proofs.cert_text.fields.Goals as goal
 
 pub returns : goal.returns
 returns c = record {
-  head = c.in_ok-fields.fields.items;
+  head = c.in_ok-head.head.items;
   middle = c.in_ok-middle.middle.items;
   key = c.in_ok-key.key.items;
   identifiers = c.in_ok-identifiers.identifiers.items;
-  uses = c.in_ok-uses.uses.items;
+  uses = c.in_ok-fields.fields.items;
   issuer = c.in_ok-issuer.issuer.items;
   subject = c.in_ok-subject.subject.items;
   resources = c.in_ok-resources.resources.items;
-  are_head = c.in_ok-fields.ensures;
+  are_head = c.in_ok-head.ensures;
   are_middle = rw (c.validity.ensures, c.subject.ensures) at c.in_ok-middle.ensures;
   are_key = c.in_ok-key.ensures;
   are_identifiers = c.in_ok-identifiers.ensures;
-  are_uses = c.in_ok-uses.ensures;
+  are_uses = c.in_ok-fields.ensures;
   are_issuer = c.in_ok-issuer.ensures;
   are_subject = c.in_ok-subject.ensures;
   are_resources = c.in_ok-resources.ensures;

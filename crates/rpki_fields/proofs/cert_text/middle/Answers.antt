@@ -5,13 +5,11 @@ pub returns : goal.returns
 returns c = (
   c.in_ok-subject.subject.items,
   c.in_ok-subject.ensures,
-  c.in_ok-push_field-3.ensures ∙ rw (
-    c.in_ok-push_field-2.ensures,
-    c.in_ok-push_field.ensures,
+  c.in_ok-push_field.ensures ∙ rw (
+    c.in_ok-push_time-2.ensures,
+    c.in_ok-push_time.ensures,
     c.new-fields.ensures.items,
     c.as_slice.ensures.value,
-    c.time_text.ensures,
-    c.time_text-2.ensures,
     c.not_before.ensures,
     c.not_after.ensures,
   ) refl,

@@ -5,6 +5,6 @@ pub returns : goal.returns
 returns c = (
   c.in_ok-serial.serial.items,
   c.in_ok-serial.ensures,
-  c.new.ensures ∙ c.in_ok-push_field-2.ensures
-      ∙ rw (c.in_ok-push_field.ensures, c.new-fields.ensures.items, c.as_slice.ensures.value, c.time_text.ensures) refl,
+  c.new.ensures ∙ c.in_ok-push_time.ensures
+      ∙ rw (c.in_ok-push_field.ensures, c.new-fields.ensures.items, c.as_slice.ensures.value) refl,
 )

@@ -7,9 +7,9 @@ returns c = (
   c.in_ok-number.number.items,
   rw c.issuer.ensures at c.in_ok-issuer.ensures,
   rw c.crl_number.ensures at c.in_ok-number.ensures,
-  c.in_ok-push_field-6.ensures ∙ rw (
-    c.in_ok-push_field-5.ensures,
-    c.in_ok-push_field-4.ensures,
+  c.in_ok-push_field-4.ensures ∙ rw (
+    c.in_ok-push_time-2.ensures,
+    c.in_ok-push_time.ensures,
     c.in_ok-push_field-3.ensures,
     c.in_ok-push_field-2.ensures,
     c.in_ok-push_field.ensures,
@@ -20,8 +20,6 @@ returns c = (
     c.in_ok-authority.ensures,
     c.as_slice.ensures.octets,
     c.authority_key_identifier-key.ensures,
-    c.time_text.ensures,
-    c.time_text-2.ensures,
     c.this_update.ensures,
     c.next_update.ensures,
   ) refl,

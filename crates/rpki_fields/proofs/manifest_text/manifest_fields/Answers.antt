@@ -5,13 +5,11 @@ pub returns : goal.returns
 returns c = (
   c.in_ok-number.number.items,
   rw c.manifest_number.ensures at c.in_ok-number.ensures,
-  c.in_ok-push_field-3.ensures ∙ rw (
-    c.in_ok-push_field-2.ensures,
+  c.in_ok-push_time-2.ensures ∙ rw (
+    c.in_ok-push_time.ensures,
     c.in_ok-push_field.ensures,
     c.new-fields.ensures.items,
     c.as_slice.ensures.value,
-    c.time_text.ensures,
-    c.time_text-2.ensures,
     c.this_update.ensures.time,
     c.next_update.ensures,
   ) refl,

@@ -9,6 +9,7 @@ returns c = (
     c.in_ok-push_field-4.ensures,
     c.in_ok-push_field-3.ensures,
     c.in_ok-push_field-2.ensures,
+    c.in_ok-push_number.ensures,
     c.in_ok-push_field.ensures,
     c.new-fields.ensures.items,
     c.as_slice.ensures.value,

@@ -6,4 +6,4 @@ use Rattle.rpkicert.proofs.input.read_whole.Given as goal
 abbrev pub invariant-loop : goal.invariant-loop
 invariant-loop g l =
     Consumes (g.R.Read.remaining l.initial.input) (g.R.Read.remaining l.input) l.all.items
-    × (l.counter ≤ length l.all.items) × (length l.all.items ≤ 1_048_576)
+    × (l.counter ≤ length l.all.items) × (length l.all.items ≤ 4_000_000)

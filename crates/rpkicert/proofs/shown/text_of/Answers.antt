@@ -9,8 +9,10 @@ returns c =
       rw (c.as_slice.ensures.value, c.as_ref.ensures) at c.in_ok-sheet.ensures,
       e ∙ rw (
         c.in_ok-all.ensures,
-        c.as_slice-2.ensures.value,
+        c.as_slice-3.ensures.value,
         c.in_ok-file.ensures,
+        c.in_ok-told.ensures,
+        c.as_slice-2.ensures.value,
         c.in_ok-own.ensures,
         c.signature_of-signature.ensures,
         c.as_ref-2.ensures,
