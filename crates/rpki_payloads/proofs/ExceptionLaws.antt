@@ -58,8 +58,8 @@ is-without e old new name vrps timed pairs keys tally is named kept ends same le
     (record { name = named; vrps = kept; timed = ends; pairs = same; keys = left; tally = counted })
 
 -- one more
-each-more : {A B : Type 0} (R : A → B → Type 0) (xs : List A) (ys : List B) (x : A) (y : B) → AreEach R xs ys → R x y
-    → AreEach R (xs ++ x ∷ []) (ys ++ y ∷ [])
+pub each-more : {A B : Type 0} (R : A → B → Type 0) (xs : List A) (ys : List B) (x : A) (y : B) → AreEach R xs ys
+    → R x y → AreEach R (xs ++ x ∷ []) (ys ++ y ∷ [])
 each-more R [] [] x y h r = (r, tt)
 each-more R [] (z ∷ zs) x y h r = absurd h
 each-more R (w ∷ ws) [] x y h r = absurd h

@@ -1,12 +1,15 @@
 -- Which lemma file answers which question.
 --
+-- Whether a payload is among others: AloneLaws. Rows that another validator wrote: ListedLaws.
 -- That payloads which compare as equal are one, and which are among converted ones: OrderLaws. The providers of a
 -- customer together: VapLaws.
 -- What is among a list, one by one: AmongLaws. The latest end of a payload: TimedLaws. Local exceptions, and how many
 -- members an object of JSON has: ExceptionLaws, MemberLaws. Texts of metrics: MetricLaws.
 
+mod AloneLaws
 mod AmongLaws
 pub mod ExceptionLaws
+mod ListedLaws
 mod MemberLaws
 mod MetricLaws
 mod OrderLaws

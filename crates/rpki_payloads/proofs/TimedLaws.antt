@@ -7,10 +7,11 @@ use Rattle.std.specs.Ordering.{nat_cmp, ordering_reverse, ordering_then}
 use Rattle.std.specs.declared.cmp.Ordering.{Ordering}
 use Rattle.std.specs.declared.cmp.Ordering.TheVariants.{Less, Equal, Greater}
 use Rattle.std.specs.List.{Contains}
+use Rattle.std.specs.Prelude.{MatchOption, slice_get}
 use Rattle.std.specs.List.Sorted.{IsStrictlySortedBy}
 use Rattle.rpki_payloads.specs.declared.timed.TimedVrp.{TimedVrp}
 use Rattle.rpki_payloads.specs.declared.vrp.Vrp.{Vrp}
-use Rattle.rpki_payloads.specs.Timed.{HasLater, IsFollowed, IsLatest, timed_cmp}
+use Rattle.rpki_payloads.specs.Timed.{HasLater, IsLatest, timed_cmp}
 use Rattle.rpki_payloads.specs.Vrp.{vrp_cmp}
 use Rattle.rpki_payloads.proofs.AmongLaws.{cons-cases, head-in, tail-in, none-in}
 use Rattle.rpki_payloads.proofs.OrderLaws.{exact-vrp, vrp-total}
@@ -31,6 +32,10 @@ not-both v w h k = let e : Less ≡ Greater = sym h ∙ vrp-total.antisymm v w �
 
 not-itself : (v w : Vrp) → v ≡ w → vrp_cmp v w ≡ Less → ⊥
 not-itself v w e h = let k = subst (λ x. vrp_cmp v x ≡ Less) (sym e) h in not-both v v k k
+
+-- the next one has the same payload
+abbrev pub IsFollowed : TimedVrp → List TimedVrp → Type 0
+IsFollowed t ss = MatchOption (slice_get ss 0) ⊥ (λ s. s.vrp ≡ t.vrp)
 
 -- the rest is in order, and what isn't in it is below all of it
 pub record IsAhead (all rest : List TimedVrp) : Type 0 where

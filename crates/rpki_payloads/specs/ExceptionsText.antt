@@ -11,6 +11,9 @@ use Rattle.serde_json.specs.View.{items_of}
 use Rattle.rpki_resources.specs.declared.ip_text.Prefix.{Prefix}
 use Rattle.rpki_resources.specs.IpRead.{IsPrefixText, address_width}
 use Rattle.rpki_payloads.specs.declared.exceptions.Exceptions.{Exceptions}
+use Rattle.rpki_payloads.specs.declared.exceptions_text.Member.{Member}
+use Rattle.rpki_payloads.specs.declared.exceptions_text.Member.TheVariants.{Version, Filters, PrefixFilters, KeyFilters}
+use Rattle.rpki_payloads.specs.declared.exceptions_text.Member.TheVariants.{Assertions, PrefixAssertions, KeyAssertions}
 use Rattle.rpki_payloads.specs.declared.filters.PrefixFilter.{PrefixFilter}
 use Rattle.rpki_payloads.specs.declared.key_filters.KeyFilter.{KeyFilter}
 use Rattle.rpki_payloads.specs.declared.router_key.RouterKey.{RouterKey}
@@ -19,6 +22,15 @@ use Rattle.rpki_payloads.specs.Exceptions.{AreEach}
 use Rattle.rpki_payloads.specs.Vrp.{prefix_of}
 
 -- ---- members
+
+abbrev pub member_name : Member → List ℕ
+member_name Version = codes "slurmVersion"
+member_name Filters = codes "validationOutputFilters"
+member_name PrefixFilters = codes "prefixFilters"
+member_name KeyFilters = codes "bgpsecFilters"
+member_name Assertions = codes "locallyAddedAssertions"
+member_name PrefixAssertions = codes "prefixAssertions"
+member_name KeyAssertions = codes "bgpsecAssertions"
 
 -- how many members there are: each name has one, the last that the text has of it
 abbrev pub size : Members → ℕ

@@ -9,8 +9,11 @@ pub mod Covered
 pub mod Filtered
 pub mod Exceptions
 pub mod ExceptionsText
+pub mod Listed
+pub mod Quoted
 pub mod Lines
 pub mod Route
+pub mod Alone
 pub mod Json
 pub mod Form
 pub mod Metrics

@@ -7,17 +7,18 @@ use Rattle.rpki_resources.specs.Text.{as_number_text, prefix_text}
 use Rattle.rpki_payloads.specs.declared.timed.TimedVrp.{TimedVrp}
 use Rattle.rpki_payloads.specs.declared.vrp.Vrp.{Vrp}
 use Rattle.rpki_payloads.specs.Payloads.{PayloadParts}
+use Rattle.rpki_payloads.specs.Quoted.{quoted}
 
 -- its prefix: `10.0.0.0/8`
 abbrev pub vrp_prefix : Vrp → List ℕ
 vrp_prefix v = prefix_text (ip_text v.addr) v.len
 
--- ---- csv, as of Routinator: `AS64496,10.0.0.0/8,24,example`, under a line of titles
+-- ---- csv, as of Routinator: `AS64496,10.0.0.0/8,24,example`, under a line of titles; the name is a field (RFC 4180)
 
 abbrev pub csv_line : List ℕ → Vrp → List ℕ
 csv_line name v =
-    as_number_text v.as_id ++ codes "," ++ vrp_prefix v ++ codes "," ++ decimal v.max_length ++ codes "," ++ name
-    ++ 10 ∷ []
+    as_number_text v.as_id ++ codes "," ++ vrp_prefix v ++ codes "," ++ decimal v.max_length ++ codes ","
+    ++ quoted name ++ 10 ∷ []
 
 -- those under a locator
 abbrev pub csv_lines : PayloadParts → List ℕ
@@ -31,7 +32,7 @@ csv_text all = codes "ASN,IP Prefix,Max Length,Trust Anchor\n" ++ flat_map csv_l
 abbrev pub client_line : List ℕ → TimedVrp → List ℕ
 client_line name t =
     as_number_text t.vrp.as_id ++ codes "," ++ vrp_prefix t.vrp ++ codes "," ++ decimal t.vrp.max_length ++ codes ","
-    ++ name ++ codes "," ++ decimal t.expires ++ 10 ∷ []
+    ++ quoted name ++ codes "," ++ decimal t.expires ++ 10 ∷ []
 
 -- those under a locator
 abbrev pub client_lines : PayloadParts → List ℕ

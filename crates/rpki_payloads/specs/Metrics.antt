@@ -1,8 +1,9 @@
 -- Counts as metrics, in the text format of OpenMetrics 1.0.
 use Rattle.std.specs.Prelude.{◌==◌, ◌||◌, ◌++◌, ℕ, Bool, List, [], ◌∷◌, Option, Some, None, codes, decimal, length}
-use Rattle.std.specs.Prelude.{if◌then◌else◌}
+use Rattle.std.specs.Prelude.{if◌then◌else◌, nat_lt}
 use Rattle.std.specs.List.{flat_map}
 use Rattle.rpki_payloads.specs.declared.tally.Tally.{Tally}
+use Rattle.rpki_payloads.specs.declared.timed.TimedVrp.{TimedVrp}
 use Rattle.rpki_payloads.specs.Payloads.{PayloadParts}
 
 -- an octet of the value of a label: a line feed as `\n`, a quotation mark and a backslash behind a backslash
@@ -38,6 +39,23 @@ kind_samples name origins providers keys =
 abbrev pub payload_samples : PayloadParts → List ℕ
 payload_samples p = kind_samples p.name (length p.vrps) (length p.pairs) (length p.keys)
 
+-- the earliest of these ends
+abbrev pub earlier : ℕ → Option ℕ → ℕ
+earlier n None = n
+earlier n (Some m) = if nat_lt n m then n else m
+
+abbrev pub first_end : Option ℕ → List TimedVrp → Option ℕ
+first_end first [] = first
+first_end first (t ∷ ts) = first_end (Some (earlier t.expires first)) ts
+
+-- the first second in which a payload ends, where there is any
+unfoldable pub end_in : List ℕ → Option ℕ → List ℕ
+end_in name None = []
+end_in name (Some n) = sample (codes "rpkivalid_first_end_seconds") name [] n
+
+abbrev pub end_samples : PayloadParts → List ℕ
+end_samples p = end_in p.name (first_end None p.timed)
+
 -- how many publication points and objects are rejected
 unfoldable pub tally_samples : List ℕ → Tally → List ℕ
 tally_samples name t =
@@ -64,6 +82,11 @@ abbrev pub rejected_titles : List ℕ
 rejected_titles =
     codes "# TYPE rpkivalid_rejected gauge\n# HELP rpkivalid_rejected How many points and objects are rejected.\n"
 
+abbrev pub end_titles : List ℕ
+end_titles =
+    codes "# TYPE rpkivalid_first_end_seconds gauge\n# UNIT rpkivalid_first_end_seconds seconds\n"
+    ++ codes "# HELP rpkivalid_first_end_seconds When the first route origin ends, since 1970.\n"
+
 unfoldable pub anchor_family : List PayloadParts → List ℕ
 anchor_family all = anchor_titles ++ flat_map anchor_samples all
 
@@ -73,5 +96,8 @@ payload_family all = payload_titles ++ flat_map payload_samples all
 unfoldable pub rejected_family : List PayloadParts → List ℕ
 rejected_family all = rejected_titles ++ flat_map rejected_samples all
 
+unfoldable pub end_family : List PayloadParts → List ℕ
+end_family all = end_titles ++ flat_map end_samples all
+
 abbrev pub metrics_text : List PayloadParts → List ℕ
-metrics_text all = anchor_family all ++ payload_family all ++ rejected_family all ++ codes "# EOF\n"
+metrics_text all = anchor_family all ++ payload_family all ++ rejected_family all ++ end_family all ++ codes "# EOF\n"

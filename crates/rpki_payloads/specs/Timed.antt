@@ -1,5 +1,5 @@
 -- Payloads with the second until which they are valid.
-use Rattle.std.specs.Prelude.{◌≡◌, ◌<◌, ℕ, List, [], ◌∷◌}
+use Rattle.std.specs.Prelude.{◌≡◌, ◌<◌, ℕ, List}
 use Rattle.std.specs.List.{Contains}
 use Rattle.std.specs.Ordering.{nat_cmp, ordering_then}
 use Rattle.std.specs.declared.cmp.Ordering.{Ordering}
@@ -26,11 +26,6 @@ IsLatest all t = Contains all t × (HasLater all t → ⊥)
 -- each payload of these once, with its latest end, in order
 abbrev pub AreLatest : List TimedVrp → List TimedVrp → Type 0
 AreLatest all = IsSetOf timed_cmp (IsLatest all)
-
--- the next one has the same payload
-abbrev pub IsFollowed : TimedVrp → List TimedVrp → Type 0
-IsFollowed t [] = ⊥
-IsFollowed t (s ∷ ss) = s.vrp ≡ t.vrp
 
 -- a payload with no end of its own: the last second of the year 9999 (RFC 5280 4.1.2.5)
 abbrev pub endless : Vrp → TimedVrp

@@ -5,6 +5,7 @@ ghost use Rattle.std.specs.List.{flat_map};
 ghost use Rattle.rpki_payloads.specs.Lines.{client_line, client_lines, client_text};
 
 use crate::payloads::Payloads;
+use crate::quoted::push_field;
 use crate::timed::TimedVrp;
 use std::alloc::{AllocError, Global};
 
@@ -18,7 +19,7 @@ fn push_client_line(text: &mut Vec<u8>, name: &[u8], timed: TimedVrp) -> Result<
     let line = format!(in alloc; "AS{},{},{},", vrp.as_id, prefix, vrp.max_length)?;
     let end = format!(in alloc; ",{}\n", timed.expires)?;
     text.extend_from_slice(line.as_bytes())?;
-    text.extend_from_slice(name)?;
+    push_field(text, name)?;
     text.extend_from_slice(end.as_bytes())
 }
 

@@ -6,7 +6,7 @@ ghost use Rattle.serde_json.specs.Find.{as_array, as_number, as_u64, get};
 ghost use Rattle.serde_json.specs.View.{view, items_view};
 ghost use Rattle.rpki_payloads.specs.ExceptionsText.{AreAssertions, AreExceptions, AreExceptionsIn, AreFilters};
 ghost use Rattle.rpki_payloads.specs.ExceptionsText.{AreListed, IsKeyAssertion, IsKeyFilter, IsPrefixAssertion};
-ghost use Rattle.rpki_payloads.specs.ExceptionsText.{AreOctetsIn, IsMember, IsPrefixFilter, IsVrpWith};
+ghost use Rattle.rpki_payloads.specs.ExceptionsText.{AreOctetsIn, IsMember, IsPrefixFilter, IsVrpWith, member_name};
 ghost use Rattle.rpki_payloads.specs.Exceptions.{AreEach};
 ghost use Rattle.rpki_payloads.specs.declared.key_filters.KeyFilter.{KeyFilter as F};
 
@@ -47,7 +47,9 @@ pub enum Member {
 
 impl Member {
     /// Its name.
-    pub fn name(self) -> &'static str {
+    pub fn name(self) -> &'static str
+        ensures { result.now ≡ member_name self }
+    {
         match self {
             Member::Version => "slurmVersion",
             Member::Filters => "validationOutputFilters",
@@ -151,7 +153,7 @@ fn key_filter_of(alloc: Global, value: &Value) -> Result<Option<KeyFilter>, Allo
 
 /// The prefix that is added for this AS, where the maximum length is none below that of the prefix, nor above that of
 /// addresses.
-fn vrp_with(prefix: Prefix, longest: Option<u32>, as_id: u32) -> Option<Vrp>
+pub(crate) fn vrp_with(prefix: Prefix, longest: Option<u32>, as_id: u32) -> Option<Vrp>
     ensures { IfSome result (IsVrpWith prefix longest as_id) }
 {
     let most = match longest {
@@ -223,7 +225,7 @@ fn key_assertion_of(alloc: Global, value: &Value) -> Result<Option<RouterKey>, A
 }
 
 /// The elements of the member of this name, which is an array.
-fn elements_in<'a>(value: &'a Value, name: &str) -> Option<&'a Vec<Value>>
+pub(crate) fn elements_in<'a>(value: &'a Value, name: &str) -> Option<&'a Vec<Value>>
     ensures { option_map (λ v. items_view v.now.items) result
         ≡ option_and_then as_array (get name.now (view value.now)) }
 {

@@ -6,6 +6,7 @@
 //! [Route::text_of] says whether a route is valid by payloads, and which cover it (RFC 6811 2).
 #![tactic(auto)]
 
+mod alone;
 mod client;
 mod covered;
 mod customers;
@@ -18,10 +19,12 @@ mod json_keys;
 mod json_vaps;
 mod key_filters;
 mod lines;
+mod listed;
 mod members;
 mod metrics;
 mod order;
 mod payloads;
+mod quoted;
 mod route;
 mod router_key;
 mod tally;
@@ -29,11 +32,13 @@ mod timed;
 mod vap;
 mod vrp;
 
+pub use alone::{alone_text, only_in};
 pub use exceptions::Exceptions;
 pub use exceptions_text::{ExceptionsError, Member};
 pub use filters::PrefixFilter;
 pub use form::Form;
 pub use key_filters::KeyFilter;
+pub use listed::{ListError, listed_vrps};
 pub use metrics::metrics_text;
 pub use order::{sort_vrps, united, united_pairs, vrps_of};
 pub use payloads::Payloads;

@@ -7,6 +7,7 @@ ghost use Rattle.rpki_payloads.specs.Lines.{openbgpd_line, openbgpd_origins, ope
 
 use crate::customers::push_openbgpd_customers;
 use crate::payloads::Payloads;
+use crate::quoted::push_field;
 use crate::vap::Vap;
 use crate::vrp::Vrp;
 use std::alloc::{AllocError, Global};
@@ -19,7 +20,7 @@ fn push_csv_line(text: &mut Vec<u8>, name: &[u8], vrp: Vrp) -> Result<(), AllocE
     let prefix = vrp.prefix();
     let line = format!(in alloc; "AS{},{},{},", vrp.as_id, prefix, vrp.max_length)?;
     text.extend_from_slice(line.as_bytes())?;
-    text.extend_from_slice(name)?;
+    push_field(text, name)?;
     text.push(b'\n')?;
     Ok(())
 }

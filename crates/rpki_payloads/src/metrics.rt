@@ -1,13 +1,15 @@
 //! Counts as metrics, in the text format of OpenMetrics 1.0.
 
-ghost use Rattle.std.specs.Prelude.{◌≡◌, ◌++◌, OnOk, IfOk};
+ghost use Rattle.std.specs.Prelude.{◌≡◌, ◌++◌, None, OnOk, IfOk};
 ghost use Rattle.std.specs.List.{flat_map};
 ghost use Rattle.rpki_payloads.specs.Metrics.{anchor_family, anchor_samples, bit, escaped, metrics_text};
 ghost use Rattle.rpki_payloads.specs.Metrics.{payload_family, payload_samples, rejected_family, rejected_samples};
-ghost use Rattle.rpki_payloads.specs.Metrics.{kind_samples, sample, tally_samples};
+ghost use Rattle.rpki_payloads.specs.Metrics.{earlier, end_family, end_samples, first_end, kind_samples, sample};
+ghost use Rattle.rpki_payloads.specs.Metrics.{tally_samples};
 
 use crate::payloads::Payloads;
 use crate::tally::Tally;
+use crate::timed::TimedVrp;
 use std::alloc::{AllocError, Global};
 
 /// Adds an octet of the value of a label: a quotation mark, a backslash and a line feed by a backslash.
@@ -156,6 +158,70 @@ fn push_rejected(text: &mut Vec<u8>, one: &Payloads) -> Result<(), AllocError>
     }
 }
 
+/// The earlier of two ends.
+fn earlier(end: u64, first: Option<u64>) -> u64
+    ensures { result ≡ earlier end first }
+{
+    match first {
+        Some(first) => if end < first { end } else { first },
+        None => end,
+    }
+}
+
+/// The earliest of the ends of payloads. None if there are none.
+fn first_end(all: &[TimedVrp]) -> Option<u64>
+    ensures { result ≡ first_end None all.now }
+{
+    let mut first = None;
+    let mut rest = all;
+    'all: while let Some((timed, following)) = rest.split_first() {
+        first = Some(earlier(timed.expires, first));
+        rest = following;
+    }
+    first
+}
+
+/// Adds the first second in which a payload ends, if there is any.
+#[tactic(auto, unfolding(crate::specs::Metrics::end_in))]
+fn push_end(text: &mut Vec<u8>, one: &Payloads) -> Result<(), AllocError>
+    ensures { OnOk result (text.new.items ≡ text.old.items ++ end_samples one.now) }
+{
+    match first_end(one.timed()) {
+        Some(end) => push_sample(
+            text,
+            b"rpkivalid_first_end_seconds",
+            one.name(),
+            b"",
+            end as usize,
+        ),
+        None => Ok(()),
+    }
+}
+
+/// Adds when the first payload under each locator ends.
+fn push_ends(text: &mut Vec<u8>, all: &[Payloads]) -> Result<(), AllocError>
+    ensures { OnOk result (text.new.items ≡ text.old.items ++ flat_map end_samples all.now) }
+{
+    'all: for one in all {
+        push_end(text, one)?;
+    }
+    Ok(())
+}
+
+/// Adds the family that says when the first payload ends.
+#[tactic(auto, unfolding(crate::specs::Metrics::end_family))]
+fn push_end_family(text: &mut Vec<u8>, all: &[Payloads]) -> Result<(), AllocError>
+    ensures { OnOk result (text.new.items ≡ text.old.items ++ end_family all.now) }
+{
+    text.extend_from_slice(
+        b"# TYPE rpkivalid_first_end_seconds gauge\n\
+# UNIT rpkivalid_first_end_seconds seconds\n\
+# HELP rpkivalid_first_end_seconds When the first route origin ends, since 1970.\n",
+    )?;
+    push_ends(text, all)?;
+    Ok(())
+}
+
 /// Adds which locators have a trust anchor.
 fn push_anchors(text: &mut Vec<u8>, all: &[Payloads]) -> Result<(), AllocError>
     ensures { OnOk result (text.new.items ≡ text.old.items ++ flat_map anchor_samples all.now) }
@@ -226,7 +292,8 @@ fn push_rejected_family(text: &mut Vec<u8>, all: &[Payloads]) -> Result<(), Allo
 }
 
 /// What is counted under each locator: whether it has a trust anchor; how many payloads there are of each kind; and how
-/// many publication points and objects are rejected. What local exceptions add has payloads alone.
+/// many publication points and objects are rejected; and the first second, since 1970-01-01T00:00:00Z, in which a
+/// prefix ends that may be announced, where there is any. What local exceptions add has payloads and their end alone.
 ///
 /// Returns `AllocError` if allocation fails.
 pub fn metrics_text(alloc: Global, all: &[Payloads]) -> Result<Vec<u8>, AllocError>
@@ -236,6 +303,7 @@ pub fn metrics_text(alloc: Global, all: &[Payloads]) -> Result<Vec<u8>, AllocErr
     push_anchor_family(&mut text, all)?;
     push_payload_family(&mut text, all)?;
     push_rejected_family(&mut text, all)?;
+    push_end_family(&mut text, all)?;
     text.extend_from_slice(b"# EOF\n")?;
     Ok(text)
 }

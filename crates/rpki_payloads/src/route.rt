@@ -14,7 +14,7 @@ use rpki_resources::Prefix;
 use std::alloc::{AllocError, Global};
 
 /// A route: a prefix, and the AS that announces it.
-#[derive(Clone, Copy, Debug, PartialEq, Eq)]
+#[derive(Clone, Copy, Debug)]
 pub struct Route {
     /// The prefix.
     pub prefix: Prefix,
@@ -23,7 +23,7 @@ pub struct Route {
 }
 
 /// What payloads say of a route.
-#[derive(Clone, Copy, Debug, PartialEq, Eq)]
+#[derive(Clone, Copy, Debug)]
 pub enum RouteState {
     /// A payload matches it.
     Valid,

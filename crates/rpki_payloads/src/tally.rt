@@ -1,7 +1,7 @@
 //! What is counted beside payloads.
 
 /// What a validation under a locator counts beside its payloads.
-#[derive(Clone, Copy, Debug, PartialEq, Eq)]
+#[derive(Clone, Copy, Debug)]
 pub struct Tally {
     /// Whether the locator has a trust anchor.
     pub is_anchored: bool,

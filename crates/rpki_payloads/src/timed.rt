@@ -1,11 +1,11 @@
 //! Payloads with the second until which they are valid.
 
-ghost use Rattle.std.specs.Prelude.{◌≡◌, ◌↔◌, IsTrue, IfOk, map};
+ghost use Rattle.std.specs.Prelude.{◌≡◌, ◌↔◌, IsTrue, IfOk, MatchOption, map, slice_get};
 ghost use Rattle.std.specs.List.{Contains};
 ghost use Rattle.std.specs.List.Sorted.{IsStrictlySortedBy};
 ghost use Rattle.rpki_payloads.specs.declared.timed.TimedVrp.{TimedVrp as T};
 ghost use Rattle.rpki_payloads.specs.Sets.{IsSetOf};
-ghost use Rattle.rpki_payloads.specs.Timed.{AreLatest, IsFollowed, IsLatest, endless, timed_cmp};
+ghost use Rattle.rpki_payloads.specs.Timed.{AreLatest, IsLatest, endless, timed_cmp};
 
 use crate::order::sort_once;
 use crate::vrp::Vrp;
@@ -32,7 +32,7 @@ pub(crate) fn sort_timed(all: &mut Vec<TimedVrp>)
 
 /// Whether the next one has the same payload.
 fn is_followed(first: TimedVrp, following: &[TimedVrp]) -> bool
-    ensures { IsTrue result ↔ IsFollowed first following.now }
+    ensures { IsTrue result ↔ MatchOption (slice_get following.now 0) ⊥ (λ next. next.vrp ≡ first.vrp) }
 {
     match following.split_first() {
         Some((next, _)) => next.vrp == first.vrp,

@@ -2,7 +2,7 @@
 --
 -- What is left of arguments, what words ask for: ArgumentLaws, RequestLaws. Paths of objects: PathLaws. Locators in
 -- files: LocatorLaws. What is found under locators: FoundLaws. What is said under them:
--- ToldLaws, RefusedLaws, ExplainedLaws. A run: RunLaws.
+-- ToldLaws, RefusedLaws, ExplainedLaws, ComparedLaws. A run: RunLaws.
 
 mod ArgumentLaws
 mod RequestLaws
@@ -12,4 +12,5 @@ mod FoundLaws
 mod ToldLaws
 mod RefusedLaws
 mod ExplainedLaws
+mod ComparedLaws
 mod RunLaws

@@ -12,7 +12,7 @@ use Rattle.rpkivalid.specs.Excepted.{AreShown, Excepts, IsLocal}
 use Rattle.rpkivalid.specs.Locators.{Holds}
 use Rattle.rpkivalid.specs.Moment.{IsMomentOf}
 use Rattle.rpkivalid.specs.Request.{Asked}
-use Rattle.rpkivalid.specs.Run.{IsReply, IsRunOf}
+use Rattle.rpkivalid.specs.Run.{IsReplyTo, IsRunOf}
 use Rattle.rpkivalid.specs.Run.IsRunOf.{Answered, Denied}
 use Rattle.rpkivalid.specs.Words.{Prints}
 
@@ -31,7 +31,7 @@ clock-moment word r clock e h =
 -- what is given is a run
 pub given-run : (basis : DateTime → ℕ → KeyParts → Basis) (holds : Holds) (clock : Option (Option DateTime))
     (old new before after : Option (List ℕ)) (a : Asked) (text metrics : List ℕ) (wanted status : ℕ)
-    → IsReply basis holds clock a text metrics wanted
+    → IsReplyTo basis holds clock a a.compare text metrics wanted
     → (Prints old new text wanted status × Appends before after metrics) ⊎ (Appends old new [] × (status ≡ 2))
     → IsRunOf basis holds clock old new before after status a
 given-run basis holds clock old new before after a text metrics wanted status h (inl p) =
@@ -46,3 +46,10 @@ shown-by holds None (Some local) found shown h e = absurd h
 shown-by holds (Some path) None found shown h e = absurd h
 shown-by holds (Some path) (Some local) found shown h e =
     (local.exceptions, h.1, subst (λ (n : List ℕ). AreExcepted local.exceptions n found shown) h.0 e)
+
+-- a reply where the same file is to be compared
+pub reply-at : (basis : DateTime → ℕ → KeyParts → Basis) (holds : Holds) (clock : Option (Option DateTime)) (a : Asked)
+    (o p : Option (List ℕ)) (text metrics : List ℕ) (status : ℕ) → o ≡ p
+    → IsReplyTo basis holds clock a p text metrics status → IsReplyTo basis holds clock a o text metrics status
+reply-at basis holds clock a o p text metrics status e h =
+    subst (λ (f : Option (List ℕ)). IsReplyTo basis holds clock a f text metrics status) (sym e) h

@@ -8,7 +8,7 @@ use Rattle.rpki_payloads.specs.Route.{IsRouteText}
 use Rattle.rpki_text.specs.RsyncText.{uri_of}
 use Rattle.rpki_validation.specs.Basis.{Basis}
 use Rattle.rpkivalid.specs.declared.question.Question.{Question}
-use Rattle.rpkivalid.specs.declared.question.Question.TheVariants.{Object, Origin}
+use Rattle.rpkivalid.specs.declared.question.Question.TheVariants.{Object, Origin, Alone}
 use Rattle.rpkivalid.specs.declared.walked.Walk.{Walk}
 use Rattle.rpkivalid.specs.Excepted.{AreShown}
 use Rattle.rpkivalid.specs.Found.{AreFound, IsFoundIn}
@@ -30,18 +30,19 @@ pub record IsToldIn (holds : Holds) (folder : List ℕ) (basis : KeyParts → Ba
   pub text_is : text ≡ file_text l.name uri found left
   pub anchored_is : anchored ≡ is_found found
 
--- What attestations that are rejected under a locator say of a route, and whether it has a trust anchor.
+-- What attestations that are rejected under a locator say of what is asked, and whether it has a trust anchor.
 pub record IsRefusedUnder (holds : Holds) (folder : List ℕ) (strictness : Strictness) (basis : KeyParts → Basis)
-    (route : Route) (l : NamedParts) (text : List ℕ) (anchored : Bool) : Type 0 where
+    (question : Question) (l : NamedParts) (text : List ℕ) (anchored : Bool) : Type 0 where
   pub found : Walk
   pub found_is : IsWalkIn holds folder basis l found
-  pub text_is : IfSome holds (λ files. AreRefusedIn files folder strictness route l.name found text)
+  pub text_is : IfSome holds (λ files. AreRefusedIn files folder strictness question l.name found text)
   pub anchored_is : anchored ≡ is_found found
 
--- the one or the other
+-- of an object the one, else the other
 abbrev pub IsToldOf : Holds → List ℕ → Strictness → (KeyParts → Basis) → Question → NamedParts → List ℕ → Bool → Type 0
 IsToldOf holds folder strictness basis (Object uri) = IsToldIn holds folder basis uri
-IsToldOf holds folder strictness basis (Origin route) = IsRefusedUnder holds folder strictness basis route
+IsToldOf holds folder strictness basis (Origin route) = IsRefusedUnder holds folder strictness basis (Origin route)
+IsToldOf holds folder strictness basis (Alone vrps) = IsRefusedUnder holds folder strictness basis (Alone vrps)
 
 -- what is said under all locators, in their order; and whether each of them has a trust anchor
 abbrev pub AreTold : (NamedParts → List ℕ → Bool → Type 0) → List NamedParts → List ℕ → Bool → Type 0
@@ -78,7 +79,8 @@ pub record IsOriginTold (basis : KeyParts → Basis) (holds : Holds) (a : Asked)
   pub refuses : IsTold basis holds a (Origin route) refused others
   pub text_is : text ≡ said ++ refused
 
--- of an object, or of a route
+-- of an object, of a route, or of payloads
 abbrev pub IsExplanation : (KeyParts → Basis) → Holds → Asked → Question → List ℕ → Bool → Type 0
 IsExplanation basis holds a (Object uri) text anchored = IsTold basis holds a (Object uri) text anchored
 IsExplanation basis holds a (Origin route) text anchored = IsOriginTold basis holds a route text anchored
+IsExplanation basis holds a (Alone vrps) text anchored = IsTold basis holds a (Alone vrps) text anchored

@@ -22,10 +22,10 @@ module _ {X : Type 0} (rsa ecdsa : X → Check) (sha1 sha256 : X → List ℕ �
         IsToldIn holds folder (basis_with rsa ecdsa sha1 sha256 provider strictness at depth) uri (named_of named)
         one.0.items one.1
 
-    -- what attestations that are rejected say of the route
-    abbrev pub IsRefusedBy : {Z : Type 0} → Route → Named → Vec ℕ Z × Bool → Type 0
-    IsRefusedBy route named one =
-        IsRefusedUnder holds folder strictness (basis_with rsa ecdsa sha1 sha256 provider strictness at depth) route
+    -- what attestations that are rejected say of what is asked
+    abbrev pub IsRefusedBy : {Z : Type 0} → Question → Named → Vec ℕ Z × Bool → Type 0
+    IsRefusedBy question named one =
+        IsRefusedUnder holds folder strictness (basis_with rsa ecdsa sha1 sha256 provider strictness at depth) question
         (named_of named) one.0.items one.1
 
     -- the one or the other

@@ -12,13 +12,16 @@ pub mod Excepted
 pub mod Reasons
 pub mod Walked
 pub mod Told
+pub mod Reported
 pub mod Refused
 pub mod Question
 pub mod Explained
+pub mod Compared
 pub mod Run
 pub mod RequestView
 pub mod LocatorsView
 pub mod FoundView
 pub mod WalkedView
 pub mod ExplainedView
+pub mod ComparedView
 pub mod RunView

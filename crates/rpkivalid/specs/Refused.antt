@@ -1,17 +1,21 @@
--- What attestations of route origins that are rejected say of a route. Nothing of them is verified.
-use Rattle.std.specs.Prelude.{◌≡◌, ◌⊎◌, ℕ, List, [], ◌∷◌, ◌++◌, codes, Option, Some, None, if◌then◌else◌}
+-- What attestations of route origins that are rejected say of a route, or of payloads. Nothing of them is verified.
+use Rattle.std.specs.Prelude.{◌≡◌, ◌⊎◌, ℕ, List, [], ◌∷◌, ◌++◌, codes, Option, Some, None, Bool, false}
+use Rattle.std.specs.Prelude.{if◌then◌else◌}
 use Rattle.std.specs.List.{flat_map}
 use Rattle.rpki_contents.specs.declared.route_origin.RouteOrigin.{RouteOrigin}
 use Rattle.rpki_contents.specs.Roa.{AttestationParts}
 use Rattle.rpki_contents.specs.RouteOrigin.{origins}
 use Rattle.rpki_objects.specs.declared.strictness.Strictness.{Strictness}
 use Rattle.rpki_objects.specs.TypedObject.{TypedParts, origin_object}
-use Rattle.rpki_payloads.specs.declared.route.Route.{Route}
+use Rattle.rpki_payloads.specs.declared.vrp.Vrp.{Vrp}
+use Rattle.rpki_payloads.specs.Alone.{is_among}
 use Rattle.rpki_payloads.specs.Route.{is_covered_by, payload_text}
 use Rattle.rpki_payloads.specs.Vrp.{vrp_of}
 use Rattle.rpki_text.specs.RsyncText.{uri_of}
 use Rattle.rpki_validation.specs.declared.outcome.Rejection.{Rejection}
 use Rattle.rpki_validation.specs.Finding.{IsNone}
+use Rattle.rpkivalid.specs.declared.question.Question.{Question}
+use Rattle.rpkivalid.specs.declared.question.Question.TheVariants.{Object, Origin, Alone}
 use Rattle.rpkivalid.specs.declared.walked.Walk.{Walk}
 use Rattle.rpkivalid.specs.declared.walked.Walk.TheVariants.{Found, NoAnchor}
 use Rattle.rpkivalid.specs.Paths.{object_path}
@@ -36,22 +40,28 @@ abbrev pub SaysAt : (List ℕ → Option (List ℕ)) → List ℕ → Strictness
 SaysAt files folder strictness None all = all ≡ []
 SaysAt files folder strictness (Some uri) all = SaysIn strictness (files (object_path folder (uri_of uri))) all
 
--- the payload that it would be, and why it isn't; nothing where it doesn't cover the route
-abbrev pub refused_line : Route → List ℕ → Rejection → RouteOrigin → List ℕ
-refused_line route name r o =
-    if is_covered_by route (vrp_of o) then payload_text (vrp_of o) ++ codes ": " ++ rejected_line name r else []
+-- what is asked for: payloads that cover a route, or these
+abbrev pub is_wanted : Question → Vrp → Bool
+is_wanted (Object uri) v = false
+is_wanted (Origin route) v = is_covered_by route v
+is_wanted (Alone vrps) v = is_among v vrps.items
+
+-- the payload that it would be, and why it isn't; nothing where it isn't asked for
+abbrev pub refused_line : Question → List ℕ → Rejection → RouteOrigin → List ℕ
+refused_line question name r o =
+    if is_wanted question (vrp_of o) then payload_text (vrp_of o) ++ codes ": " ++ rejected_line name r else []
 
 -- of all that is rejected
-abbrev pub AreRefused : (List ℕ → Option (List ℕ)) → List ℕ → Strictness → Route → List ℕ → List Rejection → List ℕ
+abbrev pub AreRefused : (List ℕ → Option (List ℕ)) → List ℕ → Strictness → Question → List ℕ → List Rejection → List ℕ
     → Type 0
-AreRefused files folder strictness route name [] text = text ≡ []
-AreRefused files folder strictness route name (r ∷ rs) text =
+AreRefused files folder strictness question name [] text = text ≡ []
+AreRefused files folder strictness question name (r ∷ rs) text =
     (all : List RouteOrigin) × (more : List ℕ) × SaysAt files folder strictness r.uri all
-    × AreRefused files folder strictness route name rs more
-    × (text ≡ flat_map (refused_line route name r) all ++ more)
+    × AreRefused files folder strictness question name rs more
+    × (text ≡ flat_map (refused_line question name r) all ++ more)
 
 -- under a locator: nothing where it has no trust anchor
-abbrev pub AreRefusedIn : (List ℕ → Option (List ℕ)) → List ℕ → Strictness → Route → List ℕ → Walk → List ℕ → Type 0
-AreRefusedIn files folder strictness route name (NoAnchor reason) text = text ≡ []
-AreRefusedIn files folder strictness route name (Found o) text =
-    AreRefused files folder strictness route name o.rejections.items text
+abbrev pub AreRefusedIn : (List ℕ → Option (List ℕ)) → List ℕ → Strictness → Question → List ℕ → Walk → List ℕ → Type 0
+AreRefusedIn files folder strictness question name (NoAnchor reason) text = text ≡ []
+AreRefusedIn files folder strictness question name (Found o) text =
+    AreRefused files folder strictness question name o.rejections.items text

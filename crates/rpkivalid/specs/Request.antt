@@ -36,10 +36,10 @@ command_alone =
 abbrev pub command_app : App
 command_app =
     with_rule (with_rule (with_rule (with_rule (with_rule (with_rule (with_rule (with_rule (with_rule (with_rule
-    (with_rule (with_rule (with_rule command_alone help_flag) (flag (codes "version"))) (flag (codes "strict")))
-    (valued (codes "cache"))) (valued (codes "at"))) (valued (codes "form"))) (valued (codes "output")))
-    (valued (codes "depth"))) (valued (codes "exceptions"))) (valued (codes "metrics"))) (valued (codes "explain")))
-    (valued (codes "as"))) (repeated (codes "tal"))
+    (with_rule (with_rule (with_rule (with_rule command_alone help_flag) (flag (codes "version")))
+    (flag (codes "strict"))) (valued (codes "cache"))) (valued (codes "at"))) (valued (codes "form")))
+    (valued (codes "output"))) (valued (codes "depth"))) (valued (codes "exceptions"))) (valued (codes "metrics")))
+    (valued (codes "explain"))) (valued (codes "as"))) (valued (codes "compare"))) (repeated (codes "tal"))
 
 -- what `clap` matches in the words; None where it finds a fault in them
 abbrev pub matched : List (List ℕ) → Option (List Row)
@@ -75,7 +75,7 @@ strictness_of false = none_strict
 
 -- how payloads are written, which rules are asked strictly, the folder of the copy, the text of the moment,
 -- the file to write, the text of the depth, the file of local exceptions, the file of metrics, what is to be explained,
--- the text of an AS number, and the files of locators
+-- the text of an AS number, the file that another validator wrote, and the files of locators
 pub record Asked : Type 0 where
   pub form : Form
   pub strictness : Strictness
@@ -87,11 +87,12 @@ pub record Asked : Type 0 where
   pub metrics : Option (List ℕ)
   pub explain : Option (List ℕ)
   pub number : Option (List ℕ)
+  pub compare : Option (List ℕ)
   pub locators : List (List ℕ)
 
 abbrev pub asked : Strictness → Option (List ℕ) → Option (List ℕ) → Option (List ℕ) → Option (List ℕ)
-    → Option (List ℕ) → Option (List ℕ) → Option (List ℕ) → Form → List ℕ → List (List ℕ) → Asked
-asked strictness moment output depth exceptions metrics explain number form cache locators = record {
+    → Option (List ℕ) → Option (List ℕ) → Option (List ℕ) → Option (List ℕ) → Form → List ℕ → List (List ℕ) → Asked
+asked strictness moment output depth exceptions metrics explain number compare form cache locators = record {
   form = form;
   strictness = strictness;
   cache = cache;
@@ -102,17 +103,19 @@ asked strictness moment output depth exceptions metrics explain number form cach
   metrics = metrics;
   explain = explain;
   number = number;
+  compare = compare;
   locators = locators;
 }
 
--- a form, a folder, and locators; `--strict`, a moment, files, a depth, local exceptions and what is to be explained,
--- perhaps
+-- a form, a folder, and locators; `--strict`, a moment, files, a depth, local exceptions, what is to be explained and
+-- what is to be compared, perhaps
 abbrev pub request_of : List Row → Option Asked
 request_of rows =
     option_and_then (λ form. option_and_then (λ cache. option_map
     (asked (strictness_of (is_given (codes "strict") rows)) (first_of (codes "at") rows)
     (first_of (codes "output") rows) (first_of (codes "depth") rows) (first_of (codes "exceptions") rows)
-    (first_of (codes "metrics") rows) (first_of (codes "explain") rows) (first_of (codes "as") rows) form cache)
+    (first_of (codes "metrics") rows) (first_of (codes "explain") rows) (first_of (codes "as") rows)
+    (first_of (codes "compare") rows) form cache)
     (some_files (all_of (codes "tal") rows)))
     (first_of (codes "cache") rows)) (form_of (first_of (codes "form") rows))
 

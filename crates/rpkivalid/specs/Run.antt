@@ -9,6 +9,7 @@ use Rattle.rpki_payloads.specs.Metrics.{metrics_text}
 use Rattle.rpki_payloads.specs.Payloads.{PayloadParts}
 use Rattle.rpki_validation.specs.Basis.{Basis}
 use Rattle.rpkivalid.specs.declared.question.Question.{Question}
+use Rattle.rpkivalid.specs.Compared.{IsComparison}
 use Rattle.rpkivalid.specs.Excepted.{AreShown}
 use Rattle.rpkivalid.specs.Explained.{IsExplanation}
 use Rattle.rpkivalid.specs.Found.{AreFound, IsFoundIn, basis_with}
@@ -72,11 +73,32 @@ pub data IsReply (basis : DateTime → ℕ → KeyParts → Basis) (holds : Hold
   OfQuestion : IsExplained basis holds clock a text status → metrics ≡ []
       → IsReply basis holds clock a text metrics status
 
+-- The text compares what is found with what the file lists; and this is the status, 1 also where they differ.
+pub record IsCompared (basis : DateTime → ℕ → KeyParts → Basis) (holds : Holds) (clock : Option (Option DateTime))
+    (a : Asked) (file text : List ℕ) (status : ℕ) : Type 0 where
+  pub at : DateTime
+  pub moment : IsMomentOf clock a.moment at
+  pub depth : ℕ
+  pub deep : IsDepth a.depth depth
+  pub anchored : Bool
+  pub same : Bool
+  pub compares : IsComparison (basis at depth) holds a file text anchored same
+  pub read : Bool
+  pub known : IfSome holds (λ files. read ≡ true)
+  pub status_is : status ≡ status_of (anchored && same) read
+
+-- the comparison without metrics, where a file is to be compared; else the payloads or the explanation
+abbrev pub IsReplyTo : (basis : DateTime → ℕ → KeyParts → Basis) → Holds → Option (Option DateTime) → Asked
+    → (file : Option (List ℕ)) → (text metrics : List ℕ) → (status : ℕ) → Type 0
+IsReplyTo basis holds clock a None text metrics status = IsReply basis holds clock a text metrics status
+IsReplyTo basis holds clock a (Some file) text metrics status =
+    IsCompared basis holds clock a file text status × (metrics ≡ [])
+
 -- The run of what is asked for: the answer, with its metrics and its status, of which a beginning is written where the
 -- output fails; or nothing, with the status 2.
 pub data IsRunOf (basis : DateTime → ℕ → KeyParts → Basis) (holds : Holds) (clock : Option (Option DateTime))
     (old new before after : Option (List ℕ)) (status : ℕ) (a : Asked) : Type 0 where
-  Answered : (text metrics : List ℕ) (wanted : ℕ) → IsReply basis holds clock a text metrics wanted
+  Answered : (text metrics : List ℕ) (wanted : ℕ) → IsReplyTo basis holds clock a a.compare text metrics wanted
       → Prints old new text wanted status → Appends before after metrics
       → IsRunOf basis holds clock old new before after status a
   Denied : Appends old new [] → status ≡ 2 → IsRunOf basis holds clock old new before after status a
@@ -90,6 +112,10 @@ module _ {X : Type 0} (rsa ecdsa : X → Check) (sha1 sha256 : X → List ℕ �
   -- the answer or the explanation
   abbrev pub Replies : Asked → List ℕ → List ℕ → ℕ → Type 0
   Replies a = IsReply (basis_with rsa ecdsa sha1 sha256 provider a.strictness) holds clock a
+
+  -- these or the comparison
+  abbrev pub RepliesAt : Asked → Option (List ℕ) → List ℕ → List ℕ → ℕ → Type 0
+  RepliesAt a file = IsReplyTo (basis_with rsa ecdsa sha1 sha256 provider a.strictness) holds clock a file
 
 -- the run, by a provider's signatures and digests, of what sources hold, into two outputs
 abbrev pub Runs : {X S A B : Type 0} → (X → Check) → (X → Check) → (X → List ℕ → List ℕ) → (X → List ℕ → List ℕ) → X

@@ -20,4 +20,4 @@ abbrev pub usage_text : List ℕ
 usage_text =
     codes "usage: rpkivalid --tal FILE.. --cache FOLDER [--at MOMENT] [--form csv|json|rpki-client|openbgpd|bird] "
     ++ codes "[--output FILE] [--exceptions FILE] [--metrics FILE] [--depth N] [--strict] "
-    ++ codes "[--explain URI|PREFIX [--as NUMBER]]\n"
+    ++ codes "[--explain URI|PREFIX [--as NUMBER]] [--compare FILE]\n"

@@ -2,7 +2,7 @@
 
 use crate::words::{NO_DEPTH, NO_MOMENT, NO_ROUTE, NO_URI, OUT_OF_MEMORY};
 use rpki_locator::LocatorError;
-use rpki_payloads::ExceptionsError;
+use rpki_payloads::{ExceptionsError, ListError};
 use std::alloc::{AllocError, AllocFailed, Global};
 
 /// Why nothing is written.
@@ -24,6 +24,10 @@ pub enum Denial {
     NoExceptions,
     /// What is in that file is no file of local exceptions.
     OtherExceptions(ExceptionsError),
+    /// There is no file to be compared, or it can't be read.
+    NoList,
+    /// What is in that file lists no payloads.
+    OtherList(ListError),
     /// Allocation failed.
     OutOfMemory,
 }
@@ -94,8 +98,20 @@ fn deviation_of(alloc: Global, e: ExceptionsError) -> Result<String, AllocError>
     }
 }
 
+/// What is wrong with a list of payloads.
+fn unlisted_of(alloc: Global, e: ListError) -> Result<String, AllocError> {
+    match e {
+        ListError::Json => String::from_str(alloc, "not JSON"),
+        ListError::Roas => String::from_str(alloc, "no array roas"),
+        ListError::Element(at) => format!(in alloc; "roas: not a payload: number {at}"),
+        ListError::Line(line) => format!(in alloc; "line {line}: not a payload"),
+        ListError::OutOfMemory => Err(AllocError),
+    }
+}
+
 impl Denial {
-    /// What a person reads of it, as a line, where these are the files of locators, and that of local exceptions.
+    /// What a person reads of it, as a line, where these are the files of locators, that of local exceptions, and
+    /// that to be compared.
     ///
     /// Returns `AllocError` if allocation fails.
     pub fn text(
@@ -103,6 +119,7 @@ impl Denial {
         alloc: Global,
         files: &[&str],
         exceptions: Option<&str>,
+        compare: Option<&str>,
     ) -> Result<Vec<u8>, AllocError> {
         match self {
             Denial::NoMoment => Vec::from_slice(alloc, NO_MOMENT),
@@ -129,6 +146,17 @@ impl Denial {
                 let file = exceptions.unwrap_or("");
                 let fault = deviation_of(alloc, e)?;
                 let text = format!(in alloc; "rpkivalid: {file}: RFC 8416 3: {fault}\n")?;
+                Ok(text.into_bytes())
+            }
+            Denial::NoList => {
+                let file = compare.unwrap_or("");
+                let text = format!(in alloc; "rpkivalid: {file}: cannot be read\n")?;
+                Ok(text.into_bytes())
+            }
+            Denial::OtherList(e) => {
+                let file = compare.unwrap_or("");
+                let fault = unlisted_of(alloc, e)?;
+                let text = format!(in alloc; "rpkivalid: {file}: {fault}\n")?;
                 Ok(text.into_bytes())
             }
             Denial::OutOfMemory => Vec::from_slice(alloc, OUT_OF_MEMORY),

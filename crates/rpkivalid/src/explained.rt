@@ -65,29 +65,31 @@ fn object_under<S: Sources, P: Provider>(
     Ok((text, is_found(&found)))
 }
 
-/// What attestations that are rejected under the locator say of the route; nothing if there is no trust anchor.
+/// What attestations that are rejected under the locator say of what is asked; nothing if there is no trust anchor.
 fn refused_in<S: Sources>(
     alloc: Global,
     sources: &S,
     folder: &str,
     strictness: Strictness,
-    route: Route,
+    question: &Question,
     name: &str,
     found: &Walk,
 ) -> Result<Vec<u8>, AllocError>
     ensures { IfOk result (λ text. IfSome (S.holds sources.now) (λ files. AreRefusedIn files folder.now strictness
-        route name.now found.now text.items)) }
+        question.now name.now found.now text.items)) }
 {
     match found {
         Walk::Found(outcome) => {
             let rejections = outcome.rejections.as_slice();
-            refused_text(alloc, sources, folder, strictness, route, name, rejections)
+            refused_text(
+                alloc, sources, folder, strictness, question, name, rejections,
+            )
         }
         Walk::NoAnchor(_) => Ok(Vec::new(alloc)),
     }
 }
 
-/// What attestations that are rejected under the locator say of the route, and whether that has a trust anchor.
+/// What attestations that are rejected under the locator say of what is asked, and whether that has a trust anchor.
 fn refused_under<S: Sources, P: Provider>(
     alloc: Global,
     sources: &S,
@@ -96,17 +98,17 @@ fn refused_under<S: Sources, P: Provider>(
     strictness: Strictness,
     depth: u32,
     at: Time,
-    route: Route,
+    question: &Question,
     named: &Named,
 ) -> Result<(Vec<u8>, bool), AllocError>
     ensures { IfOk result (IsRefusedBy P.rsa_of P.ecdsa_of P.sha1_of P.sha256_of provider.now (S.holds sources.now)
-        folder.now strictness at depth route named.now) }
+        folder.now strictness at depth question.now named.now) }
 {
     let found = walk_of(
         alloc, sources, folder, provider, strictness, depth, at, named,
     )?;
     let name = named.name.as_str();
-    let text = refused_in(alloc, sources, folder, strictness, route, name, &found)?;
+    let text = refused_in(alloc, sources, folder, strictness, question, name, &found)?;
     Ok((text, is_found(&found)))
 }
 
@@ -129,8 +131,11 @@ fn told_under<S: Sources, P: Provider>(
         Question::Object(uri) => object_under(
             alloc, sources, folder, provider, strictness, depth, at, uri, named,
         ),
-        Question::Origin(route) => refused_under(
-            alloc, sources, folder, provider, strictness, depth, at, *route, named,
+        Question::Origin(_) => refused_under(
+            alloc, sources, folder, provider, strictness, depth, at, question, named,
+        ),
+        Question::Alone(_) => refused_under(
+            alloc, sources, folder, provider, strictness, depth, at, question, named,
         ),
     }
 }
@@ -181,7 +186,9 @@ fn told_under_all<S: Sources, P: Provider>(
 }
 
 /// What is said under the locators that are asked for of what is asked.
-fn tell<S: Sources, P: Provider>(
+///
+/// Returns why there is no such locator; `OutOfMemory` if allocation fails.
+pub fn tell<S: Sources, P: Provider>(
     alloc: Global,
     question: &Question,
     request: &Request<'_, '_>,
@@ -264,6 +271,7 @@ pub fn explain<S: Sources, P: Provider>(
     let told = tell(alloc, question, request, host, crypto, at, depth)?;
     match question {
         Question::Object(_) => Ok(told),
+        Question::Alone(_) => Ok(told),
         Question::Origin(route) => {
             let mut said = route_text(alloc, *route, request, host, crypto, at, depth, report)?;
             said.text.extend_from_slice(told.text.as_slice())?;

@@ -84,7 +84,7 @@ pub struct Found {
 }
 
 /// Whether both are so.
-fn both(one: bool, other: bool) -> bool
+pub fn both(one: bool, other: bool) -> bool
     ensures { result ≡ (one && other) }
 {
     one && other

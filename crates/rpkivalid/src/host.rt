@@ -14,6 +14,9 @@ use std::time::{SystemTime, UNIX_EPOCH};
 /// How many octets a file has at most.
 const MOST: u64 = 16_777_216;
 
+/// How many octets what another validator wrote has at most.
+const MOST_LISTED: u64 = 1_073_741_824;
+
 /// The files of the host, and its clock.
 #[derive(Drop)]
 pub struct Host<'a> {
@@ -50,16 +53,14 @@ impl Host<'_> {
             }
         }
     }
-}
 
-impl Sources for Host<'_> {
-    ghost use Rattle.std.specs.Prelude.{None};
-
-    ghost holds = { λ _. None };
-
-    ghost clock = { λ _. None };
-
-    fn read(&self, alloc: Global, path: &str) -> Result<Option<Bytes>, AllocError> {
+    /// The octets of the file at the path, of which there are so many at most.
+    fn read_up_to(
+        &self,
+        alloc: Global,
+        path: &str,
+        most: u64,
+    ) -> Result<Option<Bytes>, AllocError> {
         let mut file = match fs::open(self.rt, path) {
             Ok(file) => file,
             Err(e) => return self.without(e.kind()),
@@ -68,10 +69,10 @@ impl Sources for Host<'_> {
             Ok(metadata) => metadata.len(),
             Err(e) => return self.without(e.kind()),
         };
-        if size > MOST {
+        if size > most {
             return self.without(ErrorKind::FileTooLarge);
         }
-        let mut octets = Vec::with_capacity(alloc, size as usize + 1)?;
+        let mut octets = Vec::with_capacity(alloc, (size as usize).saturating_add(1))?;
         match file.read_to_end(&mut octets) {
             Ok(_) => match Bytes::from_vec(octets) {
                 Ok(octets) => {
@@ -82,6 +83,22 @@ impl Sources for Host<'_> {
             },
             Err(e) => self.without(e.kind()),
         }
+    }
+}
+
+impl Sources for Host<'_> {
+    ghost use Rattle.std.specs.Prelude.{None};
+
+    ghost holds = { λ _. None };
+
+    ghost clock = { λ _. None };
+
+    fn read(&self, alloc: Global, path: &str) -> Result<Option<Bytes>, AllocError> {
+        self.read_up_to(alloc, path, MOST)
+    }
+
+    fn read_large(&self, alloc: Global, path: &str) -> Result<Option<Bytes>, AllocError> {
+        self.read_up_to(alloc, path, MOST_LISTED)
     }
 
     fn is_read(&self) -> bool {

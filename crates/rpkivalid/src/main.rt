@@ -3,6 +3,7 @@
 
 mod arguments;
 mod cache;
+mod compared;
 mod counted;
 mod denial;
 mod excepted;

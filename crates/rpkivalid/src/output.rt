@@ -19,7 +19,8 @@ struct Files<'a> {
     metrics: Option<&'a str>,
 }
 
-/// The names of the files that the words ask to be written. An explanation has no metrics.
+/// The names of the files that the words ask to be written. An explanation and a comparison have no
+/// metrics.
 fn files_of<'a>(alloc: Global, words: &'a [String]) -> Result<Files<'a>, AllocError> {
     let none = Files {
         output: None,
@@ -34,9 +35,10 @@ fn files_of<'a>(alloc: Global, words: &'a [String]) -> Result<Files<'a>, AllocEr
     match Request::of(&matches) {
         Some(request) => Ok(Files {
             output: request.output,
-            metrics: match request.explain {
-                Some(_) => None,
-                None => request.metrics,
+            metrics: if request.explain.is_some() || request.compare.is_some() {
+                None
+            } else {
+                request.metrics
             },
         }),
         None => Ok(none),
@@ -96,7 +98,12 @@ fn run_with<W: Write>(
     settled(rt, &file, beside.as_str(), name, status)
 }
 
-/// Runs what the words ask for, and returns the exit status.
+/// Runs what the words ask for, and returns the exit status: 2 if a file can't be made, written or put in its place,
+/// and else that of [run].
+///
+/// Returns `AllocError` if allocation fails before anything is written.
+// It has no clause: what the host's streams and files contain is known to none of its calls. [run] says what is
+// written.
 pub fn run_to(rt: &HostRuntime, words: &[String], host: &Host<'_>) -> Result<u8, AllocError> {
     let files = files_of(rt.alloc(), words)?;
     let Some(name) = files.output else {

@@ -6,7 +6,7 @@ ghost use Rattle.rpkivalid.specs.Question.{IsObjectQuestion, IsOriginQuestion, I
 
 use crate::denial::Denial;
 use rpki::uri::{Error, Rsync};
-use rpki_payloads::Route;
+use rpki_payloads::{Route, Vrp};
 use rpki_resources::{Asn, Prefix};
 use std::alloc::Global;
 
@@ -17,6 +17,8 @@ pub enum Question {
     Object(Rsync),
     /// What payloads say of this route.
     Origin(Route),
+    /// Why another validator alone has these payloads.
+    Alone(Vec<Vrp>),
 }
 
 /// The object at the URI that the word is.

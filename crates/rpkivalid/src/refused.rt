@@ -1,11 +1,12 @@
-//! What attestations of route origins that are rejected say of a route. Nothing of them is verified.
+//! What attestations of route origins that are rejected say of a route, or of payloads. Nothing of them is verified.
 
 ghost use Rattle.std.specs.Prelude.{◌≡◌, ◌++◌, IfOk, IfSome, OnOk, string_bytes};
 ghost use Rattle.std.specs.List.{flat_map};
 ghost use Rattle.rpki_contents.specs.RouteOrigin.{origins};
-ghost use Rattle.rpkivalid.specs.Refused.{AreRefused, SaysAt, SaysUnverified, refused_line};
+ghost use Rattle.rpkivalid.specs.Refused.{AreRefused, SaysAt, SaysUnverified, is_wanted, refused_line};
 
 use crate::paths::object_path;
+use crate::question::Question;
 use crate::sources::Sources;
 use crate::told::rejected_line;
 use bytes::Bytes;
@@ -13,7 +14,7 @@ use rpki::der::DecodeError;
 use rpki::uri::Rsync;
 use rpki_contents::{RouteOrigin, RouteOrigins};
 use rpki_objects::{Roa, Strictness};
-use rpki_payloads::{Route, Vrp};
+use rpki_payloads::Vrp;
 use rpki_validation::Rejection;
 use std::alloc::{AllocError, Global};
 
@@ -72,18 +73,29 @@ fn said_at<S: Sources>(
     }
 }
 
-/// Adds the line of the route origin that is rejected, if it covers the route.
+/// Whether the payload is asked for: it covers the route, or is one of those that another validator alone has.
+fn is_wanted(question: &Question, vrp: Vrp) -> bool
+    ensures { result ≡ is_wanted question.now vrp }
+{
+    match question {
+        Question::Object(_) => false,
+        Question::Origin(route) => route.is_covered_by(vrp),
+        Question::Alone(vrps) => vrp.is_among(vrps.as_slice()),
+    }
+}
+
+/// Adds the line of the route origin that is rejected, if it is asked for.
 fn push_refused(
     text: &mut Vec<u8>,
-    route: Route,
+    question: &Question,
     name: &str,
     rejection: &Rejection,
     origin: RouteOrigin,
 ) -> Result<(), AllocError>
-    ensures { OnOk result (text.new.items ≡ text.old.items ++ refused_line route name.now rejection.now origin) }
+    ensures { OnOk result (text.new.items ≡ text.old.items ++ refused_line question.now name.now rejection.now origin) }
 {
     let vrp = Vrp::from(origin);
-    if route.is_covered_by(vrp) {
+    if is_wanted(question, vrp) {
         let alloc = *text.allocator();
         let payload = vrp.text(alloc)?;
         let line = rejected_line(alloc, name, rejection)?;
@@ -94,24 +106,24 @@ fn push_refused(
     Ok(())
 }
 
-/// Adds the lines of the route origins that are rejected and cover the route.
+/// Adds the lines of the route origins that are rejected and asked for.
 fn push_all_refused(
     text: &mut Vec<u8>,
-    route: Route,
+    question: &Question,
     name: &str,
     rejection: &Rejection,
     origins: &[RouteOrigin],
 ) -> Result<(), AllocError>
     ensures { OnOk result (text.new.items
-        ≡ text.old.items ++ flat_map (refused_line route name.now rejection.now) origins.now) }
+        ≡ text.old.items ++ flat_map (refused_line question.now name.now rejection.now) origins.now) }
 {
     'origins: for origin in origins {
-        push_refused(text, route, name, rejection, *origin)?;
+        push_refused(text, question, name, rejection, *origin)?;
     }
     Ok(())
 }
 
-/// What attestations that are rejected say of the route, a line for each of their prefixes that covers it.
+/// What attestations that are rejected say of what is asked, a line for each payload of theirs that is asked for.
 ///
 /// Returns `AllocError` if allocation fails.
 pub fn refused_text<S: Sources>(
@@ -119,18 +131,18 @@ pub fn refused_text<S: Sources>(
     sources: &S,
     folder: &str,
     strictness: Strictness,
-    route: Route,
+    question: &Question,
     name: &str,
     rejections: &[Rejection],
 ) -> Result<Vec<u8>, AllocError>
-    ensures { IfOk result (λ text. IfSome (S.holds sources.now) (λ files. AreRefused files folder.now strictness route
-        name.now rejections.now text.items)) }
+    ensures { IfOk result (λ text. IfSome (S.holds sources.now) (λ files. AreRefused files folder.now strictness
+        question.now name.now rejections.now text.items)) }
 {
     let mut text = Vec::new(alloc);
     let mut rest = rejections;
     'rejections: while let Some((rejection, following)) = rest.split_first() {
         let origins = said_at(alloc, sources, folder, strictness, &rejection.uri)?;
-        push_all_refused(&mut text, route, name, rejection, origins.as_slice())?;
+        push_all_refused(&mut text, question, name, rejection, origins.as_slice())?;
         rest = following;
     }
     Ok(text)

@@ -35,6 +35,8 @@ pub struct Request<'m, 'a> {
     pub explain: Option<&'a str>,
     /// The AS number of a route that is to be explained.
     pub number: Option<&'a str>,
+    /// The name of the file that another validator wrote.
+    pub compare: Option<&'a str>,
     /// The names of the files of locators.
     pub locators: &'m [&'a str],
 }
@@ -93,6 +95,7 @@ fn command<'a>(alloc: Global) -> Result<Command<'a>, AllocError>
         .arg(valued(alloc, "metrics"))?
         .arg(valued(alloc, "explain"))?
         .arg(valued(alloc, "as"))?
+        .arg(valued(alloc, "compare"))?
         .arg(repeated(alloc, "tal"))
 }
 
@@ -172,7 +175,7 @@ fn strictness_of(strict: bool) -> Strictness
 
 impl<'m, 'a> Request<'m, 'a> {
     /// What is asked for: a form, the folder of a copy, and locators; and a moment, a depth, files, local exceptions,
-    /// and what is to be explained, perhaps. None if there is no folder, no locator, or no such form.
+    /// what is to be explained or compared, perhaps. None if there is no folder, no locator, or no such form.
     pub fn of(matches: &'m ArgMatches<'a>) -> Option<Request<'m, 'a>>
         ensures { option_map asked_of result ≡ request_of (rows_in matches.entry.now) }
     {
@@ -190,6 +193,7 @@ impl<'m, 'a> Request<'m, 'a> {
             metrics: matches.get_str("metrics"),
             explain: matches.get_str("explain"),
             number: matches.get_str("as"),
+            compare: matches.get_str("compare"),
             locators,
         })
     }

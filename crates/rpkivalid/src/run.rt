@@ -7,14 +7,15 @@ ghost use Rattle.rpkivalid.specs.Moment.{IsDepth, IsMomentOf, IsNoDepth};
 ghost use Rattle.rpkivalid.specs.Request.{help, version};
 ghost use Rattle.rpkivalid.specs.RequestView.{asked_of, wanted_by, Asks, AskHelp, AskVersion, AskRun, AskNothing};
 ghost use Rattle.rpkivalid.specs.Run.{metrics_for, status_of, Runs};
-ghost use Rattle.rpkivalid.specs.RunView.{AnswersTo, Gives, RepliesTo};
+ghost use Rattle.rpkivalid.specs.RunView.{AnswersTo, ComparesTo, Gives, RepliesTo, RespondsTo};
 ghost use Rattle.rpkivalid.specs.Words.{Prints, PrintsAlone, usage_text};
 
 use crate::arguments::Wordless;
+use crate::compared::{Compared, compare};
 use crate::denial::Denial;
 use crate::excepted::{exceptions_in, shown_of};
 use crate::explained::{Explained, explain};
-use crate::found::{Found, found_under_all};
+use crate::found::{Found, both, found_under_all};
 use crate::locators::locators_in;
 use crate::moment::named_moment;
 use crate::question::question_of;
@@ -160,6 +161,59 @@ fn reply_at<S: Sources, P: Provider>(
     }
 }
 
+/// The comparison with what the file lists, at this moment and to this depth. Adds to the report what is rejected.
+fn comparison_at<S: Sources, P: Provider>(
+    alloc: Global,
+    file: &str,
+    request: &Request<'_, '_>,
+    host: &S,
+    crypto: &P,
+    at: Time,
+    depth: u32,
+    report: &mut Vec<u8>,
+) -> Result<Answer, Denial>
+    requires moment { IsMomentOf (S.clock host.now) (asked_of request.now).moment at }
+    requires depth { IsDepth (asked_of request.now).depth depth }
+    ensures { IfOk result (ComparesTo P.rsa_of P.ecdsa_of P.sha1_of P.sha256_of crypto.now (S.holds host.now)
+        (S.clock host.now) request.now file.now) }
+{
+    let compared = compare(alloc, file, request, host, crypto, at, depth, report)?;
+    let Compared {
+        text,
+        have_anchors,
+        are_same,
+    } = compared;
+    let is_right = both(have_anchors, are_same);
+    let status = status_of(is_right, host.is_read());
+    let metrics = Vec::new(alloc);
+    Ok(Answer {
+        text,
+        metrics,
+        status,
+    })
+}
+
+/// What is asked for, or the comparison, at this moment and to this depth. Adds to the report what is rejected.
+fn response_at<S: Sources, P: Provider>(
+    alloc: Global,
+    request: &Request<'_, '_>,
+    host: &S,
+    crypto: &P,
+    at: Time,
+    depth: u32,
+    report: &mut Vec<u8>,
+) -> Result<Answer, Denial>
+    requires moment { IsMomentOf (S.clock host.now) (asked_of request.now).moment at }
+    requires depth { IsDepth (asked_of request.now).depth depth }
+    ensures { IfOk result (RespondsTo P.rsa_of P.ecdsa_of P.sha1_of P.sha256_of crypto.now (S.holds host.now)
+        (S.clock host.now) request.now) }
+{
+    match request.compare {
+        Some(file) => comparison_at(alloc, file, request, host, crypto, at, depth, report),
+        None => reply_at(alloc, request, host, crypto, at, depth, report),
+    }
+}
+
 /// What is asked for. Adds to the report what is rejected.
 fn answer_of<S: Sources, P: Provider>(
     alloc: Global,
@@ -168,12 +222,12 @@ fn answer_of<S: Sources, P: Provider>(
     crypto: &P,
     report: &mut Vec<u8>,
 ) -> Result<Answer, Denial>
-    ensures { IfOk result (RepliesTo P.rsa_of P.ecdsa_of P.sha1_of P.sha256_of crypto.now (S.holds host.now)
+    ensures { IfOk result (RespondsTo P.rsa_of P.ecdsa_of P.sha1_of P.sha256_of crypto.now (S.holds host.now)
         (S.clock host.now) request.now) }
 {
     match moment_at(host, request.moment) {
         Some(at) => match depth_of(request.depth) {
-            Some(depth) => reply_at(alloc, request, host, crypto, at, depth, report),
+            Some(depth) => response_at(alloc, request, host, crypto, at, depth, report),
             None => Err(Denial::NoDepth),
         },
         None => Err(Denial::NoMoment),
@@ -208,7 +262,7 @@ pub fn give_up<F: Write>(err: &mut F) -> u8
 fn deny<F: Write>(alloc: Global, denial: Denial, request: &Request<'_, '_>, err: &mut F) -> u8
     ensures { result ≡ 2 }
 {
-    let _ = match denial.text(alloc, request.locators, request.exceptions) {
+    let _ = match denial.text(alloc, request.locators, request.exceptions, request.compare) {
         Ok(text) => print(text.as_slice(), err, 2),
         Err(_) => give_up(err),
     };
@@ -294,14 +348,15 @@ fn respond<S: Sources, P: Provider, W: Write, M: Write, F: Write>(
 /// `--help` and `--version` print a text. Else what is written to the output are the payloads that are valid at the
 /// moment in the copy, under the locators, with the local exceptions that are asked for: exactly these, each once, in
 /// order, in the form that is asked for; all of them or, where the output fails, a beginning. Before that their metrics
-/// go to the sink, where they are asked for. Where an object or a route is to be explained it is that, in their place,
-/// without metrics. To the faults goes a line for each object that is rejected, or why there are no payloads. Of other
-/// words it is how the program is used.
+/// go to the sink, where they are asked for. Where an object or a route is to be explained, or a file to be compared,
+/// it is that, in their place, without metrics. To the faults goes a line for each object that is rejected, or why
+/// there are no payloads. Of other words it is how the program is used.
 ///
-/// The status is 0 if all is written; 1 if all is, but a locator has no trust anchor, or a file that is there could not
-/// be read; 2 for other words, without a moment or a locator, if allocation fails, if the output, the metrics or the
-/// faults fail, and where the file of local exceptions can't be read, or is none. Returns `AllocError` if there is no
-/// memory to read the words; then nothing is written.
+/// The status is 0 if all is written; 1 if all is, but a locator has no trust anchor, a file that is there could not be
+/// read, or a file that is compared lists other payloads; 2 for other words, without a moment or a locator, if
+/// allocation fails, if the output, the metrics or the faults fail, and where the file of local exceptions, or that to
+/// be compared, can't be read, or is none. Returns `AllocError` if there is no memory to read the words; then nothing
+/// is written.
 pub fn run<S: Sources, P: Provider, W: Write, M: Write, F: Write>(
     alloc: Global,
     words: &[String],

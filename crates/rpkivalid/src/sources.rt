@@ -21,6 +21,12 @@ pub trait Sources {
     fn read(&self, alloc: Global, path: &str) -> Result<Option<Bytes>, AllocError>
         ensures { IfSome (holds self.now) (λ files. IfOk result (λ found. found ≡ files path.now)) };
 
+    /// The same, of a file that may be larger than an object of a repository: what another validator wrote.
+    ///
+    /// Returns `AllocError` if allocation fails.
+    fn read_large(&self, alloc: Global, path: &str) -> Result<Option<Bytes>, AllocError>
+        ensures { IfSome (holds self.now) (λ files. IfOk result (λ found. found ≡ files path.now)) };
+
     /// Whether each file that is there could be read, until now.
     fn is_read(&self) -> bool
         ensures { IfSome (holds self.now) (λ _. result ≡ true) };

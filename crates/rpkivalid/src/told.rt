@@ -50,7 +50,7 @@ fn concerns(uri: &Rsync, rejection: &Rejection) -> Result<bool, AllocError>
 }
 
 /// The URI of what is rejected.
-fn place_text(uri: &Option<Rsync>) -> &str
+pub fn place_text(uri: &Option<Rsync>) -> &str
     ensures { result.now ≡ place_text uri.now }
 {
     match uri {

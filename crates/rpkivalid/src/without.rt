@@ -28,6 +28,14 @@ impl<S: Sources> Sources for Without<'_, S> {
         self.sources.read(alloc, path)
     }
 
+    fn read_large(&self, alloc: Global, path: &str) -> Result<Option<Bytes>, AllocError> {
+        if path == self.path {
+            Ok(None)
+        } else {
+            self.sources.read_large(alloc, path)
+        }
+    }
+
     fn is_read(&self) -> bool {
         self.sources.is_read()
     }

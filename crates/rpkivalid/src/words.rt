@@ -4,7 +4,7 @@
 pub const USAGE: &[u8] = b"usage: rpkivalid --tal FILE.. --cache FOLDER [--at MOMENT] \
 [--form csv|json|rpki-client|openbgpd|bird] [--output FILE] \
 [--exceptions FILE] [--metrics FILE] [--depth N] [--strict] \
-[--explain URI|PREFIX [--as NUMBER]]\n";
+[--explain URI|PREFIX [--as NUMBER]] [--compare FILE]\n";
 
 /// The program's name and version.
 pub const VERSION: &[u8] = b"rpkivalid 0.2.0\n";
@@ -34,7 +34,7 @@ rpkivalid - validate a local copy of a repository of the RPKI
 usage: rpkivalid --tal FILE.. --cache FOLDER [--at MOMENT]
                  [--form csv|json|rpki-client|openbgpd|bird] [--output FILE]
                  [--exceptions FILE] [--metrics FILE] [--depth N] [--strict]
-                 [--explain URI|PREFIX [--as NUMBER]]
+                 [--explain URI|PREFIX [--as NUMBER]] [--compare FILE]
        rpkivalid -h | --help
        rpkivalid --version
 
@@ -67,9 +67,12 @@ an object a line, and how many payloads there are.
   --explain PREFIX --as NUMBER
                   whether the route is valid, invalid or not found (RFC 6811), and
                   the payloads that cover it
+  --compare FILE  which payloads are here alone, and which FILE has alone, of what
+                  another validator wrote, in csv or JSON; and what rejected
+                  attestations say of the latter
 
 Exit status: 0 if all is written; 1 if all is written, but a locator has no trust
-anchor, or a file that is there could not be read; 2 if nothing is written: for a
-wrong usage, without a locator or the local exceptions, if memory fails, and if
-writing fails.
+anchor, a file that is there could not be read, or FILE has other payloads; 2 if
+nothing is written: for a wrong usage, without a locator, the local exceptions or
+the FILE to compare, if memory fails, and if writing fails.
 ";

@@ -6,4 +6,4 @@ use Rattle.rpkivalid.proofs.refused.push_all_refused.Given as goal
 abbrev pub invariant-origins : goal.invariant-origins
 invariant-origins l =
     l.text.items
-    ≡ l.initial.text.items ++ flat_map (refused_line l.route l.name l.rejection) (take l.origin-index l.origins)
+    ≡ l.initial.text.items ++ flat_map (refused_line l.question l.name l.rejection) (take l.origin-index l.origins)

@@ -7,7 +7,7 @@ use Rattle.rpkivalid.proofs.refused.refused_text.Given as goal
 abbrev pub invariant-rejections : goal.invariant-rejections
 invariant-rejections g l =
     IfSome (g.S.Sources.holds l.sources)
-    (λ files. IsRefusedUpTo files l.folder l.strictness l.route l.name l.rejections l.rest l.text.items)
+    (λ files. IsRefusedUpTo files l.folder l.strictness l.question l.name l.rejections l.rest l.text.items)
 
 abbrev pub decreases-rejections : goal.decreases-rejections
 decreases-rejections g l = length l.rest

@@ -29,5 +29,7 @@ returns c =
     ∙ ap₂ with_rule metrics c.valued-8.ensures.rule in
     let number = c.in_ok-arg-12.ensures.shape c.valued-9.ensures.local
     ∙ ap₂ with_rule explain c.valued-9.ensures.rule in
-    IfOk-weaker c.arg-13.result _ _ (λ r h. h.shape c.repeated.ensures.local
-    ∙ ap₂ with_rule number c.repeated.ensures.rule) c.arg-13.ensures
+    let compare = c.in_ok-arg-13.ensures.shape c.valued-10.ensures.local
+    ∙ ap₂ with_rule number c.valued-10.ensures.rule in
+    IfOk-weaker c.arg-14.result _ _ (λ r h. h.shape c.repeated.ensures.local
+    ∙ ap₂ with_rule compare c.repeated.ensures.rule) c.arg-14.ensures

@@ -1,0 +1,10 @@
+use Rattle.serde_json.specs.View.{view}
+use Rattle.rpki_payloads.specs.Listed.{IsElement}
+use Rattle.rpki_payloads.proofs.ExceptionLaws.{each-next}
+use Rattle.rpki_payloads.proofs.listed.elements_of.Goals as goal
+
+pub values-preserved : goal.values-preserved
+values-preserved c =
+    rw c.in_ok-push.ensures.items
+    (each-next (λ v. IsElement (view v)) c.args.values.now c.values.all.items c.values.value-index
+    c.value-item.result _ c.values-test.true c.value-item.is c.values.invariant c.in-Some.ensures)

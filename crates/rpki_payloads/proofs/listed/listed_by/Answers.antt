@@ -1,0 +1,13 @@
+use Rattle.std.proofs.Common.{codes}
+use Rattle.std.proofs.lemmas.Result.{IfOk-weaker}
+use Rattle.serde_json.specs.View.{view}
+use Rattle.rpki_payloads.specs.Listed.{IsElement}
+use Rattle.rpki_payloads.proofs.MemberLaws.{listed}
+use Rattle.rpki_payloads.proofs.listed.listed_by.Goals as goal
+
+pub returns-in-Some : goal.returns-in-Some
+returns-in-Some c =
+    IfOk-weaker c.elements_of.result _ _
+    (λ all h. listed (codes "roas") IsElement (view c.args.value.now)
+    c.in-Some.values.now.items c.as_slice.result.now all.items c.as_slice.ensures.value
+    (rw c.in-Some.is at c.elements_in.ensures) h) c.elements_of.ensures

@@ -1,0 +1,32 @@
+-- What clauses see of a comparison.
+use Rattle.std.specs.Prelude.{ℕ, List, Vec}
+use Rattle.std.specs.declared.alloc.Global.{Global}
+use Rattle.jiff.specs.Types.{DateTime}
+use Rattle.rpki.specs.Provider.{Check}
+use Rattle.rpki_payloads.specs.declared.vrp.Vrp.{Vrp}
+use Rattle.rpkivalid.specs.declared.compared.Compared.{Compared}
+use Rattle.rpkivalid.specs.declared.compared.Ours.{Ours}
+use Rattle.rpkivalid.specs.declared.request.Request.{Request}
+use Rattle.rpkivalid.specs.Compared.{AreOurs, IsComparison, IsWhy}
+use Rattle.rpkivalid.specs.Found.{basis_with}
+use Rattle.rpkivalid.specs.Locators.{Holds}
+use Rattle.rpkivalid.specs.RequestView.{asked_of}
+
+module _ {X : Type 0} (rsa ecdsa : X → Check) (sha1 sha256 : X → List ℕ → List ℕ) (provider : X) (holds : Holds)
+    (at : DateTime) (depth : ℕ) (request : Request) where
+  -- the payloads that are found
+  abbrev pub AreOursBy : Ours → Type 0
+  AreOursBy ours =
+      AreOurs (basis_with rsa ecdsa sha1 sha256 provider request.strictness at depth) holds (asked_of request)
+      ours.vrps.items ours.have_anchors
+
+  -- why payloads are there alone
+  abbrev pub IsWhyBy : Vec Vrp Global → List ℕ → Type 0
+  IsWhyBy alone text =
+      IsWhy (basis_with rsa ecdsa sha1 sha256 provider request.strictness at depth) holds (asked_of request) alone text
+
+  -- the comparison with what the file lists
+  abbrev pub Compares : List ℕ → Compared → Type 0
+  Compares file c =
+      IsComparison (basis_with rsa ecdsa sha1 sha256 provider request.strictness at depth) holds (asked_of request)
+      file c.text.items c.have_anchors c.are_same
