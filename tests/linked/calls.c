@@ -5,6 +5,7 @@
  *
  * usage: calls ROWS
  */
+#include "judging.h"
 #include "memory.h"
 #include "parts.h"
 #include "rows.h"
@@ -16,7 +17,7 @@
 
 #include "rpki.h"
 
-enum { FILL = 0x5A, ROOM = 4096, ENTRIES = 64 };
+enum { ROOM = 4096, ENTRIES = 64 };
 
 /* What a call may write. Big enough for each, and in memory of its own for each call. */
 struct joined {
@@ -42,16 +43,10 @@ struct call {
     bool (*also)(const struct octets *given, const void *out);
 };
 
-static unsigned passed = 0, failed = 0;
 static size_t refusals = 0; /* allocations that were refused */
 
-static void judge(const struct row *row, const char *what, bool well) {
-    if (well) {
-        passed++;
-        return;
-    }
-    failed++;
-    printf("line %u: %s: %s\n", row->line, row->columns[0], what);
+static void expect(const struct row *row, const char *what, bool well) {
+    if (!counted(well)) printf("line %u: %s: %s\n", row->line, row->columns[0], what);
 }
 
 /* ---- Statuses ---- */
@@ -153,15 +148,6 @@ static void tell_index(const struct octets *given, const void *out, struct shown
         }
         show(shown, " %" PRIu32 " %u %s", entry->number, entry->tag_class, yes(entry->constructed));
     }
-}
-
-/* Whether octets from a place on are all as they were filled. */
-static bool untouched(const void *from, size_t size) {
-    const uint8_t *at = from;
-    while (size > 0) {
-        if (at[--size] != FILL) return false;
-    }
-    return true;
 }
 
 /* Whether both entries say the same; what is between their members does not count. */
@@ -531,17 +517,17 @@ static void judge_others(const struct row *row, const struct call *call, const s
     if (call->kind == WHOLE) {
         struct octets more = new_octets(NULL, given->size + 1, 0);
         memcpy(more.at, given->at, given->size);
-        judge(row, "an octet after it is not TRAILING", is_refused(call, more.at, more.size, RPKI_TRAILING));
+        expect(row, "an octet after it is not TRAILING", is_refused(call, more.at, more.size, RPKI_TRAILING));
         free(more.at);
-        judge(row, "a beginning is not TRUNCATED", beginnings(call, given->at, given->size));
+        expect(row, "a beginning is not TRUNCATED", beginnings(call, given->at, given->size));
     }
     if (call->kind == FRONT) {
         size_t size = front_size(call, given);
-        judge(row, "an octet after it changes it", followed(call, given, out->at));
-        judge(row, "a beginning is not TRUNCATED", size > 0 && beginnings(call, given->at, size));
+        expect(row, "an octet after it changes it", followed(call, given, out->at));
+        expect(row, "a beginning is not TRUNCATED", size > 0 && beginnings(call, given->at, size));
     }
-    judge(row, "an allocation that is refused", short_of_memory(call, given));
-    if (call->also) judge(row, "another capacity", call->also(given, out->at));
+    expect(row, "an allocation that is refused", short_of_memory(call, given));
+    if (call->also) expect(row, "another capacity", call->also(given, out->at));
 }
 
 static const struct call *call_of(const char *name) {
@@ -574,7 +560,7 @@ static void judge_row(const struct row *row) {
     size_t text;
     int expected, status;
     if (!call || row->count < call->texts + 2) {
-        judge(row, "no call", false);
+        expect(row, "no call", false);
         return;
     }
     rows_of[call - calls]++;
@@ -586,15 +572,15 @@ static void judge_row(const struct row *row) {
     expected = status_of(row->columns[1 + call->texts]);
     status = call->make(given, out.at);
     if (status != expected) printf("status %d, and not %d\n", status, expected);
-    judge(row, "another status", status == expected);
+    expect(row, "another status", status == expected);
     for (text = 0; text < call->texts; text++) {
-        judge(row, "its input is changed", !memcmp(given[text].at, copies[text].at, given[text].size));
+        expect(row, "its input is changed", !memcmp(given[text].at, copies[text].at, given[text].size));
         free(copies[text].at);
     }
     if (status != RPKI_OK) {
-        judge(row, "something is written", untouched(out.at, out.size));
+        expect(row, "something is written", untouched(out.at, out.size));
     } else {
-        judge(row, "another answer", as_expected(row, call, given, out.at));
+        expect(row, "another answer", as_expected(row, call, given, out.at));
         judge_others(row, call, given, &out);
     }
     for (text = 0; text < call->texts; text++) free(given[text].at);
@@ -706,11 +692,6 @@ static bool is_within(size_t levels) {
     return all_freed && most_octets() <= 24 * levels + 64;
 }
 
-static bool takes_none(void) {
-    bool all_freed;
-    return allocations(&all_freed) == 0;
-}
-
 static bool tree_takes_little(size_t levels, size_t nulls) {
     struct octets value = tree(levels, nulls);
     size_t headers = levels + nulls, count = 0;
@@ -729,16 +710,16 @@ static bool tree_takes_little(size_t levels, size_t nulls) {
     /* What is none of these types is refused over as little. */
     count_allocations(NONE_REFUSED);
     well = rpki_name_inspect(value.at, value.size, RPKI_PROFILE_RPKI, false) <= RPKI_TRAILING && well;
-    well = takes_none() && well;
+    well = took_none() && well;
     count_allocations(NONE_REFUSED);
     well = rpki_extension(value.at, value.size, &extension) <= RPKI_TRAILING && well;
-    well = takes_none() && well;
+    well = took_none() && well;
     count_allocations(NONE_REFUSED);
     well = rpki_signed_data(value.at, value.size, &parts) <= RPKI_TRAILING && well;
     well = is_within(levels) && well;
     count_allocations(NONE_REFUSED);
     well = rpki_public_key(value.at, value.size, &key) <= RPKI_TRAILING && well;
-    well = takes_none() && well;
+    well = took_none() && well;
     free(value.at);
     return well;
 }
@@ -755,7 +736,7 @@ static bool names_take_none(size_t attributes) {
     for (place = 0; place < attributes; place++) memcpy(name.at + 4 + place * sizeof one, one, sizeof one);
     count_allocations(NONE_REFUSED);
     well = rpki_name_inspect(name.at, name.size, RPKI_PROFILE_ROUTER, true) == RPKI_SECOND_COMMON_NAME;
-    well = takes_none() && well;
+    well = took_none() && well;
     free(name.at);
     return well;
 }
@@ -771,10 +752,10 @@ static bool keys_take_none(void) {
     memcpy(octets.at, before, sizeof before);
     count_allocations(NONE_REFUSED);
     well = rpki_public_key(octets.at, octets.size, &key) == RPKI_OK && key.bits.size == 16360;
-    well = takes_none() && well;
+    well = took_none() && well;
     count_allocations(NONE_REFUSED);
     well = rpki_key_identifier(octets.at, octets.size, identifier) == RPKI_OK && well;
-    well = takes_none() && well;
+    well = took_none() && well;
     free(octets.at);
     return well;
 }
@@ -839,13 +820,8 @@ static bool texts_differ(void) {
     return well;
 }
 
-static void judge_alone(const char *name, bool well) {
-    if (well) {
-        passed++;
-    } else {
-        failed++;
-        printf("%s\n", name);
-    }
+static void expect_alone(const char *name, bool well) {
+    if (!counted(well)) printf("%s\n", name);
 }
 
 int main(int count, char **words) {
@@ -856,25 +832,25 @@ int main(int count, char **words) {
         return 2;
     }
     rows = for_each_row(words[1], judge_row);
-    for (place = 0; place < CALLS; place++) judge_alone(calls[place].name, rows_of[place] > 0);
-    judge_alone("no octets by NULL", null_input());
-    judge_alone("no room by NULL", null_output());
-    judge_alone("no profile", no_profile());
-    judge_alone("the version", rpki_version() == RPKI_VERSION && RPKI_VERSION_NUMBER(1, 2, 3) == 0x010203);
-    judge_alone("100,001 levels", deep());
-    judge_alone("what calls allocate", takes_little());
-    judge_alone("object identifiers", identifiers());
-    judge_alone("texts of statuses", texts_differ());
-    judge_alone("refused allocations", refusals > 0);
-    judge_alone("parsed rsync URIs", parsed_rsync_uris());
-    judge_alone("parsed https URIs", parsed_https_uris());
-    judge_alone("other parts", other_parts());
-    judge_alone("what is written", written_values());
-    judge_alone("refused allocations of what is written", refused_writing());
-    judge_alone("digits", digits());
-    judge_alone("times and periods", times_and_periods());
-    judge_alone("extensions that are written", written_extensions());
-    judge_alone("sizes of what is written, and peaks", sizes());
-    printf("%u rows, %zu refused allocations: %u passed, %u failed\n", rows, refusals, passed, failed);
-    return failed ? 1 : 0;
+    for (place = 0; place < CALLS; place++) expect_alone(calls[place].name, rows_of[place] > 0);
+    expect_alone("no octets by NULL", null_input());
+    expect_alone("no room by NULL", null_output());
+    expect_alone("no profile", no_profile());
+    expect_alone("the version", rpki_version() == RPKI_VERSION && RPKI_VERSION_NUMBER(1, 2, 3) == 0x010203);
+    expect_alone("100,001 levels", deep());
+    expect_alone("what calls allocate", takes_little());
+    expect_alone("object identifiers", identifiers());
+    expect_alone("texts of statuses", texts_differ());
+    expect_alone("refused allocations", refusals > 0);
+    expect_alone("parsed rsync URIs", parsed_rsync_uris());
+    expect_alone("parsed https URIs", parsed_https_uris());
+    expect_alone("other parts", other_parts());
+    expect_alone("what is written", written_values());
+    expect_alone("refused allocations of what is written", refused_writing());
+    expect_alone("digits", digits());
+    expect_alone("times and periods", times_and_periods());
+    expect_alone("extensions that are written", written_extensions());
+    expect_alone("sizes of what is written, and peaks", sizes());
+    printf("%u rows, %zu refused allocations: ", rows, refusals);
+    return verdict();
 }

@@ -37,6 +37,11 @@ size_t allocations(bool *all_freed) {
     return asked;
 }
 
+bool took_none(void) {
+    bool all_freed;
+    return allocations(&all_freed) == 0;
+}
+
 size_t most_octets(void) { return most; }
 
 static bool is_refused(void) { return counting && asked++ == refused_at; }

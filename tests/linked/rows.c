@@ -36,19 +36,6 @@ void show_octets(struct shown *shown, const uint8_t *at, size_t size) {
     for (place = 0; place < size; place++) show(shown, "%02X", at[place]);
 }
 
-struct octets new_octets(const uint8_t *at, size_t size, uint8_t fill) {
-    struct octets made;
-    made.at = malloc(size ? size : 1);
-    made.size = size;
-    if (!made.at) stop("no memory", "octets");
-    if (at) {
-        memcpy(made.at, at, size);
-    } else {
-        memset(made.at, fill, size);
-    }
-    return made;
-}
-
 /* Octets that are put together, before they get memory of their own. */
 struct pile {
     size_t size;

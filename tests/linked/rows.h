@@ -2,15 +2,7 @@
 #ifndef ROWS_H
 #define ROWS_H
 
-#include <stdbool.h>
-#include <stddef.h>
-#include <stdint.h>
-
-/* Octets in memory of their own, so that a read past their end is seen. */
-struct octets {
-    uint8_t *at;
-    size_t size;
-};
+#include "octets.h"
 
 enum { MOST_COLUMNS = 16, MOST_TEXT = 1 << 16 };
 
@@ -29,9 +21,6 @@ struct shown {
 
 void show(struct shown *shown, const char *format, ...);
 void show_octets(struct shown *shown, const uint8_t *at, size_t size);
-
-/* Octets of `size` in memory of their own: those at `at`, or the octet `fill` where `at` is NULL. */
-struct octets new_octets(const uint8_t *at, size_t size, uint8_t fill);
 
 /* The octets that a column spells. */
 struct octets octets_of(const char *column);

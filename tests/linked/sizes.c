@@ -107,41 +107,6 @@ static struct octets key_bits(size_t modulus) {
 
 /* ---- A call, what it stores, and its peak ---- */
 
-struct given {
-    struct octets one, two;
-};
-
-static rpki_status signed_write(const void *of, uint8_t *out, size_t capacity, size_t *written) {
-    const struct given *given = of;
-    return rpki_signed_data_write(given->one.at, given->one.size, out, capacity, written);
-}
-
-static rpki_status signed_make(const void *of, uint8_t *out, size_t capacity, size_t *written) {
-    const struct given *given = of;
-    return rpki_signed_data_make(given->one.at, given->one.size, given->two.at, given->two.size, out, capacity,
-                                 written);
-}
-
-static rpki_status key_write(const void *of, uint8_t *out, size_t capacity, size_t *written) {
-    const struct given *given = of;
-    return rpki_public_key_write(given->one.at, given->one.size, out, capacity, written);
-}
-
-static rpki_status rsa_write(const void *of, uint8_t *out, size_t capacity, size_t *written) {
-    const struct given *given = of;
-    return rpki_rsa_key_write(given->one.at, given->one.size, given->two.at, given->two.size, out, capacity, written);
-}
-
-static rpki_status bits_write(const void *of, uint8_t *out, size_t capacity, size_t *written) {
-    const struct given *given = of;
-    return rpki_rsa_key_of_bits(given->one.at, given->one.size, out, capacity, written);
-}
-
-static rpki_status name_write(const void *of, uint8_t *out, size_t capacity, size_t *written) {
-    const struct given *given = of;
-    return rpki_name_of_key(given->one.at, given->one.size, out, capacity, written);
-}
-
 static rpki_status extension_write(const void *of, uint8_t *out, size_t capacity, size_t *written) {
     const struct given *given = of;
     return rpki_extension_write(given->two.at, given->two.size, true, given->one.at, given->one.size, out, capacity,
@@ -218,7 +183,7 @@ static const struct {
 
 /* Bits without their last octet are no key's, whatever their size, and where there is no memory too. */
 static bool bits_told(const struct octets *bits) {
-    uint8_t out[1] = {0x5A};
+    uint8_t out[1] = {FILL};
     size_t written = NOTHING;
     bool well = rpki_rsa_key_of_bits(bits->at, bits->size - 1, out, sizeof out, &written) == RPKI_TRUNCATED;
     count_allocations(0);
@@ -226,7 +191,7 @@ static bool bits_told(const struct octets *bits) {
     count_allocations(0);
     well = well && rpki_rsa_key_of_bits(bits->at, bits->size, out, sizeof out, &written) == RPKI_OUT_OF_MEMORY;
     count_allocations(NONE_REFUSED);
-    well = well && written == NOTHING && out[0] == 0x5A;
+    well = well && written == NOTHING && out[0] == FILL;
     if (!well) printf("rsa_key_of_bits of %zu octets that are no key's\n", bits->size - 1);
     return well;
 }
@@ -284,13 +249,13 @@ static bool extension(size_t size) {
 /* A text that isn't base 64, in each flavour: it is told as that, whatever its size, and where. */
 static bool base64_told(const struct octets *text) {
     static const uint8_t FLAVOURS[] = {RPKI_BASE64_XML, RPKI_BASE64_SERDE, RPKI_BASE64_SLURM};
-    uint8_t out[1] = {0x5A};
+    uint8_t out[1] = {FILL};
     size_t row;
     bool well = true;
     for (row = 0; row < LENGTH(FLAVOURS); row++) {
         size_t written = NOTHING, at = NOTHING;
         rpki_status status = rpki_base64_read(text->at, text->size, FLAVOURS[row], out, sizeof out, &written, &at);
-        well = well && status == RPKI_INVALID_SYMBOL && at == text->size - 1 && written == NOTHING && out[0] == 0x5A;
+        well = well && status == RPKI_INVALID_SYMBOL && at == text->size - 1 && written == NOTHING && out[0] == FILL;
     }
     if (!well) printf("base64_read of %zu octets that aren't base 64\n", text->size);
     return well;

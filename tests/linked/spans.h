@@ -1,4 +1,4 @@
-/* Spans as rows tell them: where they start, and their sizes. */
+/* Spans as rows tell them, where they start and their sizes, and octets by their digits. */
 #ifndef SPANS_H
 #define SPANS_H
 
@@ -18,6 +18,13 @@ static inline char *tell_span(char *text, const uint8_t *octets, size_t size, st
         return text + sprintf(text, " outside");
     }
     return text + sprintf(text, " %zu %zu", (size_t)(start - first), span.size);
+}
+
+/* Writes octets as hexadecimal digits, and returns where these end. */
+static inline char *tell_octets(char *text, const uint8_t *octets, size_t size) {
+    size_t number;
+    for (number = 0; number < size; number++) text += sprintf(text, "%02x", octets[number]);
+    return text;
 }
 
 /* Whether the words are those that are told, of which `*` is any word; what follows them, or NULL. */

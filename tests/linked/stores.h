@@ -30,4 +30,12 @@ bool stores(store *call, const void *of, const uint8_t *octets, size_t size);
 /* Whether a call returns this status and writes nothing. */
 bool refuses(store *call, const void *of, rpki_status status);
 
+/* Octets, or two of them, that a call takes. */
+struct given {
+    struct octets one, two;
+};
+
+/* Calls of rpki.h on these. */
+store signed_write, signed_make, key_write, rsa_write, bits_write, name_write;
+
 #endif

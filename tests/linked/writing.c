@@ -9,11 +9,6 @@
 
 #define LENGTH(table) (sizeof(table) / sizeof(table)[0])
 
-/* Octets, or two of them, that a call takes. */
-struct given {
-    struct octets one, two;
-};
-
 static rpki_status hex(const void *of, uint8_t *out, size_t capacity, size_t *written) {
     const struct given *given = of;
     return rpki_hex(given->one.at, given->one.size, out, capacity, written);
@@ -42,37 +37,6 @@ static rpki_status serial_write(const void *of, uint8_t *out, size_t capacity, s
 
 static rpki_status time_write(const void *of, uint8_t *out, size_t capacity, size_t *written) {
     return rpki_time_write(of, out, capacity, written);
-}
-
-static rpki_status signed_write(const void *of, uint8_t *out, size_t capacity, size_t *written) {
-    const struct given *given = of;
-    return rpki_signed_data_write(given->one.at, given->one.size, out, capacity, written);
-}
-
-static rpki_status signed_make(const void *of, uint8_t *out, size_t capacity, size_t *written) {
-    const struct given *given = of;
-    return rpki_signed_data_make(given->one.at, given->one.size, given->two.at, given->two.size, out, capacity,
-                                 written);
-}
-
-static rpki_status key_write(const void *of, uint8_t *out, size_t capacity, size_t *written) {
-    const struct given *given = of;
-    return rpki_public_key_write(given->one.at, given->one.size, out, capacity, written);
-}
-
-static rpki_status rsa_write(const void *of, uint8_t *out, size_t capacity, size_t *written) {
-    const struct given *given = of;
-    return rpki_rsa_key_write(given->one.at, given->one.size, given->two.at, given->two.size, out, capacity, written);
-}
-
-static rpki_status bits_write(const void *of, uint8_t *out, size_t capacity, size_t *written) {
-    const struct given *given = of;
-    return rpki_rsa_key_of_bits(given->one.at, given->one.size, out, capacity, written);
-}
-
-static rpki_status name_write(const void *of, uint8_t *out, size_t capacity, size_t *written) {
-    const struct given *given = of;
-    return rpki_name_of_key(given->one.at, given->one.size, out, capacity, written);
 }
 
 /* A key of RSA whose bits are `abc`, with NULL and without; the algorithm identifier is rsaEncryption. */
@@ -272,12 +236,12 @@ static bool row_without_memory(size_t row) {
     struct given given;
     uint8_t out[512];
     bool well = true, all_freed;
-    size_t refused, asked = 1, written, place;
+    size_t refused, asked = 1, written;
     given.one = octets_of(ROWS[row].one);
     given.two = octets_of(ROWS[row].two);
     for (refused = 0; refused < asked; refused++) {
         rpki_status status;
-        memset(out, 0x5A, sizeof out);
+        memset(out, FILL, sizeof out);
         written = NOTHING;
         count_allocations(refused);
         status = ROWS[row].call(&given, out, sizeof out, &written);
@@ -285,7 +249,7 @@ static bool row_without_memory(size_t row) {
         well = well && !(takes_none(row, &given) && asked > 0);
         if (refused < asked && !is_told(row, status)) {
             well = well && all_freed && status == RPKI_OUT_OF_MEMORY && written == NOTHING;
-            for (place = 0; place < sizeof out; place++) well = well && out[place] == 0x5A;
+            well = well && untouched(out, sizeof out);
         } else {
             well = well && all_freed && status == ROWS[row].status;
         }

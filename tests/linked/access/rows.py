@@ -15,6 +15,7 @@ HERE = os.path.dirname(os.path.abspath(__file__))
 sys.path[:0] = [os.path.join(HERE, "..", "resources"), os.path.join(HERE, "..", "..", "hostile")]
 
 import leftmost
+from changes import changed
 from der import sequence, tlv
 from leftmost import CONTENT, TRUNCATED, Octets, need
 
@@ -208,21 +209,6 @@ NO_POINTS = [
     tlv(0x31, sequence(tlv(0xA0, tlv(0xA0, uri(b"a"))))), sequence(tlv(0x31, tlv(0xA0, tlv(0xA0, uri(b"a"))))),
     full(uri(b"a"))[:-1], b"\x30\x80", sequence(b"\x30\x05\xa0\x01"),
 ]
-
-
-def changed(octets, source):
-    """The octets with one to three of them changed, left out or doubled."""
-    octets = bytearray(octets)
-    for _ in range(source.randint(1, 3)):
-        at = source.randrange(len(octets))
-        way = source.randrange(8)
-        if way == 0 and len(octets) > 1:
-            del octets[at]
-        elif way == 1:
-            octets.insert(at, octets[at])
-        else:
-            octets[at] = source.choice([octets[at] ^ 1 << source.randrange(8), source.randrange(256)])
-    return bytes(octets)
 
 
 def main():

@@ -6,8 +6,10 @@
  *
  * usage: certificate ROWS
  */
+#include "../certificates.h"
+#include "../judging.h"
 #include "../memory.h"
-#include "../spans.h"
+#include "../octets.h"
 
 #include <stdio.h>
 #include <stdlib.h>
@@ -15,27 +17,7 @@
 
 #include "rpki.h"
 
-enum { FILL = 0x5A, MOST_OCTETS = 1 << 16, LINE = 4 * MOST_OCTETS };
-
-static unsigned passed = 0, failed = 0;
-
-static void judge(unsigned line, const char *what, bool well) {
-    if (well) {
-        passed++;
-        return;
-    }
-    failed++;
-    printf("line %u: %s\n", line, what);
-}
-
-static bool untouched(const void *out, size_t size) {
-    const unsigned char *octets = out;
-    size_t at;
-    for (at = 0; at < size; at++) {
-        if (octets[at] != FILL) return false;
-    }
-    return true;
-}
+enum { MOST_OCTETS = 1 << 16 };
 
 /* What either call writes. */
 union found {
@@ -43,16 +25,12 @@ union found {
     struct rpki_known_extensions extensions;
 };
 
-/* A copy of exactly these octets, so that a read beyond them is seen by a sanitizer; it lasts until the next one. */
-static uint8_t *copy = NULL;
-static size_t copied;
+/* A copy of the octets of a call, which lasts until the next one. */
+static struct octets copy = {NULL, 0};
 
 static void copy_exactly(const uint8_t *octets, size_t size) {
-    free(copy);
-    copy = malloc(size ? size : 1);
-    if (!copy) exit(2);
-    memcpy(copy, octets, size);
-    copied = size;
+    free(copy.at);
+    copy = new_octets(octets, size, 0);
 }
 
 /* Makes a call on a copy of the octets. */
@@ -61,71 +39,23 @@ static rpki_status made(bool extensions, const uint8_t *octets, size_t size, uni
     copy_exactly(octets, size);
     memset(out, FILL, sizeof *out);
     count_allocations(0);
-    status = extensions ? rpki_certificate_extensions(copy, size, &out->extensions)
-                        : rpki_certificate(copy, size, &out->parts);
-    *clean = allocations(clean) == 0;
-    count_allocations(NONE_REFUSED);
+    status = extensions ? rpki_certificate_extensions(copy.at, size, &out->extensions)
+                        : rpki_certificate(copy.at, size, &out->parts);
+    *clean = took_none();
     if (status != RPKI_OK) *clean = *clean && untouched(out, sizeof *out);
     return status;
 }
 
-static size_t hexadecimal(const char *digits, uint8_t *octets) {
-    size_t size = 0;
-    unsigned octet;
-    for (; sscanf(digits, "%2x", &octet) == 1 && digits[0] > ' ' && digits[1] > ' '; digits += 2) {
-        octets[size++] = (uint8_t)octet;
-    }
-    return size;
-}
-
-static char *tell_octets(const uint8_t *octets, char *text) {
-    size_t number;
-    for (number = 0; number < 20; number++) text += sprintf(text, "%02x", octets[number]);
-    return text;
-}
-
-/* What rpki_certificate found, in the words of the row. */
-static void tell(const struct rpki_certificate_parts *found, char *text) {
-    const struct rpki_span *spans[7];
-    size_t number;
-    spans[0] = &found->data, spans[1] = &found->algorithm, spans[2] = &found->signature;
-    spans[3] = &found->issuer, spans[4] = &found->subject, spans[5] = &found->public_key;
-    spans[6] = &found->extensions;
-    for (number = 0; number < 7; number++) text = tell_span(text, copy, copied, *spans[number]);
-    *text++ = ' ';
-    text = tell_octets(found->serial_number, text);
-    sprintf(text, " %u %u %u", found->key_format, found->key_unused, found->has_parameters);
-}
-
-/* What rpki_certificate_extensions found. The extensions are the first members of the struct. */
-static void tell_extensions(const struct rpki_known_extensions *found, char *text) {
-    struct rpki_known_extension known[13];
-    const struct rpki_known_extension *each;
-    memcpy(known, found, sizeof known);
-    for (each = known; each < known + 13; each++) {
-        text += sprintf(text, " %d %d", each->is_there, each->critical);
-        text = tell_span(text, copy, copied, each->octets);
-    }
-    *text++ = ' ';
-    text = tell_octets(found->subject_key, text);
-    *text++ = ' ';
-    text = tell_octets(found->authority_key, text);
-    sprintf(text, " %d %u %u", found->is_ca, found->usage, found->policy);
-}
-
 /* Asks what is wrong with a copy of exactly these octets, where no allocation succeeds. Status 0 writes nothing. */
 static bool is_wrong(const uint8_t *octets, size_t size, unsigned wanted, unsigned error) {
-    uint8_t *other = malloc(size + 1);
+    struct octets other = new_octets(octets, size, 0);
     rpki_status status, written;
     bool clean;
-    if (!other) exit(2);
-    memcpy(other, octets, size);
     memset(&written, FILL, sizeof written);
     count_allocations(0);
-    status = rpki_certificate_error(other, size, &written);
-    clean = allocations(&clean) == 0;
-    count_allocations(NONE_REFUSED);
-    free(other);
+    status = rpki_certificate_error(other.at, size, &written);
+    clean = took_none();
+    free(other.at);
     if (status == RPKI_OK) return clean && wanted == RPKI_OK && untouched(&written, sizeof written);
     if (written != error) printf("error %u, not %u\n", written, error);
     return clean && status == wanted && written == error;
@@ -145,7 +75,6 @@ static void beginnings(unsigned line, bool extensions, uint8_t *octets, size_t s
     judge(line, "an octet more", well && is_wrong(octets, size + 1, RPKI_PART_CERTIFICATE, RPKI_TRAILING));
 }
 
-/* Makes one of the calls, of which the words are a status and what is found. */
 /*
  * One extension at a time: each where rpki_certificate_extensions has it, and where one of those is wrong, a status of
  * rpki_certificate all the same. Beyond the last there is none.
@@ -155,7 +84,7 @@ static void alone(unsigned line, const uint8_t *octets, size_t size) {
     struct rpki_known_extension known[13], one;
     rpki_status of_all = rpki_certificate_extensions(octets, size, &all), wanted;
     unsigned number;
-    bool clean, well = true;
+    bool well = true;
     wanted = of_all >= RPKI_WRONG_BASIC_CONSTRAINTS && of_all <= RPKI_WRONG_CERTIFICATE_POLICIES ? RPKI_OK : of_all;
     memcpy(known, &all, sizeof known);
     count_allocations(0);
@@ -171,11 +100,11 @@ static void alone(unsigned line, const uint8_t *octets, size_t size) {
                    (one.octets.size == 0 || one.octets.data == known[number].octets.data);
         }
     }
-    judge(line, "one extension allocates", allocations(&clean) == 0);
-    count_allocations(NONE_REFUSED);
+    judge(line, "one extension allocates", took_none());
     judge(line, "one extension at a time", well);
 }
 
+/* Makes one of the calls, of which the words are a status and what is found. */
 static void compare(unsigned line, bool extensions, uint8_t *octets, size_t size, const char *words) {
     static char told[1024];
     union found out;
@@ -183,8 +112,7 @@ static void compare(unsigned line, bool extensions, uint8_t *octets, size_t size
     bool clean;
     rpki_status status = made(extensions, octets, size, &out, &clean);
     judge(line, "allocates, or writes what it refuses", clean);
-    if (status != wanted) printf("status %u, not %u\n", status, wanted);
-    judge(line, "the status", status == wanted);
+    judge_status(line, "the status", status, wanted);
     if (extensions) {
         alone(line, octets, size);
     } else {
@@ -192,12 +120,11 @@ static void compare(unsigned line, bool extensions, uint8_t *octets, size_t size
     }
     if (wanted != RPKI_OK || status != RPKI_OK) return;
     if (extensions) {
-        tell_extensions(&out.extensions, told);
+        tell_extensions(told, copy.at, copy.size, &out.extensions);
     } else {
-        tell(&out.parts, told);
+        tell_certificate(told, copy.at, copy.size, &out.parts);
     }
-    if (!is_told(told, words)) printf("%s\nnot %s\n", told, words);
-    judge(line, extensions ? "the extensions" : "the parts", is_told(told, words));
+    judge_words(line, extensions ? "the extensions" : "the parts", told, words);
     if (line == 1) beginnings(line, extensions, octets, size);
 }
 
@@ -206,9 +133,8 @@ static rpki_status inspected(const uint8_t *octets, size_t size, unsigned profil
     rpki_status status;
     copy_exactly(octets, size);
     count_allocations(0);
-    status = rpki_certificate_inspect(copy, size, (uint8_t)profile, strict);
-    *clean = allocations(clean) == 0;
-    count_allocations(NONE_REFUSED);
+    status = rpki_certificate_inspect(copy.at, size, (uint8_t)profile, strict);
+    *clean = took_none();
     return status;
 }
 
@@ -220,9 +146,8 @@ static rpki_status checked(const uint8_t *octets, size_t size, unsigned profile,
     memset(parts, FILL, sizeof *parts);
     memset(extensions, FILL, sizeof *extensions);
     count_allocations(0);
-    status = rpki_certificate_checked(copy, size, (uint8_t)profile, strict, &parts->parts, &extensions->extensions);
-    *clean = allocations(clean) == 0;
-    count_allocations(NONE_REFUSED);
+    status = rpki_certificate_checked(copy.at, size, (uint8_t)profile, strict, &parts->parts, &extensions->extensions);
+    *clean = took_none();
     if (status != RPKI_OK) {
         *clean = *clean && untouched(parts, sizeof *parts) && untouched(extensions, sizeof *extensions);
     }
@@ -262,9 +187,9 @@ static void check(unsigned line, const uint8_t *octets, size_t size, const char 
         if (status != wanted) printf("profile %u: status %u, not %u\n", profile, status, wanted);
         judge(line, "a check", status == wanted && clean);
         if (wanted != RPKI_OK || status != RPKI_OK) continue;
-        tell(&parts.parts, told);
+        tell_certificate(told, copy.at, copy.size, &parts.parts);
         judge(line, "the parts of a check", is_told(told, strchr(words, ' ')));
-        tell_extensions(&extensions.extensions, told);
+        tell_extensions(told, copy.at, copy.size, &extensions.extensions);
         judge(line, "the extensions of a check", is_told(told, strchr(known, ' ')));
     }
 }
@@ -272,7 +197,7 @@ static void check(unsigned line, const uint8_t *octets, size_t size, const char 
 static void row(unsigned line, char *text) {
     static uint8_t octets[MOST_OCTETS];
     char *bar = strstr(text, " | "), *second = bar ? strstr(bar + 3, " | ") : NULL;
-    size_t size = hexadecimal(text, octets);
+    size_t size = hexadecimal(text, octets, MOST_OCTETS - 1);
     if (!second) exit(2);
     *bar = *second = 0;
     compare(line, false, octets, size, strchr(text, ' ') + 1);
@@ -281,16 +206,4 @@ static void row(unsigned line, char *text) {
     check(line, octets, size, strchr(text, ' ') + 1, bar + 3, second + 3);
 }
 
-int main(int count, char **words) {
-    static char text[LINE];
-    unsigned line = 0;
-    FILE *file = count == 2 ? fopen(words[1], "r") : NULL;
-    if (!file) return 2;
-    while (fgets(text, sizeof text, file)) {
-        text[strcspn(text, "\n")] = 0;
-        row(++line, text);
-    }
-    fclose(file);
-    printf("%u passed, %u failed\n", passed, failed);
-    return failed || line == 0;
-}
+int main(int count, char **words) { return judge_rows(count, words, row); }

@@ -6,7 +6,9 @@
  *
  * usage: contents ROWS
  */
+#include "../judging.h"
 #include "../memory.h"
+#include "../octets.h"
 #include "../spans.h"
 
 #include <stdio.h>
@@ -15,49 +17,15 @@
 
 #include "rpki.h"
 
-enum { FILL = 0x5A, MOST_OCTETS = 1 << 16, LINE = 1 << 18 };
-
-/* What is read, in memory of exactly its size, so that a read beyond it is seen by a sanitizer. */
-struct input {
-    uint8_t *octets;
-    size_t size;
-};
+enum { MOST_TOLD = 1 << 18 };
 
 /* The words of what was found. */
 struct told {
-    char text[LINE];
+    char text[MOST_TOLD];
     size_t size;
 };
 
-static unsigned passed = 0, failed = 0;
 static bool clean;
-
-static void judge(unsigned line, const char *what, bool well) {
-    if (well) {
-        passed++;
-        return;
-    }
-    failed++;
-    printf("line %u: %s\n", line, what);
-}
-
-static bool untouched(const void *out, size_t size) {
-    const unsigned char *octets = out;
-    size_t at;
-    for (at = 0; at < size; at++) {
-        if (octets[at] != FILL) return false;
-    }
-    return true;
-}
-
-static size_t hexadecimal(const char *digits, uint8_t *octets) {
-    size_t size = 0;
-    unsigned octet;
-    for (; sscanf(digits, "%2x", &octet) == 1 && digits[0] > ' ' && digits[1] > ' '; digits += 2) {
-        octets[size++] = (uint8_t)octet;
-    }
-    return size;
-}
 
 static void begin(void *out, size_t size) {
     memset(out, FILL, size);
@@ -66,9 +34,7 @@ static void begin(void *out, size_t size) {
 
 /* What follows each call: whether it kept `out`, and allocated nothing. */
 static rpki_status end(rpki_status status, const void *out, size_t size) {
-    bool none;
-    clean = clean && allocations(&none) == 0;
-    count_allocations(NONE_REFUSED);
+    clean = took_none() && clean;
     clean = clean && (status == RPKI_OK || untouched(out, size));
     return status;
 }
@@ -81,12 +47,9 @@ static void tell_signed(struct told *told, long long number) {
     told->size += (size_t)sprintf(told->text + told->size, " %lld", number);
 }
 
-static void tell_octets(struct told *told, const uint8_t *octets, size_t size) {
-    size_t number;
+static void tell_digits(struct told *told, const uint8_t *octets, size_t size) {
     told->text[told->size++] = ' ';
-    for (number = 0; number < size; number++) {
-        told->size += (size_t)sprintf(told->text + told->size, "%02x", octets[number]);
-    }
+    told->size = (size_t)(tell_octets(told->text + told->size, octets, size) - told->text);
 }
 
 static void tell_part(struct told *told, const uint8_t *octets, size_t size, struct rpki_span part) {
@@ -117,7 +80,7 @@ static rpki_status take_file(struct rpki_span *rest, struct told *told) {
     if (status != RPKI_OK) return status;
     tell_part(told, before.data, size, out.name);
     tell(told, size);
-    tell_octets(told, out.digest, sizeof out.digest);
+    tell_digits(told, out.digest, sizeof out.digest);
     return status;
 }
 
@@ -130,7 +93,7 @@ static rpki_status take_address(struct rpki_span *rest, uint8_t family, struct t
     status = end(rpki_roa_address(rest, family, &out), &out, sizeof out);
     size = taken(before, *rest, status);
     if (status != RPKI_OK) return status;
-    tell_octets(told, out.address, sizeof out.address);
+    tell_digits(told, out.address, sizeof out.address);
     tell(told, out.length);
     tell(told, out.max_length);
     tell(told, out.has_max_length);
@@ -170,39 +133,39 @@ static bool entries(struct rpki_span rest, size_t count, take *call, struct told
 
 /* ---- Contents ---- */
 
-static bool manifest(const struct input *input, rpki_status *status, struct told *told) {
+static bool manifest(const struct octets *input, rpki_status *status, struct told *told) {
     struct rpki_manifest_parts out;
     begin(&out, sizeof out);
-    *status = end(rpki_manifest(input->octets, input->size, &out), &out, sizeof out);
+    *status = end(rpki_manifest(input->at, input->size, &out), &out, sizeof out);
     if (*status != RPKI_OK) return true;
-    tell_part(told, input->octets, input->size, out.files);
+    tell_part(told, input->at, input->size, out.files);
     tell(told, out.count);
     tell_signed(told, out.this_update.seconds);
     tell_signed(told, out.next_update.seconds);
-    tell_octets(told, out.manifest_number, sizeof out.manifest_number);
+    tell_digits(told, out.manifest_number, sizeof out.manifest_number);
     return entries(out.files, out.count, take_file, told);
 }
 
-static bool roa(const struct input *input, bool strict, rpki_status *status, struct told *told) {
+static bool roa(const struct octets *input, bool strict, rpki_status *status, struct told *told) {
     struct rpki_roa_parts out;
     begin(&out, sizeof out);
-    *status = end(rpki_roa(input->octets, input->size, strict, &out), &out, sizeof out);
+    *status = end(rpki_roa(input->at, input->size, strict, &out), &out, sizeof out);
     if (*status != RPKI_OK) return true;
     tell(told, out.as_id);
-    tell_part(told, input->octets, input->size, out.v4);
+    tell_part(told, input->at, input->size, out.v4);
     tell(told, out.v4_count);
-    tell_part(told, input->octets, input->size, out.v6);
+    tell_part(told, input->at, input->size, out.v6);
     tell(told, out.v6_count);
     return entries(out.v4, out.v4_count, take_address_4, told) && entries(out.v6, out.v6_count, take_address_6, told);
 }
 
-static bool aspa(const struct input *input, rpki_status *status, struct told *told) {
+static bool aspa(const struct octets *input, rpki_status *status, struct told *told) {
     struct rpki_aspa_parts out;
     begin(&out, sizeof out);
-    *status = end(rpki_aspa(input->octets, input->size, &out), &out, sizeof out);
+    *status = end(rpki_aspa(input->at, input->size, &out), &out, sizeof out);
     if (*status != RPKI_OK) return true;
     tell(told, out.customer);
-    tell_part(told, input->octets, input->size, out.providers);
+    tell_part(told, input->at, input->size, out.providers);
     tell(told, out.count);
     return entries(out.providers, out.count, take_provider, told);
 }
@@ -210,16 +173,15 @@ static bool aspa(const struct input *input, rpki_status *status, struct told *to
 /* ---- Names ---- */
 
 /* The call with room for so many spans, in memory of exactly that size; whatever `out` is before. */
-static rpki_status compare_names(const struct input *input, size_t capacity, bool *differ) {
+static rpki_status compare_names(const struct octets *input, size_t capacity, bool *differ) {
     struct rpki_span *room = capacity ? calloc(capacity, sizeof *room) : NULL;
     rpki_status status, again;
-    bool none, one = false, other = true;
+    bool one = false, other = true;
     if (capacity && !room) exit(2);
     count_allocations(0);
-    status = rpki_manifest_names(input->octets, input->size, room, capacity, &one);
-    again = rpki_manifest_names(input->octets, input->size, room, capacity, &other);
-    clean = clean && allocations(&none) == 0;
-    count_allocations(NONE_REFUSED);
+    status = rpki_manifest_names(input->at, input->size, room, capacity, &one);
+    again = rpki_manifest_names(input->at, input->size, room, capacity, &other);
+    clean = took_none() && clean;
     clean = clean && status == again && (status == RPKI_OK ? one == other : !one && other);
     free(room);
     *differ = one;
@@ -227,7 +189,7 @@ static rpki_status compare_names(const struct input *input, size_t capacity, boo
 }
 
 /* The count is the least capacity that is enough; a greater one is enough too. */
-static bool names(const struct input *input, rpki_status *status, struct told *told) {
+static bool names(const struct octets *input, rpki_status *status, struct told *told) {
     size_t count = 0;
     bool differ, greater;
     while ((*status = compare_names(input, count, &differ)) == RPKI_TOO_SMALL) count++;
@@ -238,24 +200,24 @@ static bool names(const struct input *input, rpki_status *status, struct told *t
 }
 
 /* Other numbers name no family, whatever the octets are. */
-static void other_families(unsigned line, const struct input *input) {
+static void other_families(unsigned line, const struct octets *input) {
     struct rpki_roa_address_parts out;
     struct rpki_span rest;
     unsigned family;
     bool well = true;
     for (family = 0; family < 256; family++) {
         if (family == RPKI_IPV4 || family == RPKI_IPV6) continue;
-        rest.data = input->octets;
+        rest.data = input->at;
         rest.size = input->size;
         begin(&out, sizeof out);
         well = end(rpki_roa_address(&rest, (uint8_t)family, &out), &out, sizeof out) == RPKI_CONTENT && well;
-        well = well && rest.data == input->octets && rest.size == input->size;
+        well = well && rest.data == input->at && rest.size == input->size;
     }
     judge(line, "other families", well);
 }
 
-static bool call(const char *word, const struct input *input, rpki_status *status, struct told *told) {
-    struct rpki_span rest = {input->octets, input->size};
+static bool call(const char *word, const struct octets *input, rpki_status *status, struct told *told) {
+    struct rpki_span rest = {input->at, input->size};
     if (!strcmp(word, "manifest")) return manifest(input, status, told);
     if (!strcmp(word, "roa0")) return roa(input, false, status, told);
     if (!strcmp(word, "roa1")) return roa(input, true, status, told);
@@ -270,17 +232,12 @@ static bool call(const char *word, const struct input *input, rpki_status *statu
 
 /* A row is a word, octets, and the words of what is found, from the status on. */
 static void row(unsigned line, char *text) {
-    static uint8_t octets[MOST_OCTETS];
     static struct told told;
-    struct input input;
     char *digits = strchr(text, ' ') + 1, *words = strchr(digits, ' ');
+    struct octets input = octets_spelt(digits);
     rpki_status status = 255;
     bool well;
     digits[-1] = 0;
-    input.size = *digits == '-' ? 0 : hexadecimal(digits, octets);
-    input.octets = malloc(input.size ? input.size : 1);
-    if (!input.octets) exit(2);
-    memcpy(input.octets, octets, input.size);
     clean = true;
     told.size = 0;
     told.text[0] = 0;
@@ -290,19 +247,7 @@ static void row(unsigned line, char *text) {
     judge(line, "the entries", well);
     judge(line, "what is found", status != RPKI_OK || is_told(told.text, words));
     if (!strcmp(text, "address4")) other_families(line, &input);
-    free(input.octets);
+    free(input.at);
 }
 
-int main(int count, char **words) {
-    static char text[LINE];
-    unsigned line = 0;
-    FILE *file = count == 2 ? fopen(words[1], "r") : NULL;
-    if (!file) return 2;
-    while (fgets(text, sizeof text, file)) {
-        text[strcspn(text, "\n")] = 0;
-        row(++line, text);
-    }
-    fclose(file);
-    printf("%u passed, %u failed\n", passed, failed);
-    return failed || line == 0;
-}
+int main(int count, char **words) { return judge_rows(count, words, row); }

@@ -25,21 +25,14 @@ HERE = os.path.dirname(os.path.abspath(__file__))
 sys.path[:0] = [os.path.join(HERE, "..", "resources"), os.path.join(HERE, "..", "..", "hostile")]
 
 import leftmost
+from changes import changed
 from der import bits, sequence, tlv, unsigned
+from values import Wrong, need
 
 (MANIFEST, NUMBER, THIS_UPDATE, NEXT_UPDATE, HASH_ALGORITHM, FILE_LIST, ORDER, ROA, AS_ID, BLOCKS, ASPA, VERSION,
  CUSTOMER, PROVIDERS) = range(138, 152)
 SHA256 = bytes.fromhex("608648016503040201")
 CYCLE = 146097 * 86400  # 400 years
-
-
-class Wrong(Exception):
-    """The malformed part."""
-
-
-def need(holds, part):
-    if not holds:
-        raise Wrong(part)
 
 
 def whole(octets):
@@ -418,21 +411,6 @@ def of_openssl(kind):
         subprocess.run(["openssl", "asn1parse", "-genconf", source, "-noout", "-out", made], check=True)
         with open(made, "rb") as read:
             return read.read()
-
-
-def changed(octets, source):
-    """The octets with one to three of them changed, left out or doubled."""
-    octets = bytearray(octets)
-    for _ in range(source.randint(1, 3)):
-        at = source.randrange(len(octets))
-        way = source.randrange(8)
-        if way == 0:
-            del octets[at]
-        elif way == 1:
-            octets.insert(at, octets[at])
-        else:
-            octets[at] = source.choice([octets[at] ^ 1 << source.randrange(8), source.randrange(256)])
-    return bytes(octets)
 
 
 def variants(octets, source, count):

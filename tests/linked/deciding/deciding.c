@@ -5,7 +5,9 @@
  *
  * usage: deciding ROWS
  */
+#include "../judging.h"
 #include "../memory.h"
+#include "../octets.h"
 
 #include <stdio.h>
 #include <stdlib.h>
@@ -13,22 +15,14 @@
 
 #include "rpki.h"
 
-enum { FILL = 0x5A, LINE = 1 << 19, MOST_BLOCKS = 16, UNWRITTEN = 77 };
+enum { MOST_BLOCKS = 16, UNWRITTEN = 77 };
 
-static unsigned passed = 0, failed = 0, line = 0;
-
-static void judge(const char *what, bool well) {
-    if (well) {
-        passed++;
-        return;
-    }
-    failed++;
-    printf("line %u: %s\n", line, what);
-}
+/* The row's. */
+static unsigned line;
 
 /* The next word of the row, or NULL. */
 static char *next_word(char **rest) {
-    char *word = *rest + strspn(*rest, " \n"), *end = word + strcspn(word, " \n");
+    char *word = *rest + strspn(*rest, " "), *end = word + strcspn(word, " ");
     if (*word == 0) return NULL;
     *rest = *end ? end + 1 : end;
     *end = 0;
@@ -37,37 +31,19 @@ static char *next_word(char **rest) {
 
 static long long next_number(char **rest) { return strtoll(next_word(rest), NULL, 10); }
 
-/* The octets of hexadecimal digits, in memory of exactly these, so that a read beyond them is seen by a sanitizer. */
-static uint8_t *octets_of(const char *digits, size_t *size) {
-    size_t at;
-    uint8_t *octets;
-    *size = digits[0] == '-' ? 0 : strlen(digits) / 2;
-    octets = malloc(*size ? *size : 1);
-    if (!octets) exit(2);
-    for (at = 0; at < *size; at++) {
-        unsigned octet = 0;
-        if (sscanf(digits + 2 * at, "%2x", &octet) != 1) exit(2);
-        octets[at] = (uint8_t)octet;
-    }
-    return octets;
-}
-
 static size_t ip_blocks_of(char **rest, struct rpki_ip_block *blocks) {
     size_t count = 0;
     char *word;
     memset(blocks, 0, MOST_BLOCKS * sizeof *blocks);
     while ((word = next_word(rest)) != NULL && *word != '/') {
         struct rpki_ip_block *block = &blocks[count++];
-        size_t size = (strlen(word) - 3) / 4, at;
+        size_t size = (strlen(word) - 3) / 4, read;
         block->family = (uint8_t)(word[0] - '0');
         block->is_inherited = word[2] == 'i';
-        for (at = 0; !block->is_inherited && at < size; at++) {
-            unsigned low = 0, high = 0;
-            if (sscanf(word + 2 + 2 * at, "%2x", &low) + sscanf(word + 3 + 2 * size + 2 * at, "%2x", &high) != 2)
-                exit(2);
-            block->low[at] = (uint8_t)low;
-            block->high[at] = (uint8_t)high;
-        }
+        if (block->is_inherited) continue;
+        read = hexadecimal(word + 2, block->low, sizeof block->low);
+        read += hexadecimal(word + 3 + 2 * size, block->high, sizeof block->high);
+        if (read != 2 * size) exit(2);
     }
     return count;
 }
@@ -86,15 +62,6 @@ static size_t as_blocks_of(char **rest, struct rpki_as_block *blocks) {
     return count;
 }
 
-static bool filled(const void *out, size_t size) {
-    const unsigned char *octets = out;
-    size_t at;
-    for (at = 0; at < size; at++) {
-        if (octets[at] != FILL) return false;
-    }
-    return true;
-}
-
 static bool is_same_ip(const struct rpki_ip_block *one, const struct rpki_ip_block *other) {
     return one->family == other->family && one->is_inherited == other->is_inherited &&
            !memcmp(one->low, other->low, 16) && !memcmp(one->high, other->high, 16);
@@ -107,8 +74,8 @@ static bool is_same_as(const struct rpki_as_block *one, const struct rpki_as_blo
 /* What is asked of a row, by its first word. */
 struct question {
     char kind;
-    uint8_t *octets, *others;
-    size_t size, other_size, count;
+    struct octets octets, others;
+    size_t count;
     bool strict;
     struct rpki_ip_block ip[MOST_BLOCKS];
     struct rpki_as_block as[MOST_BLOCKS];
@@ -128,17 +95,18 @@ static void ask(const struct question *q, size_t capacity, struct answer *out) {
     out->count = UNWRITTEN;
     switch (q->kind) {
         case 'i':
-            out->status = rpki_ip_settle(q->octets, q->size, q->ip, q->count, out->ip, capacity, &out->count);
+            out->status = rpki_ip_settle(q->octets.at, q->octets.size, q->ip, q->count, out->ip, capacity, &out->count);
             break;
         case 'a':
-            out->status = rpki_as_settle(q->octets, q->size, q->as, q->count, out->as, capacity, &out->count);
+            out->status = rpki_as_settle(q->octets.at, q->octets.size, q->as, q->count, out->as, capacity, &out->count);
             break;
-        default: out->status = rpki_roa_is_within(q->octets, q->size, q->strict, q->ip, q->count); break;
+        default: out->status = rpki_roa_is_within(q->octets.at, q->octets.size, q->strict, q->ip, q->count); break;
     }
 }
 
 static bool is_unwritten(const struct answer *answer) {
-    return answer->count == UNWRITTEN && filled(answer->ip, sizeof answer->ip) && filled(answer->as, sizeof answer->as);
+    return answer->count == UNWRITTEN && untouched(answer->ip, sizeof answer->ip) &&
+           untouched(answer->as, sizeof answer->as);
 }
 
 /* Refuses each allocation of the call in turn: then allocation fails, nothing is written, and all is freed. */
@@ -154,7 +122,7 @@ static void refuse_each(const struct question *q, size_t capacity, size_t many) 
         well = well && freed;
     }
     count_allocations(NONE_REFUSED);
-    judge("an allocation that is refused", well);
+    judge(line, "an allocation that is refused", well);
 }
 
 /* A call that may take memory, and what it has to answer. */
@@ -167,22 +135,22 @@ static void ask_well(const struct question *q, size_t capacity, rpki_status stat
     count_allocations(NONE_REFUSED);
     ask(q, capacity, &answer);
     many = allocations(&freed);
-    judge("the status", answer.status == status);
-    judge("what was allocated is freed", freed);
-    judge("the memory that is promised", most_octets() <= 192 * (q->count + MOST_BLOCKS) + 1024);
+    judge(line, "the status", answer.status == status);
+    judge(line, "what was allocated is freed", freed);
+    judge(line, "the memory that is promised", most_octets() <= 192 * (q->count + MOST_BLOCKS) + 1024);
     if (q->kind == 'r') {
         refuse_each(q, capacity, many);
         return;
     }
-    judge("the count", answer.count == count);
+    judge(line, "the count", answer.count == count);
     wanted = q->kind == 'i' ? ip_blocks_of(rest, ip) : as_blocks_of(rest, as);
     well = wanted == (status == RPKI_OK ? count : 0);
     for (at = 0; at < wanted; at++) {
         well = well && (q->kind == 'i' ? is_same_ip(&ip[at], &answer.ip[at]) : is_same_as(&as[at], &answer.as[at]));
     }
-    if (q->kind == 'i') well = well && filled(answer.ip + wanted, sizeof answer.ip - wanted * sizeof *answer.ip);
-    if (q->kind == 'a') well = well && filled(answer.as + wanted, sizeof answer.as - wanted * sizeof *answer.as);
-    judge("the blocks", well);
+    if (q->kind == 'i') well = well && untouched(answer.ip + wanted, sizeof answer.ip - wanted * sizeof *answer.ip);
+    if (q->kind == 'a') well = well && untouched(answer.as + wanted, sizeof answer.as - wanted * sizeof *answer.as);
+    judge(line, "the blocks", well);
     refuse_each(q, capacity, many);
 }
 
@@ -199,53 +167,54 @@ static void ask_for_moment(long long seconds, char *rest) {
     struct rpki_moment moment;
     rpki_status status = (rpki_status)next_number(&rest);
     memset(&moment, FILL, sizeof moment);
-    judge("the status", rpki_time_of_seconds(seconds, &moment) == status);
+    judge(line, "the status", rpki_time_of_seconds(seconds, &moment) == status);
     if (status != RPKI_OK) {
-        judge("the moment", filled(&moment, sizeof moment));
+        judge(line, "the moment", untouched(&moment, sizeof moment));
         return;
     }
-    judge("the seconds", moment.seconds == seconds);
-    judge("the date",
+    judge(line, "the seconds", moment.seconds == seconds);
+    judge(line, "the date",
           moment.year == next_number(&rest) && moment.month == next_number(&rest) && moment.day == next_number(&rest));
-    judge("the time", moment.hour == next_number(&rest) && moment.minute == next_number(&rest) &&
-                          moment.second == next_number(&rest));
+    judge(line, "the time",
+          moment.hour == next_number(&rest) && moment.minute == next_number(&rest) &&
+              moment.second == next_number(&rest));
 }
 
 static rpki_status ask_of_list(const struct question *q, long long seconds) {
     struct rpki_moment moment = {0, 0, 13, 1, 0, 0, 0};
     if (rpki_time_of_seconds(seconds, &moment) == RPKI_OK) moment.seconds = 5;
-    return rpki_crl_issued_by(q->octets, q->size, q->others, q->other_size, &moment);
+    return rpki_crl_issued_by(q->octets.at, q->octets.size, q->others.at, q->others.size, &moment);
 }
 
 /* The row of these words, of which the first is a call that takes no memory. */
 static void ask_without_memory(const char *word, struct question *q, char *rest) {
     long long status = 0, seconds = 0;
-    bool freed;
     unsigned found = 0;
     if (!strcmp(word, "list")) seconds = next_number(&rest);
     if (!strcmp(word, "object")) q->strict = next_number(&rest) != 0;
     status = next_number(&rest);
     if (!strcmp(word, "aspa")) q->count = as_blocks_of(&rest, q->as);
     count_allocations(0);
-    if (!strcmp(word, "anchor")) found = rpki_anchor_verify(q->octets, q->size, q->others, q->other_size);
-    if (!strcmp(word, "signed")) found = rpki_certificate_signed_by(q->octets, q->size, q->others, q->other_size);
+    if (!strcmp(word, "anchor")) found = rpki_anchor_verify(q->octets.at, q->octets.size, q->others.at, q->others.size);
+    if (!strcmp(word, "signed"))
+        found = rpki_certificate_signed_by(q->octets.at, q->octets.size, q->others.at, q->others.size);
     if (!strcmp(word, "list")) found = ask_of_list(q, seconds);
-    if (!strcmp(word, "object")) found = rpki_object_verify(q->octets, q->size, q->strict);
-    if (!strcmp(word, "aspa")) found = rpki_aspa_is_within(q->octets, q->size, q->as, q->count);
-    if (!strcmp(word, "manifest")) found = rpki_manifest_inherits(q->octets, q->size);
-    if (!strcmp(word, "roasigner")) found = rpki_roa_signer(q->octets, q->size);
-    if (!strcmp(word, "aspasigner")) found = rpki_aspa_signer(q->octets, q->size);
-    if (!strcmp(word, "file")) found = rpki_manifest_file_is(q->octets, q->others, q->other_size);
-    if (!strcmp(word, "type")) found = rpki_content_type(q->octets, q->size);
-    judge("memory", allocations(&freed) == 0);
-    count_allocations(NONE_REFUSED);
+    if (!strcmp(word, "object")) found = rpki_object_verify(q->octets.at, q->octets.size, q->strict);
+    if (!strcmp(word, "aspa")) found = rpki_aspa_is_within(q->octets.at, q->octets.size, q->as, q->count);
+    if (!strcmp(word, "manifest")) found = rpki_manifest_inherits(q->octets.at, q->octets.size);
+    if (!strcmp(word, "roasigner")) found = rpki_roa_signer(q->octets.at, q->octets.size);
+    if (!strcmp(word, "aspasigner")) found = rpki_aspa_signer(q->octets.at, q->octets.size);
+    if (!strcmp(word, "file")) found = rpki_manifest_file_is(q->octets.at, q->others.at, q->others.size);
+    if (!strcmp(word, "type")) found = rpki_content_type(q->octets.at, q->octets.size);
+    judge(line, "memory", took_none());
     if (found != status) printf("found %u, wanted %lld: ", found, status);
-    judge(word, found == status);
+    judge(line, word, found == status);
 }
 
-static void make(char *rest) {
+static void row(unsigned number, char *rest) {
     static struct question q;
     const char *word = next_word(&rest);
+    line = number;
     if (!strcmp(word, "seconds")) {
         long long seconds = next_number(&rest);
         ask_for_moment(seconds, rest);
@@ -253,14 +222,14 @@ static void make(char *rest) {
     }
     if (!strcmp(word, "section")) {
         long long status = next_number(&rest);
-        judge(word, !strncmp(rest, rpki_rule_text((rpki_status)status), strlen(rest) - 1));
+        judge(line, word, !strncmp(rest, rpki_rule_text((rpki_status)status), strlen(rest)));
         return;
     }
     q.kind = word[0] == 'a' && word[1] == 's' && word[2] == 0 ? 'a' : word[0] == 'a' ? 'p' : word[0];
-    q.octets = octets_of(next_word(&rest), &q.size);
-    q.others = NULL;
+    q.octets = octets_spelt(next_word(&rest));
+    q.others.at = NULL;
     if (!strcmp(word, "signed") || !strcmp(word, "list") || !strcmp(word, "file") || !strcmp(word, "anchor")) {
-        q.others = octets_of(next_word(&rest), &q.other_size);
+        q.others = octets_spelt(next_word(&rest));
     }
     if (q.kind == 'i' || q.kind == 'a') {
         settle(&q, rest);
@@ -273,19 +242,8 @@ static void make(char *rest) {
     } else {
         ask_without_memory(word, &q, rest);
     }
-    free(q.octets);
-    free(q.others);
+    free(q.octets.at);
+    free(q.others.at);
 }
 
-int main(int count, char **words) {
-    static char row[LINE];
-    FILE *rows = count == 2 ? fopen(words[1], "r") : NULL;
-    if (!rows) return 2;
-    while (fgets(row, LINE, rows)) {
-        line++;
-        make(row);
-    }
-    fclose(rows);
-    printf("%u passed, %u failed\n", passed, failed);
-    return failed != 0;
-}
+int main(int count, char **words) { return judge_rows(count, words, row); }

@@ -5,7 +5,9 @@
  *
  * usage: lists ROWS
  */
+#include "../judging.h"
 #include "../memory.h"
+#include "../octets.h"
 #include "../spans.h"
 
 #include <stdio.h>
@@ -14,52 +16,12 @@
 
 #include "rpki.h"
 
-enum { FILL = 0x5A, MOST_OCTETS = 1 << 16, LINE = 6 * MOST_OCTETS };
-
-static unsigned passed = 0, failed = 0;
-
-static void judge(unsigned line, const char *what, bool well) {
-    if (well) {
-        passed++;
-        return;
-    }
-    failed++;
-    printf("line %u: %s\n", line, what);
-}
-
-static bool untouched(const void *out, size_t size) {
-    const unsigned char *octets = out;
-    size_t at;
-    for (at = 0; at < size; at++) {
-        if (octets[at] != FILL) return false;
-    }
-    return true;
-}
-
-static size_t hexadecimal(const char *digits, uint8_t *octets) {
-    size_t size = 0;
-    unsigned octet;
-    for (; sscanf(digits, "%2x", &octet) == 1 && digits[0] > ' ' && digits[1] > ' '; digits += 2) {
-        octets[size++] = (uint8_t)octet;
-    }
-    return size;
-}
-
-/* Memory of exactly these octets, so that a read beyond them is seen by a sanitizer. */
-static uint8_t *exactly(const uint8_t *octets, size_t size) {
-    uint8_t *copy = malloc(size ? size : 1);
-    if (!copy) exit(2);
-    if (size) memcpy(copy, octets, size);
-    return copy;
-}
-
 static rpki_status read_list(const uint8_t *octets, size_t size, struct rpki_crl_parts *out, bool *clean) {
     rpki_status status;
     memset(out, FILL, sizeof *out);
     count_allocations(0);
     status = rpki_crl(octets, size, out);
-    *clean = allocations(clean) == 0;
-    count_allocations(NONE_REFUSED);
+    *clean = took_none();
     if (status != RPKI_OK) *clean = *clean && untouched(out, sizeof *out);
     return status;
 }
@@ -67,16 +29,15 @@ static rpki_status read_list(const uint8_t *octets, size_t size, struct rpki_crl
 /* The status of a search, and what it answers: 0, 1, or FILL where nothing is written. */
 static rpki_status search(const uint8_t *octets, size_t size, const uint8_t *serial, unsigned char *answer,
                           bool *clean) {
-    uint8_t *copy = exactly(octets, size), *number = exactly(serial, 20);
+    struct octets copy = new_octets(octets, size, 0), number = new_octets(serial, 20, 0);
     bool found;
     rpki_status status;
     memset(&found, FILL, sizeof found);
     count_allocations(0);
-    status = rpki_crl_contains(copy, size, number, &found);
-    *clean = allocations(clean) == 0;
-    count_allocations(NONE_REFUSED);
-    free(copy);
-    free(number);
+    status = rpki_crl_contains(copy.at, size, number.at, &found);
+    *clean = took_none();
+    free(copy.at);
+    free(number.at);
     memcpy(answer, &found, 1);
     return status;
 }
@@ -93,18 +54,11 @@ static rpki_status tabulate(struct rpki_span entries, size_t capacity, struct rp
     *table = room + 1;
     count_allocations(0);
     status = rpki_serials(entries.data, entries.size, room + 1, capacity, count);
-    *clean = allocations(clean) == 0;
-    count_allocations(NONE_REFUSED);
+    *clean = took_none();
     *clean = *clean && untouched(room, sizeof *room) && untouched(room + capacity + 1, sizeof *room);
     if (status != RPKI_OK && status != RPKI_TOO_SMALL)
         *clean = *clean && untouched(room, size) && untouched(count, sizeof *count);
     return status;
-}
-
-static char *tell_octets(const uint8_t *octets, char *text) {
-    size_t number;
-    for (number = 0; number < 20; number++) text += sprintf(text, "%02x", octets[number]);
-    return text;
 }
 
 /* What was found, in the words of the row. */
@@ -115,9 +69,9 @@ static void tell(const uint8_t *octets, size_t size, const struct rpki_crl_parts
     text = tell_span(text, octets, size, found->issuer);
     text = tell_span(text, octets, size, found->revoked_certs);
     text += sprintf(text, " %lld %lld ", (long long)found->this_update.seconds, (long long)found->next_update.seconds);
-    text = tell_octets(found->crl_number, text);
+    text = tell_octets(text, found->crl_number, 20);
     *text++ = ' ';
-    text = tell_octets(found->authority_key_identifier, text);
+    text = tell_octets(text, found->authority_key_identifier, 20);
     sprintf(text, " %u", found->has_parameters);
 }
 
@@ -130,10 +84,10 @@ static void ask(unsigned line, struct rpki_span entries, const char *words) {
     for (; words; words = strchr(words + 1, ' ')) {
         uint8_t number[20];
         char next[41];
-        hexadecimal(words + 1, number);
+        hexadecimal(words + 1, number, sizeof number);
         well = search(entries.data, entries.size, number, &answer, &clean) == RPKI_OK && clean && answer == 1 && well;
         number[0] ^= 0x40;
-        tell_octets(number, next);
+        tell_octets(next, number, 20);
         if (strstr(all, next)) continue;
         well = search(entries.data, entries.size, number, &answer, &clean) == RPKI_OK && clean && answer == 0 && well;
     }
@@ -161,17 +115,17 @@ static void look_up(unsigned line, struct rpki_span entries, const char *words) 
     for (words = all; words; words = strchr(words + 1, ' ')) {
         uint8_t number[20];
         char next[41];
-        hexadecimal(words + 1, number);
+        hexadecimal(words + 1, number, sizeof number);
         well = rpki_serials_have(table, count, number) && well;
         number[0] ^= 0x40;
-        tell_octets(number, next);
+        tell_octets(next, number, 20);
         well = (strstr(all, next) || !rpki_serials_have(table, count, number)) && well;
     }
     for (at = 0; at < 2; at++) {
         uint8_t number[20];
         char next[41];
         memset(number, at == 0 ? 0 : 0xFF, sizeof number);
-        tell_octets(number, next);
+        tell_octets(next, number, 20);
         well = ((all && strstr(all, next)) || !rpki_serials_have(table, count, number)) && well;
     }
     judge(line, "what a table has", well);
@@ -182,14 +136,13 @@ static void look_up(unsigned line, struct rpki_span entries, const char *words) 
 static void walk(unsigned line, struct rpki_span entries, const char *words) {
     struct rpki_span rest = entries, end;
     struct rpki_revoked_certificate found;
-    bool clean, well = true;
+    bool well = true;
     for (; words; words = strchr(words + 1, ' ')) {
         uint8_t number[20];
         count_allocations(0);
         well = rpki_crl_entry(&rest, &found) == RPKI_OK && well;
-        well = allocations(&clean) == 0 && well;
-        count_allocations(NONE_REFUSED);
-        hexadecimal(words + 1, number);
+        well = took_none() && well;
+        hexadecimal(words + 1, number, sizeof number);
         well = well && !memcmp(found.serial_number, number, 20) && rest.size < entries.size;
         well = well && (rest.size == 0 || rest.data + rest.size == entries.data + entries.size);
         if (!well) break;
@@ -210,8 +163,7 @@ static void list(unsigned line, const uint8_t *octets, size_t size, const char *
     rpki_status status = read_list(octets, size, &out, &clean);
     const char *numbers;
     judge(line, "allocates, or writes what it refuses", clean);
-    if (status != wanted) printf("status %u, not %u\n", status, wanted);
-    judge(line, "the status", status == wanted);
+    judge_status(line, "the status", status, wanted);
     if (wanted != RPKI_OK || status != RPKI_OK) return;
     tell(octets, size, &out, told);
     numbers = following(told, words);
@@ -246,37 +198,23 @@ static void beginnings(const uint8_t *octets, size_t size) {
     size_t count;
     bool clean, well = true;
     for (count = 0; count < size; count++) {
-        uint8_t *copy = exactly(octets, count);
-        well = read_list(copy, count, &out, &clean) == RPKI_PART_CERTIFICATE && clean && well;
-        free(copy);
+        struct octets copy = new_octets(octets, count, 0);
+        well = read_list(copy.at, count, &out, &clean) == RPKI_PART_CERTIFICATE && clean && well;
+        free(copy.at);
     }
     judge(1, "each beginning", well);
 }
 
-static void row(unsigned line, const char *text) {
-    static uint8_t octets[MOST_OCTETS];
+static void row(unsigned line, char *text) {
     const char *digits = strchr(text, ' ') + 1, *words = strchr(digits, ' ') + 1;
-    size_t size = *digits == '-' ? 0 : hexadecimal(digits, octets);
-    if (line == 1) beginnings(octets, size);
+    struct octets given = octets_spelt(digits);
+    if (line == 1) beginnings(given.at, given.size);
     if (!strncmp(text, "list ", 5)) {
-        uint8_t *copy = exactly(octets, size);
-        list(line, copy, size, words);
-        free(copy);
+        list(line, given.at, given.size, words);
     } else {
-        entries(line, octets, size, words);
+        entries(line, given.at, given.size, words);
     }
+    free(given.at);
 }
 
-int main(int count, char **words) {
-    static char text[LINE];
-    unsigned line = 0;
-    FILE *file = count == 2 ? fopen(words[1], "r") : NULL;
-    if (!file) return 2;
-    while (fgets(text, sizeof text, file)) {
-        text[strcspn(text, "\n")] = 0;
-        row(++line, text);
-    }
-    fclose(file);
-    printf("%u passed, %u failed\n", passed, failed);
-    return failed || line == 0;
-}
+int main(int count, char **words) { return judge_rows(count, words, row); }

@@ -18,33 +18,13 @@ sys.path[:0] = [os.path.join(HERE, "..", "resources"), os.path.join(HERE, "..", 
 
 import leftmost
 import lists
+from changes import changed
+from values import Wrong, need, value
 
 AROUND, SIGNED, ALGORITHM, SIGNATURE, TBS, VERSION, TBS_ALGORITHM, ISSUER = 64, 65, 66, 67, 68, 69, 71, 72
 EXTENSIONS, SAME_ALGORITHM, THIS_UPDATE, NEXT_UPDATE, REVOKED = 76, 79, 120, 121, 122
 SHA256_WITH_RSA = bytes.fromhex("06092a864886f70d01010b")
 AUTHORITY_KEY, CRL_NUMBER = bytes.fromhex("0603551d23"), bytes.fromhex("0603551d14")
-
-
-class Wrong(Exception):
-    """The malformed part."""
-
-
-def need(holds, part):
-    if not holds:
-        raise Wrong(part)
-
-
-def value(octets, at, end, part, first=None):
-    """Where the contents of the value at this place begin and end, which has this identifier octet, if one is given."""
-    reader = leftmost.Octets(octets[:end])
-    reader.place = at
-    try:
-        reader.tag()
-        length = reader.length()
-    except leftmost.Wrong:
-        raise Wrong(part) from None
-    need(length <= end - reader.place and (first is None or octets[at] == first), part)
-    return reader.place, reader.place + length
 
 
 def nested(octets, at, end, part):
@@ -185,21 +165,6 @@ def row(octets):
     except Wrong as wrong:
         words = wrong.args
     return " ".join(map(str, ["list", octets.hex() or "-", *words]))
-
-
-def changed(octets, source):
-    """The octets with one to three of them changed, left out or doubled."""
-    octets = bytearray(octets)
-    for _ in range(source.randint(1, 3)):
-        at = source.randrange(len(octets))
-        way = source.randrange(8)
-        if way == 0:
-            del octets[at]
-        elif way == 1:
-            octets.insert(at, octets[at])
-        else:
-            octets[at] = source.choice([octets[at] ^ 1 << source.randrange(8), source.randrange(256)])
-    return bytes(octets)
 
 
 # The contents of a list of entries, and the status of a search in them.

@@ -1,12 +1,15 @@
 /*
  * Reads signed objects with rpki_signed_object, and compares statuses and what is found with those of rows that rows.py
- * writes; a certificate that rpki_certificate refuses has the status that it names. What the call refuses leaves `out`
- * as it was. It does not allocate.
+ * writes; a certificate that rpki_certificate refuses has the status that it names. rpki_signed_object_checked says the
+ * same, and of the certificate what rpki_certificate_checked says. What a call refuses leaves `out` as it was. They do
+ * not allocate.
  *
  * usage: objects ROWS
  */
+#include "../certificates.h"
+#include "../judging.h"
 #include "../memory.h"
-#include "../spans.h"
+#include "../octets.h"
 
 #include <stdio.h>
 #include <stdlib.h>
@@ -14,73 +17,27 @@
 
 #include "rpki.h"
 
-enum { FILL = 0x5A, MOST_OCTETS = 1 << 17, LINE = 3 * MOST_OCTETS };
-
-static unsigned passed = 0, failed = 0;
-
-static void judge(unsigned line, const char *what, bool well) {
-    if (well) {
-        passed++;
-        return;
-    }
-    failed++;
-    printf("line %u: %s\n", line, what);
-}
-
-static bool untouched(const void *out, size_t size) {
-    const unsigned char *octets = out;
-    size_t at;
-    for (at = 0; at < size; at++) {
-        if (octets[at] != FILL) return false;
-    }
-    return true;
-}
-
-static size_t hexadecimal(const char *digits, uint8_t *octets) {
-    size_t size = 0;
-    unsigned octet;
-    for (; sscanf(digits, "%2x", &octet) == 1 && digits[0] > ' ' && digits[1] > ' '; digits += 2) {
-        octets[size++] = (uint8_t)octet;
-    }
-    return size;
-}
-
-/* Memory of exactly these octets, so that a read beyond them is seen by a sanitizer. */
-static uint8_t *exactly(const uint8_t *octets, size_t size) {
-    uint8_t *copy = malloc(size ? size : 1);
-    if (!copy) exit(2);
-    if (size) memcpy(copy, octets, size);
-    return copy;
-}
-
 static rpki_status read_object(const uint8_t *octets, size_t size, bool strict, struct rpki_signed_object_parts *out,
                                bool *clean) {
     rpki_status status;
     memset(out, FILL, sizeof *out);
     count_allocations(0);
     status = rpki_signed_object(octets, size, strict, out);
-    *clean = allocations(clean) == 0;
-    count_allocations(NONE_REFUSED);
+    *clean = took_none();
     if (status != RPKI_OK) *clean = *clean && untouched(out, sizeof *out);
     return status;
 }
 
-static char *tell_octets(const uint8_t *octets, size_t size, char *text) {
-    size_t number;
-    for (number = 0; number < size; number++) text += sprintf(text, "%02x", octets[number]);
-    return text;
-}
-
 /* What was found, in the words of the row. */
-static void tell(const uint8_t *octets, size_t size, const struct rpki_signed_object_parts *found, char *text) {
+static char *tell(const uint8_t *octets, size_t size, const struct rpki_signed_object_parts *found, char *text) {
     text = tell_span(text, octets, size, found->content_type);
     text = tell_span(text, octets, size, found->content);
     text = tell_span(text, octets, size, found->signed_attributes);
     text = tell_span(text, octets, size, found->signature);
     *text++ = ' ';
-    text = tell_octets(found->message_digest, 32, text);
+    text = tell_octets(text, found->message_digest, 32);
     *text++ = ' ';
-    text = tell_octets(found->signer_identifier, 20, text);
+    text = tell_octets(text, found->signer_identifier, 20);
     if (found->has_signing_time) {
         text += sprintf(text, " %lld", (long long)found->signing_time.seconds);
     } else {
@@ -91,7 +48,7 @@ static void tell(const uint8_t *octets, size_t size, const struct rpki_signed_ob
     } else {
         text += sprintf(text, " -");
     }
-    sprintf(text, " %u %u", found->is_type_signed, found->has_parameters);
+    return text + sprintf(text, " %u %u", found->is_type_signed, found->has_parameters);
 }
 
 /* What is told where there is no time: zeros. */
@@ -99,6 +56,46 @@ static bool are_zeros(const struct rpki_signed_object_parts *found) {
     static const struct rpki_moment none;
     bool well = found->has_signing_time || !memcmp(&found->signing_time, &none, sizeof none);
     return well && (found->has_binary_signing_time || found->binary_signing_time == 0);
+}
+
+/* All that is written of an object and its certificate. */
+struct written {
+    struct rpki_signed_object_parts object;
+    struct rpki_certificate_parts certificate;
+    struct rpki_known_extensions extensions;
+};
+
+/* The same in words. */
+static void tell_all(const uint8_t *octets, size_t size, const struct written *found, char *text) {
+    text = tell(octets, size, &found->object, text);
+    text = tell_span(text, octets, size, found->object.certificate);
+    text = tell_certificate(text, octets, size, &found->certificate);
+    text += sprintf(text, " %lld %lld", (long long)found->certificate.validity.not_before.seconds,
+                    (long long)found->certificate.validity.not_after.seconds);
+    tell_extensions(text, octets, size, &found->extensions);
+}
+
+/* Whether both calls in one say what each of them says; the first has this status, and has written this. */
+static bool checks(const uint8_t *octets, size_t size, bool strict, bool names, rpki_status first,
+                   const struct rpki_signed_object_parts *object) {
+    static char told[4096], words[4096];
+    struct written out, wanted;
+    rpki_status status, other = first;
+    bool clean;
+    memset(&out, FILL, sizeof out);
+    wanted.object = *object;
+    if (first == RPKI_OK) {
+        other = rpki_certificate_checked(object->certificate.data, object->certificate.size, RPKI_CERTIFICATE_EE, names,
+                                         &wanted.certificate, &wanted.extensions);
+    }
+    count_allocations(0);
+    status = rpki_signed_object_checked(octets, size, strict, names, &out.object, &out.certificate, &out.extensions);
+    clean = took_none();
+    if (!clean || status != other) return false;
+    if (status != RPKI_OK) return untouched(&out, sizeof out);
+    tell_all(octets, size, &out, told);
+    tell_all(octets, size, &wanted, words);
+    return !strcmp(told, words) && are_zeros(&out.object);
 }
 
 /* The words after the octets. */
@@ -111,14 +108,15 @@ static void object(unsigned line, const uint8_t *octets, size_t size, bool stric
     bool clean;
     rpki_status status = read_object(octets, size, strict, &out, &clean);
     judge(line, "allocates, or writes what it refuses", clean);
+    judge(line, "with the certificate", checks(octets, size, strict, false, status, &out));
+    judge(line, "with the certificate, strict", checks(octets, size, strict, true, status, &out));
     if (wanted == RPKI_OK) {
         start = strtoul(words, &words, 10);
         length = strtoul(words, &words, 10);
         wanted = rpki_certificate(octets + start, length, &certificate);
     }
     if (wanted == RPKI_OK) wanted = (unsigned)strtoul(words, &words, 10);
-    if (status != wanted) printf("status %u, not %u\n", status, wanted);
-    judge(line, "the status", status == wanted);
+    judge_status(line, "the status", status, wanted);
     if (wanted != RPKI_OK || status != RPKI_OK) return;
     tell(octets, size, &out, told);
     if (!is_told(told, words)) printf("%s\nnot %s\n", told, words);
@@ -131,35 +129,20 @@ static void beginnings(const uint8_t *octets, size_t size) {
     size_t count;
     bool clean, well = true;
     for (count = 0; count < size; count++) {
-        uint8_t *copy = exactly(octets, count);
-        well = read_object(copy, count, false, &out, &clean) == RPKI_PART_OBJECT && clean && well;
-        free(copy);
+        struct octets copy = new_octets(octets, count, 0);
+        well = read_object(copy.at, count, false, &out, &clean) == RPKI_PART_OBJECT && clean && well;
+        free(copy.at);
     }
     judge(1, "each beginning", well);
 }
 
 static void row(unsigned line, char *text) {
-    static uint8_t octets[MOST_OCTETS];
-    uint8_t *copy;
     char *words = strchr(text, ' ') + 1;
-    size_t size = *text == '-' ? 0 : hexadecimal(text, octets);
+    struct octets given = octets_spelt(text);
     bool strict = *words == '1';
-    if (line == 1) beginnings(octets, size);
-    copy = exactly(octets, size);
-    object(line, copy, size, strict, words + 1);
-    free(copy);
+    if (line == 1) beginnings(given.at, given.size);
+    object(line, given.at, given.size, strict, words + 1);
+    free(given.at);
 }
 
-int main(int count, char **words) {
-    static char text[LINE];
-    unsigned line = 0;
-    FILE *file = count == 2 ? fopen(words[1], "r") : NULL;
-    if (!file) return 2;
-    while (fgets(text, sizeof text, file)) {
-        text[strcspn(text, "\n")] = 0;
-        row(++line, text);
-    }
-    fclose(file);
-    printf("%u passed, %u failed\n", passed, failed);
-    return failed || line == 0;
-}
+int main(int count, char **words) { return judge_rows(count, words, row); }

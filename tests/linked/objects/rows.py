@@ -19,36 +19,15 @@ import tempfile
 HERE = os.path.dirname(os.path.abspath(__file__))
 sys.path[:0] = [os.path.join(HERE, "..", "resources"), os.path.join(HERE, "..", "..", "hostile")]
 
-import leftmost
 import lists
 import objects
+from changes import changed
+from values import Wrong, need, value
 
 (OBJECT, TYPE, DATA, VERSION, DIGESTS, CONTENT, CERTIFICATES, SIGNERS, SIGNER, SIGNER_VERSION, IDENTIFIER, DIGEST,
  ATTRIBUTES, ALGORITHM, SIGNATURE) = range(123, 138)
 SHA256 = bytes.fromhex("0609608648016503040201")
 RSA = [bytes.fromhex("06092a864886f70d0101") + bytes([last]) for last in (1, 11)]
-
-
-class Wrong(Exception):
-    """The malformed part."""
-
-
-def need(holds, part):
-    if not holds:
-        raise Wrong(part)
-
-
-def value(octets, at, end, part, first):
-    """Where the contents of the value at this place begin and end, which has this identifier octet."""
-    reader = leftmost.Octets(octets[:end])
-    reader.place = at
-    try:
-        reader.tag()
-        length = reader.length()
-    except leftmost.Wrong:
-        raise Wrong(part) from None
-    need(length <= end - reader.place and octets[at] == first, part)
-    return reader.place, reader.place + length
 
 
 def whole(octets, at, end, part, first):
@@ -216,21 +195,6 @@ def of_openssl():
                           "-inkey", "key", "-in", "content", "-out", "object")
             with open(at("object"), "rb") as file:
                 yield file.read()
-
-
-def changed(octets, source):
-    """The octets with one to three of them changed, left out or doubled."""
-    octets = bytearray(octets)
-    for _ in range(source.randint(1, 3)):
-        at = source.randrange(len(octets))
-        way = source.randrange(8)
-        if way == 0:
-            del octets[at]
-        elif way == 1:
-            octets.insert(at, octets[at])
-        else:
-            octets[at] = source.choice([octets[at] ^ 1 << source.randrange(8), source.randrange(256)])
-    return bytes(octets)
 
 
 def every():

@@ -5,7 +5,9 @@
  *
  * usage: signatures ROWS EXPECTED
  */
+#include "../judging.h"
 #include "../memory.h"
+#include "../octets.h"
 
 #include <stdio.h>
 #include <stdlib.h>
@@ -15,32 +17,25 @@
 
 enum { MOST = 8192 };
 
-static unsigned passed = 0, failed = 0;
-
-static void judge(const char *what, size_t number, bool well) {
-    passed += well;
-    failed += !well;
-    if (!well) printf("%s %zu is not as expected\n", what, number);
+static void expect(const char *what, size_t number, bool well) {
+    if (!counted(well)) printf("%s %zu is not as expected\n", what, number);
 }
 
-struct octets {
+/* Octets with room for more. */
+struct room {
     size_t size;
     uint8_t at[MOST];
 };
 
 /* The octets of hexadecimal digits; returns what follows them and a space. */
-static const char *read_octets(const char *digits, struct octets *out) {
-    out->size = 0;
-    while (digits[0] > ' ' && digits[1] > ' ' && out->size < MOST) {
-        char pair[3] = {digits[0], digits[1], 0};
-        out->at[out->size++] = (uint8_t)strtoul(pair, NULL, 16);
-        digits += 2;
-    }
+static const char *read_octets(const char *digits, struct room *out) {
+    out->size = hexadecimal(digits, out->at, MOST);
+    digits += 2 * out->size;
     return *digits == ' ' ? digits + 1 : digits;
 }
 
 /* Puts a header in front of octets, whose length is below 65,536. */
-static void wrap(struct octets *octets, uint8_t tag) {
+static void wrap(struct room *octets, uint8_t tag) {
     uint8_t header[4] = {tag, 0x82, (uint8_t)(octets->size >> 8), (uint8_t)octets->size};
     size_t size = sizeof header;
     if (octets->size < 128) {
@@ -54,7 +49,7 @@ static void wrap(struct octets *octets, uint8_t tag) {
 }
 
 /* The SubjectPublicKeyInfo of the bits of an RSA key (RFC 3279 2.3.1). */
-static void key_of_bits(struct octets *bits) {
+static void key_of_bits(struct room *bits) {
     static const uint8_t algorithm[] = {0x30, 0x0D, 0x06, 0x09, 0x2A, 0x86, 0x48, 0x86,
                                         0xF7, 0x0D, 0x01, 0x01, 0x01, 0x05, 0x00};
     memmove(bits->at + 1, bits->at, bits->size++);
@@ -66,15 +61,14 @@ static void key_of_bits(struct octets *bits) {
     wrap(bits, 0x30);
 }
 
-static struct octets key, message, signature;
+static struct room key, message, signature;
 
 /* The status of the three. The call may not allocate. */
 static rpki_status verify(void) {
-    bool all_freed;
     rpki_status status;
     count_allocations(NONE_REFUSED);
     status = rpki_verify(key.at, key.size, message.at, message.size, signature.at, signature.size);
-    return allocations(&all_freed) == 0 ? status : RPKI_OUT_OF_MEMORY;
+    return took_none() ? status : RPKI_OUT_OF_MEMORY;
 }
 
 static rpki_status status_of(const char *word) {
@@ -85,12 +79,12 @@ static rpki_status status_of(const char *word) {
 /* The key of a row that is cut, with an octet after it, and of another algorithm. */
 static void other_keys(size_t number) {
     key.size--;
-    judge("a key that is cut, of row", number, verify() == RPKI_TRUNCATED);
+    expect("a key that is cut, of row", number, verify() == RPKI_TRUNCATED);
     key.size += 2, key.at[key.size - 1] = 0;
-    judge("a key with an octet behind it, of row", number, verify() == RPKI_TRAILING);
+    expect("a key with an octet behind it, of row", number, verify() == RPKI_TRAILING);
     key.size--;
     key.at[16] ^= 1;
-    judge("a key of another algorithm, of row", number, verify() == RPKI_OTHER_ALGORITHM);
+    expect("a key of another algorithm, of row", number, verify() == RPKI_OTHER_ALGORITHM);
     key.at[16] ^= 1;
 }
 
@@ -101,10 +95,10 @@ static void rows(FILE *given, FILE *expected) {
         const char *rest = read_octets(row, &key);
         read_octets(read_octets(rest, &message), &signature);
         key_of_bits(&key);
-        judge("row", ++number, verify() == status_of(word));
+        expect("row", ++number, verify() == status_of(word));
         if (verify() == RPKI_OK) other_keys(number);
     }
-    judge("the count of rows", number, number > 70 && feof(given));
+    expect("the count of rows", number, number > 70 && feof(given));
 }
 
 /* A key on P-256. */
@@ -114,7 +108,7 @@ static void other_key(void) {
         "6b17d1f2e12c4247f8bce6e563a440f277037d812deb33a0f4a13945d898c296"
         "4fe342e2fe1a7f9b8ee7eb4a7c0f9e162bce33576b315ececbb6406837bf51f5";
     read_octets(digits, &key);
-    judge("a key on P-256", 0, verify() == RPKI_KEY_NOT_ACCEPTED);
+    expect("a key on P-256", 0, verify() == RPKI_KEY_NOT_ACCEPTED);
 }
 
 /* Digests of FIPS 180-4's examples, and of a million times a. */
@@ -134,11 +128,11 @@ static void digests(void) {
     size_t at;
     memset(many, 'a', sizeof many);
     for (at = 0; at < sizeof all / sizeof *all; at++) {
-        struct octets digest;
+        struct room digest;
         uint8_t out[32];
         read_octets(all[at].digest, &digest);
         rpki_sha256(all[at].at, all[at].size, out);
-        judge("digest", at, digest.size == 32 && !memcmp(out, digest.at, 32));
+        expect("digest", at, digest.size == 32 && !memcmp(out, digest.at, 32));
     }
 }
 
@@ -151,6 +145,5 @@ int main(int count, char **words) {
     rows(given, expected);
     other_key();
     digests();
-    printf("%u passed, %u failed\n", passed, failed);
-    return failed != 0;
+    return verdict();
 }
