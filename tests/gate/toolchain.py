@@ -64,6 +64,12 @@ def root_of(name, top=TOP):
     return next(it for it in ("src/main.rt", "src/lib.rt") if os.path.isfile(os.path.join(top, "crates", name, it)))
 
 
+def of_logic(name):
+    """The words that name the logic to the compiler, and that the crate is linked with nothing."""
+    logic = ["--antt-project", f"{kit()}/rattle/logic/antt-project.json", "--logic-built", f"{kit()}/logic_built"]
+    return [*logic, "--links", f"{name}="]
+
+
 def over_libraries(name, libraries, top=TOP):
     """The words that name a crate to the compiler, over the libraries that were built in another tree."""
     crate, rlibs = crates(top)[name], os.path.join(kit(), "rlibs")
@@ -74,8 +80,7 @@ def over_libraries(name, libraries, top=TOP):
     words += ["-L", f"dependency={rlibs}"]
     for use in below(name, top):
         words += ["-L", f"dependency={os.path.join(libraries, 'crates', use, 'out', 'rlib')}"]
-    words += ["--antt-project", f"{kit()}/rattle/logic/antt-project.json", "--logic-built", f"{kit()}/logic_built"]
-    return words + ["--links", f"{name}=", *(["--crate-type", "staticlib"] if crate.is_static else [])]
+    return [*words, *of_logic(name), *(["--crate-type", "staticlib"] if crate.is_static else [])]
 
 
 def of_kit(names):

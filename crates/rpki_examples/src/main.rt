@@ -1,7 +1,9 @@
 //! The layer as its users call it: verify signed data, write an algorithm type and a provider of one's own, read a
-//! SEQUENCE of one's own, and one with a context tag and a list, join URIs. docs/CALLING.md quotes these files.
+//! SEQUENCE of one's own, one with a context tag and a list, and one with an optional part in place, join URIs.
+//! docs/CALLING.md quotes these files.
 #![tactic(auto)]
 
+mod named_digest;
 mod number_list;
 mod own_algorithm;
 mod own_provider;
@@ -9,6 +11,7 @@ mod revoked;
 mod uris;
 mod verification;
 
+use crate::named_digest::NamedDigest;
 use crate::number_list::NumberList;
 use crate::own_algorithm::OwnAlgorithm;
 use crate::own_provider::OneSignature;
@@ -39,6 +42,11 @@ const REVOKED: &[u8] = b"\x30\x12\x02\x01\x7F\x17\x0D240229120000Z";
 /// Version 1 for the purpose 2.999, with the numbers 64496 and 64497.
 const NUMBERS: &[u8] =
     b"\x30\x15\xA0\x03\x02\x01\x01\x06\x02\x88\x37\x30\x0A\x02\x03\x00\xFB\xF0\x02\x03\x00\xFB\xF1";
+
+/// The name `a.roa`, and a digest of 32 zeros.
+const NAMED: &[u8] =
+    b"\x30\x29\x16\x05a.roa\x04\x20\x00\x00\x00\x00\x00\x00\x00\x00\x00\x00\x00\x00\x00\x00\x00\x00\
+    \x00\x00\x00\x00\x00\x00\x00\x00\x00\x00\x00\x00\x00\x00\x00\x00";
 
 /// Whether the key that the octets are has signed both.
 fn both_verified(alloc: Global) -> Result<bool, DecodeError> {
@@ -81,6 +89,16 @@ fn greatest_number(alloc: Global) -> Result<(u8, Option<u64>), DecodeError> {
     Ok((list.version, list.numbers.iter().copied().max()))
 }
 
+/// The name of a digest, if it has one.
+fn name_of_digest() -> Result<Option<&'static str>, DecodeError> {
+    let mut cons = Constructed::from_slice(NAMED);
+    let digest = NamedDigest::take_from(&mut cons)?;
+    match digest.name {
+        Some(name) => Ok(Some(name.as_str())),
+        None => Ok(None),
+    }
+}
+
 /// The URI of an object beside a manifest.
 fn object(alloc: Global) -> Result<Option<Rsync>, Error> {
     let manifest = Rsync::from_str(alloc, "rsync://host/module/ca/ca.mft")?;
@@ -99,6 +117,11 @@ fn main(rt: HostRuntime) -> Result<()> {
     match greatest_number(rt.alloc()) {
         Ok((version, Some(number))) => println!(rt; "version {version}, up to {number}")?,
         Ok((_, None)) => bail!("the list is empty"),
+        Err(e) => bail!("refused {}", e.number()),
+    }
+    match name_of_digest() {
+        Ok(Some(name)) => println!(rt; "digest of {name}")?,
+        Ok(None) => bail!("no name"),
         Err(e) => bail!("refused {}", e.number()),
     }
     match object(rt.alloc())? {
