@@ -8,7 +8,7 @@ ghost use Rattle.rpki_cert.specs.Inspected.{IsReadOf};
 ghost use Rattle.rpki_cert.specs.KnownView.{AreKnown};
 ghost use Rattle.rpki_cert.specs.Profile.{rules_of, HasProfile, TestsProfile, InspectsProfile, IsCheckError};
 ghost use Rattle.rpki_cert.specs.Rule.{Obeys};
-ghost use Rattle.rpki_cert.specs.RuleError.{BreaksWith};
+ghost use Rattle.rpki_cert.specs.RuleError.{BreaksWith, ChecksBy, IsRuleError};
 
 pub mod below;
 pub mod checks;
@@ -256,6 +256,16 @@ impl TbsCert {
         ensures { TestsProfile profile strict self.now result }
     {
         self.inspected().test(profile, strict)
+    }
+
+    /// Tests that the certificate obeys one rule, whatever others it breaks. The names are looked at if `strict`.
+    ///
+    /// The error is the one that [TbsCert::inspect] gives where this rule is the first that is broken. Allocates
+    /// nothing.
+    pub fn inspect_rule(&self, strict: bool, rule: CertRule) -> Result<(), ValidationError>
+        ensures { ChecksBy (Obeys strict self.now rule) (IsRuleError self.now rule) result }
+    {
+        self.inspected().inspect_rule(strict, rule)
     }
 
     /// [TbsCert::inspect] by the profile of a trust anchor.

@@ -394,6 +394,24 @@ fn in_place(octets: &[u8], profile: Profile, strict: bool) -> Outcome {
     }
 }
 
+/// What is found of it by one rule after another.
+fn one_by_one(
+    alloc: Global,
+    octets: &[u8],
+    profile: Profile,
+    strict: bool,
+) -> Result<Outcome, AllocError> {
+    let Ok(cert) = Cert::decode(alloc, Bytes::copy_from_slice(alloc, octets)?) else {
+        return Ok(Outcome::Refused);
+    };
+    for rule in profile.rules() {
+        if cert.tbs().inspect_rule(strict, *rule).is_err() {
+            return Ok(Outcome::Broken(*rule));
+        }
+    }
+    Ok(Outcome::Obeyed)
+}
+
 /// Whether a check at once comes to the same, where no extension is malformed.
 fn is_checked(octets: &[u8], profile: Profile, strict: bool, wanted: Outcome) -> bool {
     match CertView::read(octets) {
@@ -423,6 +441,11 @@ fn each_rule_is_asked(rt: HostRuntime) -> Result<(), Fail> {
             in_place(octets.as_slice(), *profile, *strict),
             wanted,
             "{name}, in place"
+        );
+        assert_eq!(rt;
+            one_by_one(rt.alloc(), octets.as_slice(), *profile, *strict)?,
+            wanted,
+            "{name}, by one rule"
         );
         assert!(rt;
             is_checked(octets.as_slice(), *profile, *strict, wanted),
