@@ -1,14 +1,13 @@
 -- What a status says of the octets of a route origin attestation, and of a prefix.
-use Rattle.std.specs.Prelude.{◌≡◌, ◌⊎◌, ℕ, Bool, List, length}
+use Rattle.std.specs.Prelude.{◌≡◌, ◌⊎◌, ℕ, Bool, List, Ok, Err}
 use Rattle.std.specs.Option.{is_some, unwrap_or}
 use Rattle.rpki_resources.specs.declared.family.AddressFamily.{AddressFamily}
 use Rattle.rpki_resources.specs.Address.{width, low_end}
 use Rattle.rpki_contents.specs.declared.roa_address.RoaIpAddress.{RoaIpAddress}
 use Rattle.rpki_contents.specs.declared.roa_view.RoaPart.{RoaPart}
 use Rattle.rpki_contents.specs.declared.roa_view.RoaPart.TheVariants as P
-use Rattle.rpki_contents.specs.Roa.{AttestationParts, fields_of, roa}
-use Rattle.rpki_contents.specs.RoaAddress.{each_address, roa_address}
-use Rattle.rpki_contents.specs.RoaView.{IsRoaWrong}
+use Rattle.rpki_contents.specs.RoaAddress.{roa_address}
+use Rattle.rpki_contents.specs.RoaView.{FoundRoa, found, listed, route_origin}
 use Rattle.rpki_c.specs.declared.roa.RoaParts.{RoaParts}
 use Rattle.rpki_c.specs.declared.roa.RoaAddress.{RoaAddress}
 use Rattle.rpki_c.specs.declared.span.Span.{Span}
@@ -23,20 +22,15 @@ roa_part_number P.Attestation = 145
 roa_part_number P.AsId = 146
 roa_part_number P.AddressBlocks = 147
 
--- the octets are an attestation, whose prefixes these are
-pub record HasRoa (strict : Bool) (s : List ℕ) (p : RoaParts) : Type 0 where
-  pub attestation : AttestationParts
-  pub spelled : (roa strict).spells (fields_of attestation) s
-  pub as_id : p.as_id ≡ attestation.as_id
-  pub v4 : (each_address 32).spells attestation.v4 p.v4.octets.now
-  pub v6 : (each_address 128).spells attestation.v6 p.v6.octets.now
-  pub v4_count : p.v4_count ≡ length attestation.v4
-  pub v6_count : p.v6_count ≡ length attestation.v6
+-- what the parts hand out
+abbrev pub passed : RoaParts → FoundRoa
+passed p = found p.as_id (listed p.v4.octets.now p.v4_count, listed p.v6.octets.now p.v6_count)
 
 -- Status 0: the octets are an attestation of these parts. Else the number of the part that is wrong, and nothing is
 -- written.
 abbrev pub IsRoaRead : Bool → List ℕ → ℕ → RoaParts → RoaParts → Type 0
-IsRoaRead strict s = IsRead (HasRoa strict s) roa_part_number (IsRoaWrong strict s)
+IsRoaRead strict s =
+    IsRead (λ p. route_origin strict s ≡ Ok (passed p)) roa_part_number (λ q. route_origin strict s ≡ Err q)
 
 -- what is written of a prefix
 pub record HasAddress (family : AddressFamily) (x : RoaIpAddress) (p : RoaAddress) : Type 0 where

@@ -9,7 +9,7 @@ use Rattle.rpki_contents.specs.declared.aspa_view.AspaPart.{AspaPart}
 use Rattle.rpki_contents.specs.declared.roa_view.RoaPart.{RoaPart}
 use Rattle.rpki_contents.specs.AspaView.{FoundAspa, attestation}
 use Rattle.rpki_contents.specs.Roa.{AttestationParts, fields_of, roa}
-use Rattle.rpki_contents.specs.RoaView.{IsRoaWrong}
+use Rattle.rpki_contents.specs.RoaView.{route_origin}
 use Rattle.rpki_contents.specs.Within.{AreWithin}
 use Rattle.rpki_valid.specs.ObjectResources.{AreInherited}
 use Rattle.rpki_c.specs.declared.ip_blocks.IpEntry.{IpEntry}
@@ -26,7 +26,7 @@ use Rattle.rpki_c.specs.Status.{no_answer, not_inherited, other_resources, out_o
 abbrev pub IsRoaTold : Bool → List ℕ → List IpEntry → ℕ → Type 0
 IsRoaTold strict s blocks status =
     ((are_untold blocks ≡ true) × (status ≡ no_answer))
-    ⊎ ((q : RoaPart) × (status ≡ roa_part_number q) × IsRoaWrong strict s q)
+    ⊎ ((q : RoaPart) × (status ≡ roa_part_number q) × (route_origin strict s ≡ Err q))
     ⊎ ((x : AttestationParts) × (v4 v6 : List Block) × (roa strict).spells (fields_of x) s × AreHeld blocks v4 v6
     × (((status ≡ 0) × AreWithin x v4 v6) ⊎ ((status ≡ other_resources) × (AreWithin x v4 v6 → ⊥))))
     ⊎ (status ≡ out_of_memory)

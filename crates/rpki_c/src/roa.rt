@@ -1,9 +1,8 @@
 //! Route origin attestations.
 
-ghost use Rattle.std.specs.Prelude.{◌≡◌};
-ghost use Rattle.rpki_contents.specs.Roa.{AttestationParts};
-ghost use Rattle.rpki_contents.specs.RoaView.{IsRoaAt};
-ghost use Rattle.rpki_c.specs.Roa.{roa_part_number, HasRoa, IsRoaRead, IsAddressTaken};
+ghost use Rattle.std.specs.Prelude.{◌≡◌, Ok};
+ghost use Rattle.rpki_contents.specs.RoaView.{found_of};
+ghost use Rattle.rpki_c.specs.Roa.{roa_part_number, passed, IsRoaRead, IsAddressTaken};
 
 use crate::block_texts::family_of;
 use crate::ip_blocks::octets_of;
@@ -39,14 +38,13 @@ pub(crate) fn roa_part_number(part: RoaPart) -> u8
     }
 }
 
-/// The parts of the attestation that the octets are.
-fn roa_of<'a>(octets: &'a [u8], strict: bool, found: RoaView<'a>) -> RoaParts<'a>
-    requires { (x : AttestationParts) × IsRoaAt strict octets.now found x }
-    ensures { HasRoa strict octets.now result }
+/// The parts of the attestation.
+fn roa_of<'a>(found: RoaView<'a>) -> RoaParts<'a>
+    ensures { Ok (passed result) ≡ found_of (Ok found.entry) }
 {
     RoaParts {
-        v4: Span::of(found.v4.octets),
-        v6: Span::of(found.v6.octets),
+        v4: Span::of(found.v4),
+        v6: Span::of(found.v6),
         v4_count: found.v4_count,
         v6_count: found.v6_count,
         as_id: found.as_id,
@@ -64,7 +62,7 @@ pub extern "C" fn rpki_roa<'a>(octets: &'a [u8], strict: bool, out: &mut RoaPart
 {
     match RoaView::read(octets, strict) {
         Ok(found) => {
-            *out = roa_of(octets, strict, found);
+            *out = roa_of(found);
             0
         }
         Err(part) => roa_part_number(part),

@@ -1,39 +1,24 @@
 -- What the function finds of an attestation of providers is one, in the words of its grammar.
-use Rattle.std.proofs.Common.{◌≡◌, ◌≢◌, ◌^◌, ◌+◌, ◌++◌, ℕ, zero, suc, Bool, true, false, List, [], ◌∷◌, Option, None}
-use Rattle.std.proofs.Common.{Some, length}
-use Rattle.std.proofs.Common.{Result, Ok, Err, refl, sym, ap, subst, arith, ◌&&◌, nat_lt, nat_eq, if◌then◌else◌, ◌∙◌}
+use Rattle.std.proofs.Common.{◌≡◌, ◌≢◌, ◌+◌, ◌++◌, ℕ, zero, suc, true, List, [], ◌∷◌, Option, None}
+use Rattle.std.proofs.Common.{Some, length, Ok, Err, refl, sym, subst, arith, ◌&&◌, nat_lt, nat_eq, if◌then◌else◌}
 use Rattle.std.specs.Prelude.{not}
-use Rattle.std.proofs.lemmas.Bool.{eq-eqb, false≢true}
-use borrow.Author.Tests.{ltb-true}
-use Rattle.std.proofs.lemmas.List.{append-nil}
-use Rattle.rpki_der.specs.Prelude.{integer, sequence, IsUnsignedBelow, IsNumber, Spells, SpellsContents}
+use Rattle.std.proofs.lemmas.Bool.{eq-eqb, false≢true, ltb-true}
+use Rattle.rpki_der.specs.Prelude.{integer, sequence, IsNumber, Spells}
 use Rattle.rpki_der.proofs.StepLaws.{IsBytes}
-use Rattle.rpki_parse.specs.Words.{bind, named}
 use Rattle.rpki_parse.specs.Value.{ended, value_at}
-use Rattle.rpki_parse.specs.Leaf.{leaf_at, number_in, below_in}
+use Rattle.rpki_parse.specs.Leaf.{leaf_at, number_in}
 use Rattle.rpki_parse.specs.Fold.{fold_n, fold_at}
 use Rattle.rpki_parse.proofs.ValueLaws.{and-parts}
 use Rattle.rpki_parse.proofs.LeafLaws.{contents-bytes}
-use Rattle.rpki_parse.proofs.DecisionLaws.{below_decides, number_decides}
+use Rattle.rpki_parse.proofs.DecisionLaws.{number_decides}
 use Rattle.rpki_parse.proofs.BackLaws.{value-found, leaf-found}
-use Rattle.rpki_contents.specs.Aspa.{version_tag, version, as_number, each_number, Ascend, AscendFrom, IsNoneOf}
+use Rattle.rpki_contents.specs.Aspa.{version_tag, version, each_number, Ascend, AscendFrom, IsNoneOf}
 use Rattle.rpki_contents.specs.Aspa.{AreProviders, aspa_parts, fields, fields_of}
 use Rattle.rpki_contents.specs.AspaView.{FoundAspa, is_above, number_at, provider_at, providers_at, some_provider}
 use Rattle.rpki_contents.specs.AspaView.{IsAspaOf, version_at, members, attestation}
 use Rattle.rpki_contents.specs.declared.aspa_view.AspaPart.TheVariants as P
-
-bind-ok : {A B E : Type 0} (x : Result A E) (K : A → Result B E) (y : B) → bind x K ≡ Ok y
-    → (z : A) × (x ≡ Ok z) × (K z ≡ Ok y)
-bind-ok (Ok z) K y e = (z, refl, e)
-bind-ok (Err n) K y e = absurd cc
-
-pair-ok : {A B : Type 0} (x y : A) (s r : B) → ◌≡◌ {A = Result (A × B) ℕ} (Ok (x, s)) (Ok (y, r)) → (x ≡ y) × (s ≡ r)
-pair-ok {A} {B} x y s r e =
-    let p : (x, s) ≡ (y, r) = cc in (ap (λ (q : A × B). q.0) p, ap (λ (q : A × B). q.1) p)
-
-after : (s r : List ℕ) → IsBytes (s ++ r) → IsBytes r
-after [] r h = h
-after (b ∷ s) r h = after s r (λ i. h (suc i))
+use Rattle.rpki_contents.proofs.FoundLaws.{bind-ok, ended-ok, following, if-ok, number-found, ok-is, pair-ok}
+use Rattle.rpki_contents.proofs.FoundLaws.{part-ok, whole, whole-found}
 
 -- numbers that may stand behind the last
 abbrev Behind : Option ℕ → List ℕ → Type 0
@@ -46,24 +31,6 @@ behind (Some last) n ns e h = (ltb-true last n e, h)
 
 other : (customer n : ℕ) → not (nat_eq n customer) ≡ true → customer ≢ n
 other customer n e same = absurd (false≢true (rw (eq-eqb n customer (sym same)) at e))
-
-if-ok : {A : Type 0} (b : Bool) (x : Result A ℕ) (n : ℕ) (y : A) → (if b then x else Err n) ≡ Ok y
-    → (b ≡ true) × (x ≡ Ok y)
-if-ok true x n y e = (refl, e)
-if-ok false x n y e = absurd cc
-
-named-ok : {A P : Type 0} (p : P) (x : Result A ℕ) (y : A) → named p x ≡ Ok y → x ≡ Ok y
-named-ok p (Ok z) y e = let same : z ≡ y = cc in ap (λ (w : _). Ok w) same
-named-ok p (Err n) y e = absurd cc
-
-ended-ok : (s : List ℕ) (u : Unit {0}) → ended s ≡ Ok u → s ≡ []
-unfolding ended
-ended-ok [] u e = refl
-ended-ok (x ∷ xs) u e = absurd cc
-
-number-found : (s : List ℕ) (n : ℕ) (r : List ℕ) → IsBytes s → number_at s ≡ Ok (n, r) → Spells as_number.spells s n r
-number-found s n r b e =
-    leaf-found integer (IsUnsignedBelow (2 ^ 32)) (below_in (2 ^ 32)) (below_decides (2 ^ 32)) s n r b e
 
 -- ---- providers, one after another
 
@@ -81,7 +48,7 @@ next-is customer last next s r e =
     let b = bind-ok (number_at s)
     (λ n. if is_above last n.0 && not (nat_eq n.0 customer) then Ok (Some n.0, n.1) else Err 5) (next, r) e in
     let i = if-ok _ _ _ _ b.2 in
-    let p = pair-ok (Some b.0.0) next b.0.1 r i.1 in
+    let p = pair-ok i.1 in
     let k = and-parts _ _ i.0 in
     record {
       number = b.0.0;
@@ -102,7 +69,7 @@ none-behind (Some last) = tt
 list-found : (customer fuel : ℕ) (last : Option ℕ) (k : ℕ) (s : List ℕ) (z : Option ℕ) (m : ℕ) → IsBytes s
     → fold_n (provider_at customer) fuel last k s ≡ Ok (z, m) → AreFound customer last k s m
 list-found customer fuel last k [] z m b e =
-    let p = pair-ok last z k m e in ([], refl, none-behind last, tt, omega (arith, p.1))
+    let p = pair-ok e in ([], refl, none-behind last, tt, omega (arith, p.1))
 list-found customer zero last k (x ∷ xs) z m b e = absurd cc
 list-found customer (suc fuel) last k (x ∷ xs) z m b e =
     let p = bind-ok (provider_at customer last (x ∷ xs)) (λ next.
@@ -113,8 +80,7 @@ list-found customer (suc fuel) last k (x ∷ xs) z m b e =
     let h = next-is customer last p.0.0 (x ∷ xs) p.0.1 p.1 in
     let sp = number-found (x ∷ xs) h.number p.0.1 b h.read in
     let rest = (if-ok (nat_lt (length p.0.1) (suc (length xs))) _ 6 (z, m) p.2).1 in
-    let bytes = after sp.front p.0.1 (subst IsBytes sp.parts b) in
-    let g = list-found customer fuel (Some h.number) (k + 1) p.0.1 z m bytes (rw h.is at rest) in
+    let g = list-found customer fuel (Some h.number) (k + 1) p.0.1 z m (following b sp) (rw h.is at rest) in
     (h.number ∷ g.0, (p.0.1, sp, g.1), behind last h.number g.0 h.above g.2, (h.others, g.3), omega (arith, g.4))
 
 to-providers : (customer : ℕ) (ns : List ℕ) → ns ≢ [] → Behind None ns → IsNoneOf customer ns → AreProviders customer ns
@@ -147,28 +113,15 @@ version-found s u r b e =
     let c = bind-ok (value_at version_tag true s) _ (u, r) e in
     let v = bind-ok (leaf_at integer (number_in 1) c.0.0) _ (u, r) c.2 in
     let n = bind-ok (ended v.0.1) _ (u, r) v.2 in
-    let same = pair-ok tt u c.0.1 r n.2 in
+    let same = pair-ok n.2 in
     let sp = value-found version_tag true s c.0.0 c.0.1 b c.1 in
     let inner = leaf-found integer (IsNumber 1) (number_in 1) (number_decides 1) c.0.0 v.0.0 v.0.1
     (contents-bytes version_tag true s c.0.0 c.0.1 b sp) v.1 in
-    let whole : c.0.0 ≡ inner.front = inner.parts ∙ ap (λ (q : List ℕ). inner.front ++ q) (ended-ok v.0.1 n.0 n.1)
-    ∙ append-nil inner.front in
     record {
       front = sp.front;
       parts = subst (λ (q : List ℕ). s ≡ sp.front ++ q) same.1 sp.parts;
-      spelled = record { contents = c.0.0; value = sp.spelled; spelled = rw whole inner.spelled };
+      spelled = record { contents = c.0.0; value = sp.spelled; spelled = whole (ended-ok v.0.1 n.0 n.1) inner };
     }
-
-whole-found : (s c r : List ℕ) (u : Unit {0}) → IsBytes s → value_at sequence true s ≡ Ok (c, r) → ended r ≡ Ok u
-    → SpellsContents sequence true c s
-whole-found s c r u b e f =
-    let sp = value-found sequence true s c r b e in
-    let whole : s ≡ sp.front = sp.parts ∙ ap (λ (q : List ℕ). sp.front ++ q) (ended-ok r u f) ∙ append-nil sp.front in
-    subst (λ (q : List ℕ). SpellsContents sequence true c q) (sym whole) sp.spelled
-
-value-bytes : (s c : List ℕ) → IsBytes s → SpellsContents sequence true c s → IsBytes c
-value-bytes s c b h =
-    contents-bytes sequence true s c [] b (record { front = s; parts = sym (append-nil s); spelled = h })
 
 record AreParts (c : List ℕ) (x : FoundAspa) : Type 0 where
   providers : List ℕ
@@ -179,21 +132,17 @@ record AreParts (c : List ℕ) (x : FoundAspa) : Type 0 where
 
 members-found : (c : List ℕ) (x : FoundAspa) → IsBytes c → members c ≡ Ok x → AreParts c x
 members-found c x b e =
-    let v = bind-ok (named P.Version (version_at c)) _ x e in
-    let n = bind-ok (named P.Customer (number_at v.0.1)) _ x v.2 in
-    let p = bind-ok (named P.Providers (value_at sequence true n.0.1)) _ x n.2 in
-    let z = bind-ok (named P.Providers (ended p.0.1)) _ x p.2 in
-    let k = bind-ok (named P.Providers (providers_at n.0.0 p.0.0)) _ x z.2 in
-    let is : record { customer = n.0.0; providers = p.0.0; count = k.0 } ≡ x = cc in
-    let one = version-found c v.0.0 v.0.1 b (named-ok P.Version (version_at c) v.0 v.1) in
-    let b1 = after one.front v.0.1 (subst IsBytes one.parts b) in
-    let two = number-found v.0.1 n.0.0 n.0.1 b1 (named-ok P.Customer (number_at v.0.1) n.0 n.1) in
-    let b2 = after two.front n.0.1 (subst IsBytes two.parts b1) in
-    let list = whole-found n.0.1 p.0.0 p.0.1 z.0 b2
-    (named-ok P.Providers (value_at sequence true n.0.1) p.0 p.1) (named-ok P.Providers (ended p.0.1) z.0 z.1) in
-    let g = providers-found n.0.0 p.0.0 k.0 (value-bytes n.0.1 p.0.0 b2 list)
-    (named-ok P.Providers (providers_at n.0.0 p.0.0) k.0 k.1) in
-    subst (AreParts c) is (record {
+    let v = part-ok P.Version (version_at c) _ x e in
+    let n = part-ok P.Customer (number_at v.0.1) _ x v.2 in
+    let p = part-ok P.Providers (value_at sequence true n.0.1) _ x n.2 in
+    let z = part-ok P.Providers (ended p.0.1) _ x p.2 in
+    let k = part-ok P.Providers (providers_at n.0.0 p.0.0) _ x z.2 in
+    let one = version-found c v.0.0 v.0.1 b v.1 in
+    let bytes = following b one in
+    let two = number-found v.0.1 n.0.0 n.0.1 bytes n.1 in
+    let list = whole-found n.0.1 p.0.0 p.0.1 z.0 (following bytes two) p.1 z.1 in
+    let g = providers-found n.0.0 p.0.0 k.0 list.1 k.1 in
+    subst (AreParts c) (ok-is _ _ k.2) (record {
       providers = g.0;
       spelled = record {
         first = one.front;
@@ -205,7 +154,7 @@ members-found c x b e =
           second = n.0.1;
           parts = two.parts;
           one = two.spelled;
-          two = record { contents = p.0.0; value = list; spelled = g.1 };
+          two = record { contents = p.0.0; value = list.0; spelled = g.1 };
         };
       };
       stands = g.2;
@@ -215,16 +164,15 @@ members-found c x b e =
 
 pub attestation_found : (s : List ℕ) → IsBytes s → (x : FoundAspa) → attestation s ≡ Ok x → IsAspaOf s x
 attestation_found s b x e =
-    let c = bind-ok (named P.Attestation (value_at sequence true s)) _ x e in
-    let z = bind-ok (named P.Attestation (ended c.0.1)) _ x c.2 in
-    let outer = whole-found s c.0.0 c.0.1 z.0 b
-    (named-ok P.Attestation (value_at sequence true s) c.0 c.1) (named-ok P.Attestation (ended c.0.1) z.0 z.1) in
-    let h = members-found c.0.0 x (value-bytes s c.0.0 b outer) z.2 in
+    let c = part-ok P.Attestation (value_at sequence true s) _ x e in
+    let z = part-ok P.Attestation (ended c.0.1) _ x c.2 in
+    let outer = whole-found s c.0.0 c.0.1 z.0 b c.1 z.1 in
+    let h = members-found c.0.0 x outer.1 z.2 in
     record {
       providers = h.providers;
       spelled = record {
         value = fields_of (aspa_parts x.customer h.providers);
-        spelled = record { contents = c.0.0; value = outer; spelled = h.spelled };
+        spelled = record { contents = c.0.0; value = outer.0; spelled = h.spelled };
         stands = record { same = refl; providers = h.stands };
       };
       octets = h.octets;

@@ -1,16 +1,15 @@
 -- Parts that are read in place, by readers that take no memory.
-use Rattle.std.proofs.Common.{◌≡◌, ◌≢◌, ◌<◌, ◌==◌, ℕ, Bool, true, false, List, [], ◌∷◌, length, Result, Ok, Err}
+use Rattle.std.proofs.Common.{◌≡◌, ◌≢◌, ◌<◌, ◌==◌, ℕ, Bool, true, false, List, [], ◌∷◌, length}
 use Rattle.std.proofs.Common.{Option, None, Some, refl, ap, subst, arith}
 use Rattle.std.proofs.lemmas.Bool.Decides.{nat_tests}
-use Rattle.std.specs.Prelude.{IfOk, IfErr, IfSome, IfNone}
+use Rattle.std.specs.Prelude.{IfSome}
 use Rattle.rpki_der.specs.declared.error.DecodeError.{DecodeError}
 use Rattle.rpki_der.specs.declared.error.DecodeError.TheVariants.{OutOfMemory}
 use Rattle.rpki_der.specs.Prelude.{sequence, Accepts, Refusal, Refuses, SpellsNothing, SpellsContents}
-use Rattle.rpki_der.specs.Prelude.{IsContentsFault, SpellsLeaf, IsLeafFault}
-use Rattle.rpki_der.specs.TagName.{TagName}
+use Rattle.rpki_der.specs.Prelude.{IsContentsFault}
 use Rattle.rpki_der.proofs.PartsLaws.{Kind}
 use Rattle.rpki_der.proofs.InsideLaws.{unless-memory}
-use Rattle.rpki_der.proofs.LeavesLaws.{contents-no-memory, leaf-no-memory}
+use Rattle.rpki_der.proofs.LeavesLaws.{contents-no-memory}
 use Rattle.rpki_der.proofs.ComposedLaws.{all-read, nothing-after, nothing-whole}
 use Rattle.rpki_contents.specs.InPlace.{IsSequenceOf}
 
@@ -19,15 +18,10 @@ pub refused : {V : Type 0} (G : V → List ℕ → Type 0) (K : Kind) (s r : Lis
     → (K s OutOfMemory → ⊥) → Refusal G K s r e → Refuses G s
 refused G K s r e never h = unless-memory e (λ z. never (subst (K s) z h.kind)) h.refuses
 
-pub leaf-missing : {V : Type 0} (t : TagName) (C : V → List ℕ → Type 0) (s r : List ℕ) (e : DecodeError)
-    → Refusal (SpellsLeaf t false C) (IsLeafFault t false C) s r e → Refuses (SpellsLeaf t false C) s
-leaf-missing t C s r e h =
-    refused (SpellsLeaf t false C) (IsLeafFault t false C) s r e (λ k. leaf-no-memory t false C s OutOfMemory k refl) h
-
 -- ---- a SEQUENCE that is all of s
 
 module _ (s r : List ℕ) where
-  pub contents-missing : (e : DecodeError)
+  contents-missing : (e : DecodeError)
       → Refusal (SpellsContents sequence true) (IsContentsFault sequence true) s r e
       → Refuses (SpellsContents sequence true) s
   contents-missing e h =
@@ -58,18 +52,6 @@ left-none (x ∷ xs) b e f =
 
 -- ---- what is handed on
 
-pub ok-weaker : {V E : Type 0} {P Q : V → Type 0} (x : Result V E) → ((v : V) → P v → Q v) → IfOk x P → IfOk x Q
-ok-weaker (Ok v) f h = f v h
-ok-weaker (Err e) f h = h
-
-pub err-weaker : {V E : Type 0} {P Q : E → Type 0} (x : Result V E) → ((e : E) → P e → Q e) → IfErr x P → IfErr x Q
-err-weaker (Ok v) f h = h
-err-weaker (Err e) f h = f e h
-
 pub some-weaker : {V : Type 0} {P Q : V → Type 0} (x : Option V) → ((v : V) → P v → Q v) → IfSome x P → IfSome x Q
 some-weaker None f h = h
 some-weaker (Some v) f h = f v h
-
-pub none-weaker : {V P Q : Type 0} (x : Option V) → (P → Q) → IfNone x P → IfNone x Q
-none-weaker None f h = f h
-none-weaker (Some v) f h = h

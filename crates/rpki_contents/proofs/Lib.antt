@@ -8,18 +8,17 @@
 -- What it authorizes, and whether that is within resources: OriginLaws, WithinLaws.
 -- Route origin attestations that are written: RoaWritingLaws.
 -- The providers of a customer: AspaLaws. Attestations of providers that are written: AspaWritingLaws.
--- Both in place: InPlaceLaws, AspaViewLaws, AspaFoundLaws, AddressViewLaws, FamilyViewLaws; where prefixes stand:
--- StandsLaws.
--- Values whose header is two octets: ShortLaws; prefixes and files of such: ShortAddressLaws, ShortFileLaws.
+-- Both in place: AspaViewLaws, PrefixLaws; what is found is spelled: FoundLaws, AspaFoundLaws, RoaFoundLaws.
+-- Parts of a manifest in place: InPlaceLaws.
+-- Values whose header is two octets: ShortLaws; files of such: ShortFileLaws.
 -- Lists that are written: ListedLaws.
 
-pub mod AddressViewLaws
 pub mod AspaFoundLaws
 pub mod AspaLaws
 pub mod AspaViewLaws
 pub mod AspaWritingLaws
-pub mod FamilyViewLaws
 pub mod FilesLaws
+pub mod FoundLaws
 pub mod InPlaceLaws
 pub mod InPlaceManifestLaws
 pub mod ListedLaws
@@ -29,14 +28,14 @@ pub mod ManifestWritingLaws
 pub mod NamesLaws
 pub mod OneReadingLaws
 pub mod OriginLaws
+pub mod PrefixLaws
 pub mod RoaAddressLaws
+pub mod RoaFoundLaws
 pub mod RoaLaws
 pub mod RoaWritingLaws
 pub mod RoomLaws
-pub mod ShortAddressLaws
 pub mod ShortFileLaws
 pub mod ShortLaws
-pub mod StandsLaws
 pub mod SuchLaws
 pub mod WithinLaws
 pub mod WritingLaws

@@ -1,17 +1,20 @@
 -- Prefixes of route origin attestations.
 use Rattle.std.proofs.Common.{◌≡◌, ◌≢◌, ◌^◌, ◌∙◌, ℕ, false, true, List, [], ◌∷◌, Option, None, Some}
 use Rattle.std.proofs.Common.{refl, sym, ap, subst}
-use Rattle.rpki_der.specs.Prelude.{integer, sequence, HasTag, IsUnsignedBelow, end}
-use Rattle.rpki_der.specs.Prelude.{optional_of}
-use Rattle.rpki_der.proofs.LeavesLaws.{leaf-tag}
+use Rattle.rpki_der.specs.declared.error.DecodeError.TheVariants.{OutOfMemory}
+use Rattle.rpki_der.specs.Prelude.{bit_string, integer, sequence, HasTag, IsUnsignedBelow, AtPart, Later, end}
+use Rattle.rpki_der.specs.Prelude.{optional_of, optional_then}
+use Rattle.rpki_der.proofs.FirstFaultLaws.{inside-no-memory, first-no-memory, optional-no-memory, end-no-memory}
+use Rattle.rpki_der.proofs.LeavesLaws.{leaf-no-memory, leaf-tag}
 use Rattle.rpki_der.proofs.EachLaws.{leaf-some}
 use Rattle.rpki_der.proofs.HeaderReadingLaws.{tag-empty}
 use Rattle.rpki_der.proofs.FormatLaws.{Apart, Gives}
 use Rattle.rpki_resources.specs.declared.address.Address.{Address}
-use Rattle.rpki_resources.specs.Address.{IsAddressOf}
+use Rattle.rpki_resources.specs.Address.{IsAddress, IsAddressOf}
 use Rattle.rpki_contents.specs.declared.roa_address.RoaIpAddress.{RoaIpAddress}
-use Rattle.rpki_contents.specs.RoaAddress.{IsMaxLength, Parts, parts_of, max_length, address_parts, IsRoaAddress}
-use Rattle.rpki_contents.specs.RoaAddress.{roa_address, addresses, each_address, IsAddressIn, AreAddressesIn}
+use Rattle.rpki_contents.specs.RoaAddress.{IsMaxLength, Parts, address, parts_of, max_length, address_parts}
+use Rattle.rpki_contents.specs.RoaAddress.{IsRoaAddress, roa_address, addresses, each_address, IsAddressIn}
+use Rattle.rpki_contents.specs.RoaAddress.{AreAddressesIn}
 
 -- an INTEGER that may be left out, in front of nothing more
 pub length-apart : Apart integer max_length end
@@ -45,6 +48,18 @@ module _ (w : ℕ) (x : RoaIpAddress) where
       → ⊥
   no-address none y h =
       none (subst (λ (z : RoaIpAddress). IsMaxLength w z.prefix.size z.max_length) (only-address y h) h.within)
+
+-- a prefix takes no memory
+parts-never : (w : ℕ) (c : List ℕ) → (address_parts w).fault c OutOfMemory → ⊥
+parts-never w c k =
+    first-no-memory (address w).spells (address w).fault (λ a. (optional_then integer max_length end).fault) c
+    (λ l. leaf-no-memory bit_string false (IsAddress w) c OutOfMemory l refl)
+    (λ v r l. optional-no-memory (HasTag integer) max_length.spells max_length.fault end.fault r
+    (λ m. leaf-no-memory integer false (IsUnsignedBelow (2 ^ 8)) r OutOfMemory m refl) (λ q m. end-no-memory q m) l) k
+
+pub address-never : (w : ℕ) (s : List ℕ) → (roa_address w).fault s OutOfMemory → ⊥
+address-never w s (AtPart none k) = inside-no-memory sequence true (address_parts w).fault s (parts-never w) k
+address-never w s (Later v r a l) = l.1
 
 -- no prefix is written in no octets
 pub address-some : (w : ℕ) (x : RoaIpAddress) → (roa_address w).spells x [] → ⊥

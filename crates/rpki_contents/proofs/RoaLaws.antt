@@ -38,7 +38,7 @@ families-in (x ∷ xs) p h = (family-in x h.1.front h.1.spelled, families-in xs 
 abbrev IsBoth : Both → Type 0
 IsBoth x = IsAttestation (attestation 0 x.0 x.1)
 
-alone-in : (x : Family) → IsFamilyIn x → IsBoth (alone x)
+alone-in : (x : Family) → IsFamilyIn x → IsBoth (alone [] x)
 alone-in (Ipv4, xs) h = record { v4 = h.0; v6 = tt; some = λ e f. h.1 e }
 alone-in (Ipv6, xs) h = record { v4 = tt; v6 = h.0; some = λ e f. h.1 f }
 

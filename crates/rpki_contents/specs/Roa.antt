@@ -1,6 +1,7 @@
 -- Route origin attestations (RFC 9582 4).
 use Rattle.std.specs.Prelude.{◌≡◌, ◌^◌, ℕ, Bool, true, false, List, [], ◌∷◌, Option, None, Some, map, Vec}
 use Rattle.rpki_der.specs.Prelude.{sequence, Format, around, then, only, each, such, unsigned_below}
+use Rattle.rpki_resources.specs.declared.family.AddressFamily.{AddressFamily}
 use Rattle.rpki_resources.specs.declared.family.AddressFamily.TheVariants.{Ipv4, Ipv6}
 use Rattle.rpki_contents.specs.declared.roa_address.RoaIpAddress.{RoaIpAddress}
 use Rattle.rpki_contents.specs.declared.roa_family.RoaFamily.{RoaFamily}
@@ -16,13 +17,13 @@ Both = List RoaIpAddress × List RoaIpAddress
 abbrev pub both_of : Prefixes → Both
 both_of x = (x.v4.items, x.v6.items)
 
--- those of the one family that there is
-abbrev pub alone : Family → Both
-alone (Ipv4, xs) = (xs, [])
-alone (Ipv6, xs) = ([], xs)
+-- those of the one family that there is; of the other there are none
+abbrev pub alone : {X : Type 0} → X → AddressFamily × X → X × X
+alone none (Ipv4, xs) = (xs, none)
+alone none (Ipv6, xs) = (none, xs)
 
 -- those of two families: the canonical form has IP version 4 first (RFC 9582 4.3.3), and strictly no other is taken
-abbrev pub together : Bool → Family → Family → Option Both
+abbrev pub together : {X : Type 0} → Bool → AddressFamily × X → AddressFamily × X → Option (X × X)
 together strict (Ipv4, xs) (Ipv4, ys) = None
 together strict (Ipv4, xs) (Ipv6, ys) = Some (xs, ys)
 together true (Ipv6, xs) (Ipv4, ys) = None
@@ -32,7 +33,7 @@ together strict (Ipv6, xs) (Ipv6, ys) = None
 -- those of one family or of two
 abbrev pub prefixes_in : Bool → List Family → Option Both
 prefixes_in strict [] = None
-prefixes_in strict (x ∷ []) = Some (alone x)
+prefixes_in strict (x ∷ []) = Some (alone [] x)
 prefixes_in strict (x ∷ y ∷ []) = together strict x y
 prefixes_in strict (x ∷ y ∷ z ∷ zs) = None
 

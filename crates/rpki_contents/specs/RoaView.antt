@@ -1,126 +1,137 @@
--- Route origin attestations that are read in place: what stands where, and which part is wrong.
-use Rattle.std.specs.Prelude.{◌≡◌, ℕ, Bool, true, List, [], ◌∷◌, Option, None, Some, length}
-use Rattle.rpki_der.specs.declared.section.Section.{Section}
-use Rattle.rpki_der.specs.Prelude.{sequence, Accepts, Refuses, Spells, SpellsNothing, SpellsContents, IsSectionOf}
+-- Route origin attestations that are read in place, as a function of their octets: what is found, or the leftmost part
+-- that is wrong. The parts are those of Roa.antt.
+use Rattle.std.specs.Prelude.{◌≡◌, ◌&&◌, ◌-◌, ◌*◌, ◌^◌, ℕ, Bool, true, List, [], ◌∷◌, length, Option, None, Some}
+use Rattle.std.specs.Prelude.{Result, Ok, Err, if◌then◌else◌, nat_eq, nat_le}
+use Rattle.std.specs.Str.{bytes_eq}
+use Rattle.rpki_der.specs.Prelude.{Accepts, Bits, Refuses, bit_string, integer, octet_string, sequence}
+use Rattle.rpki_parse.specs.Words.{Parser, bind, named}
+use Rattle.rpki_parse.specs.Value.{ended, value_at}
+use Rattle.rpki_parse.specs.Leaf.{below_in, bits_in, decided, leaf_at, some_if}
+use Rattle.rpki_parse.specs.Optional.{optional_at}
+use Rattle.rpki_parse.specs.Fold.{fold_at}
 use Rattle.rpki_resources.specs.declared.family.AddressFamily.{AddressFamily}
-use Rattle.rpki_resources.specs.Address.{width}
-use Rattle.rpki_contents.specs.declared.roa_address.RoaIpAddress.{RoaIpAddress}
+use Rattle.rpki_resources.specs.declared.family.AddressFamily.TheVariants.{Ipv4, Ipv6}
+use Rattle.rpki_resources.specs.Address.{family_octets, width}
 use Rattle.rpki_contents.specs.declared.family_view.BothView.{BothView}
 use Rattle.rpki_contents.specs.declared.family_view.FamilyView.{FamilyView}
+use Rattle.rpki_contents.specs.declared.roa_address.RoaIpAddress.{RoaIpAddress}
 use Rattle.rpki_contents.specs.declared.roa_view.RoaPart.{RoaPart}
 use Rattle.rpki_contents.specs.declared.roa_view.RoaPart.TheVariants as P
 use Rattle.rpki_contents.specs.declared.roa_view.RoaView.{RoaView}
-use Rattle.rpki_contents.specs.RoaAddress.{Family, each_address, addresses, family_parts, roa_family}
-use Rattle.rpki_contents.specs.Roa.{Both, together, each_family, AreFamilies, families, as_number, AttestationParts}
-use Rattle.rpki_contents.specs.Roa.{fields, fields_of, roa}
+use Rattle.rpki_contents.specs.AspaView.{number_at}
+use Rattle.rpki_contents.specs.Roa.{Both, alone, together, roa}
+use Rattle.rpki_contents.specs.RoaAddress.{each_address, roa_address}
 
--- v is spelled by s, and nothing else is
-abbrev pub IsOnly : {V : Type 0} → (V → List ℕ → Type 0) → V → List ℕ → Type 0
-IsOnly {V} G v s = G v s × ((w : V) → G w s → w ≡ v)
+-- ---- a prefix, of w bits at most (RFC 9582 4.3.2)
 
--- ---- the prefixes of one family
+-- how many bits are used
+abbrev pub size_of : Bits → ℕ
+size_of b = length b.octets * 8 - b.unused
 
--- all of s is so many prefixes for addresses of w bits, and no others; or it is none
-abbrev pub IsOfPrefixes : ℕ → List ℕ → ℕ → Type 0
-IsOfPrefixes w s n = (xs : List RoaIpAddress) × IsOnly (each_address w).spells xs s × (length xs ≡ n)
+abbrev pub max_length_at : Parser (Option ℕ)
+max_length_at = optional_at integer (leaf_at integer (below_in (2 ^ 8)))
 
--- of the prefixes that were left the first was given, and the others are left now
-abbrev pub GivesAddress : ℕ → List RoaIpAddress → Option RoaIpAddress → List ℕ → Type 0
-GivesAddress w [] found s = (found ≡ None) × (each_address w).spells [] s
-GivesAddress w (x ∷ xs) found s = (found ≡ Some x) × (each_address w).spells xs s
+-- the maximum length, where it isn't left out, is from the length of the prefix to that of an address
+abbrev pub fits : ℕ → ℕ → Option ℕ → Bool
+fits w n None = nat_le n w
+fits w n (Some most) = nat_le n most && nat_le most w
 
--- the same, whatever prefixes s was before
-abbrev pub GivesNext : ℕ → List ℕ → Option RoaIpAddress → List ℕ → Type 0
-GivesNext w s found r = (xs : List RoaIpAddress) → (each_address w).spells xs s → GivesAddress w xs found r
+unfoldable pub prefix_at : ℕ → Parser (Unit {0})
+prefix_at w s =
+    bind (value_at sequence true s) (λ c.
+    bind (leaf_at bit_string bits_in c.0) (λ b.
+    bind (max_length_at b.1) (λ m.
+    bind (ended m.1) (λ _.
+    if fits w (size_of b.0) m.0 then Ok (tt, c.1) else Err 5))))
 
--- the octets of the prefixes of this family are those of v, and as many
-pub record IsFamilyAt (v : FamilyView) (x : Family) : Type 0 where
-  pub family : v.family ≡ x.0
-  pub addresses : (each_address (width x.0)).spells x.1 v.addresses.octets.now
-  pub count : length x.1 ≡ v.count
+-- all of s is prefixes: how many they are, one at least
+unfoldable pub count_at : ℕ → List ℕ → Result ℕ ℕ
+count_at w s = bind (fold_at (λ _. prefix_at w) tt s) (λ n. if nat_eq n.1 0 then Err 5 else Ok n.1)
 
--- all of s is a list of prefixes of the family f, one at least, and of no others; v has these
-abbrev pub AreAddressesAt : AddressFamily → List ℕ → FamilyView → Type 0
-AreAddressesAt f s v = (xs : List RoaIpAddress) × IsOnly (addresses (width f)).spells xs s × IsFamilyAt v (f, xs)
+-- ---- the prefixes of each family (RFC 9582 4.3.1)
 
--- all of c is the parts of one family
-abbrev pub IsFamilyIn : List ℕ → FamilyView → Type 0
-IsFamilyIn c v = (x : Family) × IsOnly family_parts.spells x c × IsFamilyAt v x
+-- the octets of prefixes, one after another, and how many they are
+pub record Listed : Type 0 where
+  pub octets : List ℕ
+  pub count : ℕ
 
--- a reader of one family found s and left r
-abbrev pub TakesFamily : List ℕ → List ℕ → Option FamilyView → Type 0
-TakesFamily s r (Some v) = (x : Family) × Accepts roa_family.spells s x r × IsFamilyAt v x
-TakesFamily s r None = Refuses roa_family.spells s
+abbrev pub listed : List ℕ → ℕ → Listed
+listed s n = record { octets = s; count = n }
 
--- wherever m stands, followed by so many octets, the section stands
-abbrev pub StandsWith : List ℕ → ℕ → Section → Type 0
-StandsWith m following p = (s : List ℕ) → IsSectionOf s m following → IsSectionOf s p.octets.now p.following
+-- 00 01 or 00 02
+abbrev pub family_in : List ℕ → Option AddressFamily
+family_in c = if bytes_eq c (family_octets Ipv4) then Some Ipv4 else some_if (bytes_eq c (family_octets Ipv6)) Ipv6
+
+unfoldable pub family_at : Parser (AddressFamily × Listed)
+family_at s =
+    bind (value_at sequence true s) (λ c.
+    bind (leaf_at octet_string family_in c.0) (λ f.
+    bind (value_at sequence true f.1) (λ a.
+    bind (ended a.1) (λ _.
+    bind (count_at (width f.0) a.0) (λ n. Ok ((f.0, listed a.0 n), c.1))))))
+
+-- one more, where something is left
+abbrev pub one_more : {V : Type 0} → Parser V → Parser (Option V)
+one_more p [] = Ok (None, [])
+one_more p (x ∷ xs) = bind (p (x ∷ xs)) (λ v. Ok (Some v.0, v.1))
+
+abbrev pub in_order : Bool → AddressFamily × Listed → Option (AddressFamily × Listed) → Option (Listed × Listed)
+in_order strict x None = Some (alone (listed [] 0) x)
+in_order strict x (Some y) = together strict x y
+
+-- a SEQUENCE of one family or of two
+unfoldable pub blocks_at : Bool → Parser (Listed × Listed)
+blocks_at strict s =
+    bind (value_at sequence true s) (λ c.
+    bind (family_at c.0) (λ x.
+    bind (one_more family_at x.1) (λ y.
+    bind (ended y.1) (λ _. decided (in_order strict x.0 y.0) c.1))))
+
+abbrev pub family_of : FamilyView → AddressFamily × Listed
+family_of v = (v.family, listed v.addresses.now v.count)
+
+abbrev pub both_of : BothView → Listed × Listed
+both_of v = (listed v.v4.now v.v4_count, listed v.v6.now v.v6_count)
 
 -- ---- the whole
 
--- the prefixes of both families stand in s
-abbrev pub BothStand : List ℕ → BothView → Type 0
-BothStand s v = IsSectionOf s v.v4.octets.now v.v4.following × IsSectionOf s v.v6.octets.now v.v6.following
+-- what is found
+pub record FoundRoa : Type 0 where
+  pub as_id : ℕ
+  pub v4 : Listed
+  pub v6 : Listed
 
--- the same, where the prefixes of each of two families stand in s
-abbrev pub StandTogether : FamilyView → FamilyView → BothView → Type 0
-StandTogether first second v =
-    (s : List ℕ) → IsSectionOf s first.addresses.octets.now first.addresses.following
-    → IsSectionOf s second.addresses.octets.now second.addresses.following → BothStand s v
+abbrev pub found : ℕ → Listed × Listed → FoundRoa
+found n x = record { as_id = n; v4 = x.0; v6 = x.1 }
 
--- the prefixes of an attestation stand in s
-abbrev pub PrefixesStand : List ℕ → RoaView → Type 0
-PrefixesStand s v = IsSectionOf s v.v4.octets.now v.v4.following × IsSectionOf s v.v6.octets.now v.v6.following
+abbrev pub found_of : Result RoaView RoaPart → Result FoundRoa RoaPart
+found_of (Ok v) = Ok (found v.as_id (listed v.v4.now v.v4_count, listed v.v6.now v.v6_count))
+found_of (Err q) = Err q
 
--- the octets of the prefixes of both families, and how many they are
-pub record AreBothAt (x : Both) (v4 v6 : List ℕ) (n4 n6 : ℕ) : Type 0 where
-  pub in_v4 : (each_address 32).spells x.0 v4
-  pub in_v6 : (each_address 128).spells x.1 v6
-  pub v4_count : length x.0 ≡ n4
-  pub v6_count : length x.1 ≡ n6
+-- RouteOriginAttestation: all of s. Strictly, IP version 4 is in front of IP version 6.
+abbrev pub route_origin : Bool → List ℕ → Result FoundRoa RoaPart
+route_origin strict s =
+    bind (named P.Attestation (value_at sequence true s)) (λ c.
+    bind (named P.Attestation (ended c.1)) (λ _.
+    bind (named P.AsId (number_at c.0)) (λ n.
+    bind (named P.AddressBlocks (blocks_at strict n.1)) (λ x.
+    bind (named P.AddressBlocks (ended x.1)) (λ _. Ok (found n.0 x.0))))))
 
--- those of v
-abbrev pub AreIn : Both → BothView → Type 0
-AreIn x v = AreBothAt x v.v4.octets.now v.v6.octets.now v.v4_count v.v6_count
+-- the octets are these prefixes, and as many
+pub record AreListed (w : ℕ) (xs : List RoaIpAddress) (x : Listed) : Type 0 where
+  pub spelled : (each_address w).spells xs x.octets
+  pub count : length xs ≡ x.count
 
--- v has those of the families of c, of which this is taken
-abbrev pub AreFamiliesIn : Bool → List ℕ → BothView → Type 0
-AreFamiliesIn strict c v =
-    (xs : List Family) × (x : Both) × each_family.spells xs c × AreFamilies strict x xs × AreIn x v
+-- s is an attestation in the words of its grammar (Roa.antt), x are its number and the octets of its prefixes
+pub record IsRoaOf (strict : Bool) (s : List ℕ) (x : FoundRoa) : Type 0 where
+  pub prefixes : Both
+  pub spelled : (roa strict).spells (x.as_id, prefixes) s
+  pub v4 : AreListed 32 prefixes.0 x.v4
+  pub v6 : AreListed 128 prefixes.1 x.v6
 
--- nothing is taken of families that are all of c
-abbrev pub HasNoFamilies : Bool → List ℕ → Type 0
-HasNoFamilies strict c = (xs : List Family) (x : Both) → each_family.spells xs c → AreFamilies strict x xs → ⊥
+-- ---- a cursor over prefixes
 
--- all of s is a list of families, and v has the octets of their prefixes
-abbrev pub AreBlocksAt : Bool → List ℕ → BothView → Type 0
-AreBlocksAt strict s v = (x : Both) × (families strict).spells x s × AreIn x v
-
--- the octets of v are those of what two families are together
-abbrev pub AreTogetherAt : Bool → FamilyView → FamilyView → BothView → Type 0
-AreTogetherAt strict first second v =
-    (x y : Family) → IsFamilyAt first x → IsFamilyAt second y
-    → (b : Both) × (together strict x y ≡ Some b) × AreIn b v
-
--- the attestation x is all of s, and the octets are those of its prefixes, and as many
-pub record IsRoaAt (strict : Bool) (s : List ℕ) (v : RoaView) (x : AttestationParts) : Type 0 where
-  pub spelled : (roa strict).spells (fields_of x) s
-  pub as_id : v.as_id ≡ x.as_id
-  pub prefixes : AreBothAt (x.v4, x.v6) v.v4.octets.now v.v6.octets.now v.v4_count v.v6_count
-
--- the same of the parts, which are all of c
-abbrev pub AreRoaParts : Bool → List ℕ → RoaView → Type 0
-AreRoaParts strict c v =
-    (x : Both) × (fields strict).spells (v.as_id, x) c
-    × AreBothAt x v.v4.octets.now v.v6.octets.now v.v4_count v.v6_count
-
--- all of c is to be the parts: the leftmost that is wrong
-pub data AreRoaPartsWrong (strict : Bool) (c : List ℕ) (q : RoaPart) : Type 0 where
-  NoAsId : Refuses as_number.spells c → q ≡ P.AsId → AreRoaPartsWrong strict c q
-  NoFamilies : (n : ℕ) (r : List ℕ) → Spells as_number.spells c n r → SpellsNothing (families strict).spells r
-      → q ≡ P.AddressBlocks → AreRoaPartsWrong strict c q
-
--- all of s is to be an attestation: the SEQUENCE around all, and then its parts
-pub data IsRoaWrong (strict : Bool) (s : List ℕ) (q : RoaPart) : Type 0 where
-  NoRoa : SpellsNothing (SpellsContents sequence true) s → q ≡ P.Attestation → IsRoaWrong strict s q
-  InRoa : (c : List ℕ) → SpellsContents sequence true c s → AreRoaPartsWrong strict c q → IsRoaWrong strict s q
+-- the prefix in front, and no other, and what follows it; none where there is none, and then nothing is read
+abbrev pub Gives : ℕ → List ℕ → Option RoaIpAddress → List ℕ → Type 0
+Gives w s (Some x) r = Accepts (roa_address w).spells s x r
+Gives w s None r = Refuses (roa_address w).spells s × (r ≡ s)

@@ -1,18 +1,17 @@
 //! The prefixes of route origin attestations by family, read in place without memory (RFC 9582 4.3).
 
-ghost use Rattle.std.specs.Prelude.{◌≡◌, List, None, ℕ, IfSome, IfNone};
-ghost use Rattle.rpki_der.specs.Prelude.{left, SpellsNothing, IsSectionOf};
-ghost use Rattle.rpki_resources.specs.Address.{width};
-ghost use Rattle.rpki_contents.specs.RoaAddress.{Family, addresses, family_parts};
-ghost use Rattle.rpki_contents.specs.Roa.{alone, families, together};
-ghost use Rattle.rpki_contents.specs.RoaView.{AreAddressesAt, AreBlocksAt, AreFamiliesIn, AreIn, AreTogetherAt};
-ghost use Rattle.rpki_contents.specs.RoaView.{HasNoFamilies, IsFamilyAt, IsFamilyIn, TakesFamily};
-ghost use Rattle.rpki_contents.specs.RoaView.{BothStand, StandsWith, StandTogether};
+ghost use Rattle.std.specs.Prelude.{◌≡◌, []};
+ghost use Rattle.rpki_der.specs.Prelude.{left, octet_string, optional_of};
+ghost use Rattle.rpki_parse.specs.Words.{parsed};
+ghost use Rattle.rpki_parse.specs.Leaf.{leaf_at};
+ghost use Rattle.rpki_contents.specs.Roa.{alone, together};
+ghost use Rattle.rpki_contents.specs.RoaView.{blocks_at, both_of, family_at, family_in, family_of, in_order};
+ghost use Rattle.rpki_contents.specs.RoaView.{listed, one_more};
 
-use crate::addresses::count_addresses;
-use crate::inside::inside;
-use rpki_der::{Constructed, Section};
-use rpki_resources::{AddressFamily, take_family};
+use crate::addresses::count_prefixes;
+use rpki_der::{Constructed, DecodeError};
+use rpki_parse::{finish, take_octets, take_sequence};
+use rpki_resources::AddressFamily;
 
 /// One family, whose prefixes are borrowed from the octets that they were read from.
 #[derive(Clone, Copy)]
@@ -20,7 +19,7 @@ pub(crate) struct FamilyView<'a> {
     /// The family.
     pub(crate) family: AddressFamily,
     /// The prefixes, one after another.
-    pub(crate) addresses: Section<'a>,
+    pub(crate) addresses: &'a [u8],
     /// How many prefixes there are.
     pub(crate) count: usize,
 }
@@ -29,88 +28,86 @@ pub(crate) struct FamilyView<'a> {
 #[derive(Clone, Copy)]
 pub(crate) struct BothView<'a> {
     /// Those of IP version 4.
-    pub(crate) v4: Section<'a>,
+    pub(crate) v4: &'a [u8],
     /// Those of IP version 6.
-    pub(crate) v6: Section<'a>,
+    pub(crate) v6: &'a [u8],
     /// How many prefixes of IP version 4 there are.
     pub(crate) v4_count: usize,
     /// How many prefixes of IP version 6 there are.
     pub(crate) v6_count: usize,
 }
 
-/// The prefixes of the family, whose list is all that is left: one at least; so many octets follow them.
-fn read_addresses<'a>(
-    rest: Constructed<'a>,
-    family: AddressFamily,
-    following: usize,
-) -> Option<FamilyView<'a>>
-    ensures some { IfSome result (λ v. AreAddressesAt family (left rest.entry) v) }
-    ensures stand { IfSome result (λ v. StandsWith (left rest.entry) following v.addresses) }
-    ensures none { IfNone result (SpellsNothing (addresses (width family)).spells (left rest.entry)) }
+/// The family that the octets name.
+#[inline(always)]
+fn family_of(octets: &[u8]) -> Option<AddressFamily>
+    ensures { result ≡ family_in octets.now }
 {
-    match inside(rest) {
-        Some(contents) => {
-            if contents.is_empty() {
-                return None;
-            }
-            let octets = contents.rest();
-            match count_addresses(octets, family) {
-                Some(count) => Some(FamilyView {
-                    family,
-                    addresses: Section { octets, following },
-                    count,
-                }),
-                None => None,
-            }
-        }
-        None => None,
+    match octets {
+        [0, 1] => Some(AddressFamily::Ipv4),
+        [0, 2] => Some(AddressFamily::Ipv6),
+        _ => None,
     }
 }
 
-/// The name of a family and its prefixes, which are all that is left; so many octets follow them.
-fn read_family<'a>(contents: Constructed<'a>, following: usize) -> Option<FamilyView<'a>>
-    ensures some { IfSome result (λ v. IsFamilyIn (left contents.entry) v) }
-    ensures stand { IfSome result (λ v. StandsWith (left contents.entry) following v.addresses) }
-    ensures none { IfNone result (SpellsNothing family_parts.spells (left contents.entry)) }
+/// The name of a family.
+#[inline(always)]
+#[tactic(auto, unfolding(rpki_parse::specs::Leaf::leaf_at))]
+fn take_name(cons: &mut Constructed<'_>) -> Result<AddressFamily, DecodeError>
+    ensures { parsed (λ x. x) result (left cons.new) ≡ leaf_at octet_string family_in (left cons.old) }
 {
-    let mut rest = contents;
-    let family = match take_family(&mut rest) {
-        Ok(family) => family,
-        Err(_) => return None,
-    };
-    read_addresses(rest, family, following)
+    let octets = take_octets(cons)?;
+    match family_of(octets) {
+        Some(family) => Ok(family),
+        None => Err(DecodeError::content("unknown address family")),
+    }
 }
 
 /// A SEQUENCE of the name of a family and of its prefixes.
-fn take_family_view<'a>(cons: &mut Constructed<'a>) -> Option<FamilyView<'a>>
-    ensures taken { TakesFamily (left cons.old) (left cons.new) result }
-    ensures stand { IfSome result (λ v. IsSectionOf (left cons.old) v.addresses.octets.now v.addresses.following) }
+#[inline(always)]
+#[tactic(auto, unfolding(crate::specs::RoaView::family_at))]
+fn take_family_view<'a>(cons: &mut Constructed<'a>) -> Result<FamilyView<'a>, DecodeError>
+    ensures { parsed family_of result (left cons.new) ≡ family_at (left cons.old) }
 {
-    match cons.take_sequence() {
-        Ok(contents) => read_family(contents, cons.rest().len()),
-        Err(_) => None,
+    let mut after = *cons;
+    let mut contents = take_sequence(&mut after)?;
+    let family = take_name(&mut contents)?;
+    let listed = take_sequence(&mut contents)?;
+    finish(contents)?;
+    let count = count_prefixes(listed, family)?;
+    *cons = after;
+    Ok(FamilyView {
+        family,
+        addresses: listed.rest(),
+        count,
+    })
+}
+
+/// The same, where something is left.
+#[inline(always)]
+fn take_opt_family<'a>(cons: &mut Constructed<'a>) -> Result<Option<FamilyView<'a>>, DecodeError>
+    ensures { parsed (optional_of family_of) result (left cons.new) ≡ one_more family_at (left cons.old) }
+{
+    if cons.is_empty() {
+        return Ok(None);
     }
+    let found = take_family_view(cons)?;
+    Ok(Some(found))
 }
 
 /// The prefixes of the one family that there is.
-fn alone_view<'a>(only: FamilyView<'a>) -> BothView<'a>
-    ensures both { (x : Family) → IsFamilyAt only.entry x → AreIn (alone x) result }
-    ensures stand { (s : List ℕ) → IsSectionOf s only.entry.addresses.octets.now only.entry.addresses.following
-        → BothStand s result }
+#[inline(always)]
+fn alone<'a>(only: FamilyView<'a>) -> BothView<'a>
+    ensures { both_of result ≡ alone (listed [] 0) (family_of only.entry) }
 {
-    let nothing = Section {
-        octets: &[],
-        following: 0,
-    };
     match only.family {
         AddressFamily::Ipv4 => BothView {
             v4: only.addresses,
-            v6: nothing,
+            v6: &[],
             v4_count: only.count,
             v6_count: 0,
         },
         AddressFamily::Ipv6 => BothView {
-            v4: nothing,
+            v4: &[],
             v6: only.addresses,
             v4_count: 0,
             v6_count: only.count,
@@ -119,75 +116,67 @@ fn alone_view<'a>(only: FamilyView<'a>) -> BothView<'a>
 }
 
 /// The prefixes of two families: one of each, and where it is `strict`, IP version 4 first.
-fn together_view<'a>(
+#[inline(always)]
+fn together<'a>(strict: bool, first: FamilyView<'a>, second: FamilyView<'a>) -> Option<BothView<'a>>
+    ensures { optional_of both_of result ≡ together strict (family_of first.entry) (family_of second.entry) }
+{
+    match (first.family, second.family) {
+        (AddressFamily::Ipv4, AddressFamily::Ipv6) => Some(BothView {
+            v4: first.addresses,
+            v6: second.addresses,
+            v4_count: first.count,
+            v6_count: second.count,
+        }),
+        (AddressFamily::Ipv6, AddressFamily::Ipv4) => {
+            if strict {
+                return None;
+            }
+            Some(BothView {
+                v4: second.addresses,
+                v6: first.addresses,
+                v4_count: second.count,
+                v6_count: first.count,
+            })
+        }
+        _ => None,
+    }
+}
+
+/// The prefixes of one family or of two.
+#[inline(always)]
+fn in_order<'a>(
     strict: bool,
     first: FamilyView<'a>,
-    second: FamilyView<'a>,
+    second: Option<FamilyView<'a>>,
 ) -> Option<BothView<'a>>
-    ensures some { IfSome result (λ v. AreTogetherAt strict first.entry second.entry v) }
-    ensures stand { IfSome result (λ v. StandTogether first.entry second.entry v) }
-    ensures none { IfNone result ((x y : Family) → IsFamilyAt first.entry x → IsFamilyAt second.entry y
-        → together strict x y ≡ None) }
+    ensures { optional_of both_of result
+        ≡ in_order strict (family_of first.entry) (optional_of family_of second.entry) }
 {
-    match first.family {
-        AddressFamily::Ipv4 => match second.family {
-            AddressFamily::Ipv4 => None,
-            AddressFamily::Ipv6 => Some(BothView {
-                v4: first.addresses,
-                v6: second.addresses,
-                v4_count: first.count,
-                v6_count: second.count,
-            }),
-        },
-        AddressFamily::Ipv6 => match second.family {
-            AddressFamily::Ipv4 => {
-                if strict {
-                    return None;
-                }
-                Some(BothView {
-                    v4: second.addresses,
-                    v6: first.addresses,
-                    v4_count: second.count,
-                    v6_count: first.count,
-                })
-            }
-            AddressFamily::Ipv6 => None,
-        },
+    match second {
+        Some(second) => together(strict, first, second),
+        None => Some(alone(first)),
     }
 }
 
-/// The prefixes of one family or of two, which are all that is left.
-fn read_families<'a>(contents: Constructed<'a>, strict: bool) -> Option<BothView<'a>>
-    ensures some { IfSome result (λ v. AreFamiliesIn strict (left contents.entry) v) }
-    ensures stand { IfSome result (λ v. BothStand (left contents.entry) v) }
-    ensures none { IfNone result (HasNoFamilies strict (left contents.entry)) }
+/// A SEQUENCE of one family or of two.
+#[inline(always)]
+#[tactic(auto, unfolding(crate::specs::RoaView::blocks_at))]
+pub(crate) fn take_blocks<'a>(
+    cons: &mut Constructed<'a>,
+    strict: bool,
+) -> Result<BothView<'a>, DecodeError>
+    ensures { parsed both_of result (left cons.new) ≡ blocks_at strict (left cons.old) }
 {
-    let mut rest = contents;
-    let first = match take_family_view(&mut rest) {
-        Some(first) => first,
-        None => return None,
-    };
-    if rest.is_empty() {
-        return Some(alone_view(first));
-    }
-    let second = match take_family_view(&mut rest) {
-        Some(second) => second,
-        None => return None,
-    };
-    if !rest.is_empty() {
-        return None;
-    }
-    together_view(strict, first, second)
-}
-
-/// The prefixes of both families, whose list is all that is left.
-pub(crate) fn read_blocks<'a>(rest: Constructed<'a>, strict: bool) -> Option<BothView<'a>>
-    ensures some { IfSome result (λ v. AreBlocksAt strict (left rest.entry) v) }
-    ensures stand { IfSome result (λ v. BothStand (left rest.entry) v) }
-    ensures none { IfNone result (SpellsNothing (families strict).spells (left rest.entry)) }
-{
-    match inside(rest) {
-        Some(contents) => read_families(contents, strict),
-        None => None,
+    let mut after = *cons;
+    let mut families = take_sequence(&mut after)?;
+    let first = take_family_view(&mut families)?;
+    let second = take_opt_family(&mut families)?;
+    finish(families)?;
+    match in_order(strict, first, second) {
+        Some(both) => {
+            *cons = after;
+            Ok(both)
+        }
+        None => Err(DecodeError::content("invalid address families")),
     }
 }

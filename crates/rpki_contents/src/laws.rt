@@ -1,7 +1,7 @@
 //! Laws of the definitions. A law over definitions alone is a function that does nothing; a law of a call makes that
 //! call. The contract is the law.
 
-ghost use Rattle.std.specs.Prelude.{◌≡◌, ◌↔◌, ℕ, List, IsTrue, Ok};
+ghost use Rattle.std.specs.Prelude.{◌≡◌, ◌↔◌, ℕ, Bool, List, IsTrue, Ok};
 ghost use Rattle.rpki_contents.specs.AspaView.{FoundAspa, IsAspaOf, attestation};
 ghost use Rattle.rpki_contents.specs.declared.aspa_view.AspaPart.{AspaPart as WrongAspa};
 ghost use Rattle.rpki_contents.specs.declared.manifest_part.ManifestPart.{ManifestPart as WrongManifest};
@@ -12,6 +12,7 @@ ghost use Rattle.rpki_contents.specs.declared.route_origin.FriendlyRoaIpAddress.
 ghost use Rattle.rpki_contents.specs.declared.route_origin.RouteOrigin.{RouteOrigin as Origin};
 ghost use Rattle.rpki_contents.specs.ListedFile.{ListedFile, AreDistinct};
 ghost use Rattle.rpki_contents.specs.ManifestView.{IsDecodedAs, IsManifestAt, IsManifestWrong, IsNotDecoded, parts_in};
+ghost use Rattle.rpki_contents.specs.RoaView.{FoundRoa, IsRoaOf, route_origin};
 
 use crate::aspa_view::AspaPart;
 use crate::manifest::ManifestContent;
@@ -44,6 +45,14 @@ pub fn manifests_in_place_are_decoded(
 /// octets there are.
 pub fn attestations_in_place_are_spelled(octets: &[u8]) -> usize
     ensures { (x : FoundAspa) → attestation octets.now ≡ Ok x → IsAspaOf octets.now x }
+{
+    octets.len()
+}
+
+/// What [RoaView::read](crate::RoaView::read) finds is an attestation, in the words of its grammar: returns how many
+/// octets there are.
+pub fn route_origins_in_place_are_spelled(octets: &[u8]) -> usize
+    ensures { (strict : Bool) (x : FoundRoa) → route_origin strict octets.now ≡ Ok x → IsRoaOf strict octets.now x }
 {
     octets.len()
 }

@@ -129,7 +129,7 @@ fn take_any_families(
 
 /// The prefixes of the one family that there is.
 fn alone(alloc: Global, only: RoaFamily) -> Prefixes
-    ensures { both_of result ≡ alone (family_of only) }
+    ensures { both_of result ≡ alone [] (family_of only) }
 {
     match only.family {
         AddressFamily::Ipv4 => Prefixes {

@@ -5,12 +5,10 @@ use Rattle.rpki_cert.specs.declared.read.view.CertView.{CertView}
 use Rattle.rpki_cert.specs.Cert.{CertParts}
 use Rattle.rpki_cert.specs.View.{IsCertAt, IsCertWrong}
 use Rattle.rpki_contents.specs.declared.manifest_view.ManifestView.{ManifestView}
-use Rattle.rpki_contents.specs.declared.roa_view.RoaView.{RoaView}
 use Rattle.rpki_contents.specs.AspaView.{FoundAspa, attestation}
 use Rattle.rpki_contents.specs.ListedFile.{ListedFile}
 use Rattle.rpki_contents.specs.ManifestView.{IsManifestAt, IsManifestWrong}
-use Rattle.rpki_contents.specs.Roa.{AttestationParts}
-use Rattle.rpki_contents.specs.RoaView.{IsRoaAt, IsRoaWrong}
+use Rattle.rpki_contents.specs.RoaView.{FoundRoa, route_origin}
 use Rattle.rpki_objects.specs.declared.crl_view.CrlView.{CrlView}
 use Rattle.rpki_objects.specs.declared.object_part.ObjectPart.{ObjectPart}
 use Rattle.rpki_objects.specs.declared.signed_object_view.SignedObjectView.{SignedObjectView}
@@ -39,7 +37,7 @@ abbrev pub ReadsManifest : List ℕ → Type 0
 ReadsManifest octets = (v : ManifestView) × (xs : List ListedFile) × IsManifestAt octets v xs
 
 abbrev pub ReadsOrigins : List ℕ → Type 0
-ReadsOrigins octets = (v : RoaView) × (x : AttestationParts) × IsRoaAt false octets v x
+ReadsOrigins octets = (x : FoundRoa) × (route_origin false octets ≡ Ok x)
 
 abbrev pub ReadsProviders : List ℕ → Type 0
 ReadsProviders octets = (x : FoundAspa) × (attestation octets ≡ Ok x)
@@ -49,7 +47,7 @@ abbrev pub IsFilesPart : List ℕ → Option Place → Type 0
 IsFilesPart = IsPart ReadsManifest IsManifestWrong P.Manifest
 
 abbrev pub IsOriginsPart : List ℕ → Option Place → Type 0
-IsOriginsPart = IsPart ReadsOrigins (IsRoaWrong false) P.Origins
+IsOriginsPart = IsPart ReadsOrigins (λ octets q. route_origin false octets ≡ Err q) P.Origins
 
 abbrev pub IsProvidersPart : List ℕ → Option Place → Type 0
 IsProvidersPart = IsPart ReadsProviders (λ octets q. attestation octets ≡ Err q) P.Providers
