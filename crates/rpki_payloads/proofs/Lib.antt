@@ -1,6 +1,7 @@
 -- Which lemma file answers which question.
 --
--- Whether a payload is among others: AloneLaws. Rows that another validator wrote: ListedLaws.
+-- Whether a payload is among others: AloneLaws. Rows that another validator wrote: ListedLaws. What is found, and that
+-- there is nothing else: FindsLaws.
 -- That payloads which compare as equal are one, and which are among converted ones: OrderLaws. The providers of a
 -- customer together: VapLaws.
 -- What is among a list, one by one: AmongLaws. The latest end of a payload: TimedLaws. Local exceptions, and how many
@@ -9,6 +10,7 @@
 mod AloneLaws
 mod AmongLaws
 pub mod ExceptionLaws
+mod FindsLaws
 mod ListedLaws
 mod MemberLaws
 mod MetricLaws

@@ -15,7 +15,7 @@ size-view [] = refl
 size-view (e ∷ es) = ap suc (size-view es)
 
 -- R is true of what f makes of each
-each-map : {A B C : Type 0} (f : A → B) (R : B → C → Type 0) (xs : List A) (ys : List C)
+pub each-map : {A B C : Type 0} (f : A → B) (R : B → C → Type 0) (xs : List A) (ys : List C)
     → AreEach (λ x. R (f x)) xs ys → AreEach R (map f xs) ys
 each-map f R [] [] h = tt
 each-map f R [] (y ∷ ys) h = absurd h

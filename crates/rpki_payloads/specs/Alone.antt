@@ -1,5 +1,5 @@
 -- What one list of payloads has, and another one has not.
-use Rattle.std.specs.Prelude.{◌&&◌, ◌++◌, ℕ, Bool, List, [], ◌==◌, codes, length, not}
+use Rattle.std.specs.Prelude.{◌&&◌, ◌++◌, ℕ, Bool, List, ◌==◌, codes, length, not}
 use Rattle.std.specs.List.{filter, flat_map, list_any}
 use Rattle.std.specs.Ordering.{is_eq}
 use Rattle.rpki_payloads.specs.declared.vrp.Vrp.{Vrp}

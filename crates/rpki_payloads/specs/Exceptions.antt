@@ -1,5 +1,5 @@
 -- Local exceptions (RFC 8416): filters take payloads away, and assertions are added.
-use Rattle.std.specs.Prelude.{◌≡◌, ◌++◌, ℕ, List, [], ◌∷◌, None, map}
+use Rattle.std.specs.Prelude.{◌≡◌, ◌++◌, ℕ, List, [], ◌∷◌, Option, Some, None, MatchOption, map, slice_get, take}
 use Rattle.std.specs.List.{Contains}
 use Rattle.rpki_payloads.specs.declared.exceptions.Exceptions.{Exceptions}
 use Rattle.rpki_payloads.specs.Filtered.{IsKept, IsKeptTimed, left_by_all}
@@ -33,6 +33,18 @@ AreEach R [] [] = Unit {0}
 AreEach R [] (y ∷ ys) = ⊥
 AreEach R (x ∷ xs) [] = ⊥
 AreEach R (x ∷ xs) (y ∷ ys) = R x y × AreEach R xs ys
+
+-- what is found is a value of which P is true; where nothing is, there is none
+abbrev pub Finds : {X : Type 0} → (X → Type 0) → Option X → Type 0
+Finds {X} P o = MatchOption o ((x : X) → P x → ⊥) P
+
+-- each element before the one with this number, from 0 on, is R of something, and that one of nothing
+pub record IsFirstOther {A B : Type 0} (R : A → B → Type 0) (all : List A) (i : ℕ) : Type 0 where
+  pub before : List B
+  pub are : AreEach R (take i all) before
+  pub other : A
+  pub there : slice_get all i ≡ Some other
+  pub none : (y : B) → R other y → ⊥
 
 -- what is left under each locator, and then what is added
 abbrev pub AreExcepted : Exceptions → List ℕ → List PayloadParts → List PayloadParts → Type 0

@@ -1,6 +1,6 @@
 -- Files of local exceptions (RFC 8416 3): an object of JSON, of which each member is said.
 use Rattle.std.specs.Prelude.{◌≡◌, ◌≤◌, ◌<◌, ◌+◌, ◌^◌, ℕ, suc, List, [], ◌∷◌, codes, length, Option, Some, None}
-use Rattle.std.specs.Prelude.{if◌then◌else◌, IfSome, IsSome, Ok, option_and_then}
+use Rattle.std.specs.Prelude.{◌⊎◌, ⊤, if◌then◌else◌, IfSome, IsSome, IsUtf8, Ok, option_and_then}
 use Rattle.std.specs.Option.{unwrap_or, is_some}
 use Rattle.base64.specs.Engines.{url_safe_no_pad_indifferent}
 use Rattle.base64.specs.GeneralPurpose.{decode_of}
@@ -11,6 +11,8 @@ use Rattle.serde_json.specs.View.{items_of}
 use Rattle.rpki_resources.specs.declared.ip_text.Prefix.{Prefix}
 use Rattle.rpki_resources.specs.IpRead.{IsPrefixText, address_width}
 use Rattle.rpki_payloads.specs.declared.exceptions.Exceptions.{Exceptions}
+use Rattle.rpki_payloads.specs.declared.exceptions_text.ExceptionsError.{ExceptionsError}
+use Rattle.rpki_payloads.specs.declared.exceptions_text.ExceptionsError.TheVariants as E
 use Rattle.rpki_payloads.specs.declared.exceptions_text.Member.{Member}
 use Rattle.rpki_payloads.specs.declared.exceptions_text.Member.TheVariants.{Version, Filters, PrefixFilters, KeyFilters}
 use Rattle.rpki_payloads.specs.declared.exceptions_text.Member.TheVariants.{Assertions, PrefixAssertions, KeyAssertions}
@@ -18,7 +20,7 @@ use Rattle.rpki_payloads.specs.declared.filters.PrefixFilter.{PrefixFilter}
 use Rattle.rpki_payloads.specs.declared.key_filters.KeyFilter.{KeyFilter}
 use Rattle.rpki_payloads.specs.declared.router_key.RouterKey.{RouterKey}
 use Rattle.rpki_payloads.specs.declared.vrp.Vrp.{Vrp}
-use Rattle.rpki_payloads.specs.Exceptions.{AreEach}
+use Rattle.rpki_payloads.specs.Exceptions.{AreEach, IsFirstOther}
 use Rattle.rpki_payloads.specs.Vrp.{prefix_of}
 
 -- ---- members
@@ -134,19 +136,31 @@ pub record IsKeyAssertion (d : Data) (k : RouterKey) : Type 0 where
 
 -- ---- the whole (3.2)
 
+abbrev pub HasArraysOfFilters : Data → Type 0
+HasArraysOfFilters = HasOnly (codes "prefixFilters" ∷ codes "bgpsecFilters" ∷ [])
+
 pub record AreFilters (d : Data) (prefixes : List PrefixFilter) (keys : List KeyFilter) : Type 0 where
-  pub only : HasOnly (codes "prefixFilters" ∷ codes "bgpsecFilters" ∷ []) d
+  pub only : HasArraysOfFilters d
   pub of_prefixes : AreListed (codes "prefixFilters") IsPrefixFilter d prefixes
   pub of_keys : AreListed (codes "bgpsecFilters") IsKeyFilter d keys
 
+abbrev pub HasArraysOfAssertions : Data → Type 0
+HasArraysOfAssertions = HasOnly (codes "prefixAssertions" ∷ codes "bgpsecAssertions" ∷ [])
+
 pub record AreAssertions (d : Data) (vrps : List Vrp) (keys : List RouterKey) : Type 0 where
-  pub only : HasOnly (codes "prefixAssertions" ∷ codes "bgpsecAssertions" ∷ []) d
+  pub only : HasArraysOfAssertions d
   pub of_prefixes : AreListed (codes "prefixAssertions") IsPrefixAssertion d vrps
   pub of_keys : AreListed (codes "bgpsecAssertions") IsKeyAssertion d keys
 
+abbrev pub HasMembers : Data → Type 0
+HasMembers = HasOnly (codes "slurmVersion" ∷ codes "validationOutputFilters" ∷ codes "locallyAddedAssertions" ∷ [])
+
+abbrev pub IsVersionOne : Data → Type 0
+IsVersionOne d = option_and_then as_u64 (option_and_then as_number (get (codes "slurmVersion") d)) ≡ Some 1
+
 pub record AreExceptionsIn (d : Data) (e : Exceptions) : Type 0 where
-  pub only : HasOnly (codes "slurmVersion" ∷ codes "validationOutputFilters" ∷ codes "locallyAddedAssertions" ∷ []) d
-  pub version : option_and_then as_u64 (option_and_then as_number (get (codes "slurmVersion") d)) ≡ Some 1
+  pub only : HasMembers d
+  pub version : IsVersionOne d
   pub filters : Data
   pub filters_there : get (codes "validationOutputFilters") d ≡ Some filters
   pub filters_are : AreFilters filters e.prefix_filters.items e.key_filters.items
@@ -154,6 +168,64 @@ pub record AreExceptionsIn (d : Data) (e : Exceptions) : Type 0 where
   pub assertions_there : get (codes "locallyAddedAssertions") d ≡ Some assertions
   pub assertions_are : AreAssertions assertions e.vrps.items e.keys.items
 
--- the octets are the text of an object that says these exceptions
+-- the octets are the text of an object, in UTF-8, that says these exceptions
 abbrev pub AreExceptions : List ℕ → Exceptions → Type 0
-AreExceptions octets e = (d : Data) × (read_text octets ≡ Some d) × AreExceptionsIn d e
+AreExceptions octets e = IsUtf8 octets × (d : Data) × (read_text octets ≡ Some d) × AreExceptionsIn d e
+
+-- ---- what is wrong with other octets; where memory fails, nothing is said of them
+
+-- of the elements of the array of this name: the first that is R of nothing
+abbrev pub IsElementFault : {A X : Type 0} → (A → X → Type 0) → Member → List A → ExceptionsError → Type 0
+IsElementFault R m all (E.Element n i) = (n ≡ m) × IsFirstOther R all i
+IsElementFault R m all E.OutOfMemory = ⊤
+IsElementFault R m all e = ⊥
+
+-- of the array: there is none, or one of its elements is R of nothing
+abbrev pub IsArrayFault : {X : Type 0} → (Data → X → Type 0) → Member → Data → ExceptionsError → Type 0
+IsArrayFault R m d (E.Missing n) = (n ≡ m) × (option_and_then as_array (get (member_name m) d) ≡ None)
+IsArrayFault R m d (E.Element n i) =
+    (n ≡ m) × (ds : List Data) × (option_and_then as_array (get (member_name m) d) ≡ Some (items_of ds))
+    × IsFirstOther R ds i
+IsArrayFault R m d E.OutOfMemory = ⊤
+IsArrayFault R m d e = ⊥
+
+-- of two arrays, one after the other
+abbrev pub IsPairFault : {X Y : Type 0} → (Data → Type 0) → Member → (Data → X → Type 0) → Member → (Data → Y → Type 0)
+    → Member → Data → ExceptionsError → Type 0
+IsPairFault {X} Has whole R one S other d e =
+    ((Has d → ⊥) × (e ≡ E.Missing whole))
+    ⊎ (Has d
+    × (IsArrayFault R one d e ⊎ ((xs : List X) × AreListed (member_name one) R d xs × IsArrayFault S other d e)))
+
+abbrev pub IsFiltersFault : Data → ExceptionsError → Type 0
+IsFiltersFault = IsPairFault HasArraysOfFilters Filters IsPrefixFilter PrefixFilters IsKeyFilter KeyFilters
+
+abbrev pub IsAssertionsFault : Data → ExceptionsError → Type 0
+IsAssertionsFault =
+    IsPairFault HasArraysOfAssertions Assertions IsPrefixAssertion PrefixAssertions IsKeyAssertion KeyAssertions
+
+-- of filters and assertions, in this order
+abbrev pub IsPartsFault : Data → Data → ExceptionsError → Type 0
+IsPartsFault filters assertions e =
+    IsFiltersFault filters e
+    ⊎ ((prefixes : List PrefixFilter) × (keys : List KeyFilter) × AreFilters filters prefixes keys
+    × IsAssertionsFault assertions e)
+
+-- whether both are there, once the version is 1
+abbrev pub IsObjectsFault : Data → ExceptionsError → Type 0
+IsObjectsFault d e =
+    ((get (member_name Filters) d ≡ None) × (e ≡ E.Missing Filters))
+    ⊎ ((filters : Data) × (get (member_name Filters) d ≡ Some filters)
+    × (((get (member_name Assertions) d ≡ None) × (e ≡ E.Missing Assertions))
+    ⊎ ((assertions : Data) × (get (member_name Assertions) d ≡ Some assertions) × IsPartsFault filters assertions e)))
+
+abbrev pub IsExceptionsFault : Data → ExceptionsError → Type 0
+IsExceptionsFault d e =
+    ((HasMembers d → ⊥) × (e ≡ E.Members))
+    ⊎ (HasMembers d × (((IsVersionOne d → ⊥) × (e ≡ E.Missing Version)) ⊎ (IsVersionOne d × IsObjectsFault d e)))
+
+abbrev pub IsTextFault : List ℕ → ExceptionsError → Type 0
+IsTextFault octets e =
+    ((e ≡ E.Json) × (IsUtf8 octets → read_text octets ≡ None))
+    ⊎ ((e ≡ E.OutOfMemory)
+    ⊎ (IsUtf8 octets × (d : Data) × (read_text octets ≡ Some d) × IsExceptionsFault d e))

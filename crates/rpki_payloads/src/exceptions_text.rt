@@ -1,13 +1,17 @@
 //! Files of local exceptions, as they are read (RFC 8416 3).
 
-ghost use Rattle.std.specs.Prelude.{◌≡◌, true, [], ◌∷◌, ◌++◌, IfOk, IfSome, IsTrue, Some, None, codes};
-ghost use Rattle.std.specs.Prelude.{option_and_then, option_map};
-ghost use Rattle.serde_json.specs.Find.{as_array, as_number, as_u64, get};
+ghost use Rattle.std.specs.Prelude.{◌≡◌, ◌↔◌, true, false, [], ◌∷◌, ◌++◌, IfOk, IfErr, IfSome, IfNone, IsTrue, None};
+ghost use Rattle.std.specs.Prelude.{codes, option_and_then, option_map};
+ghost use Rattle.serde_json.specs.Find.{as_array, get};
 ghost use Rattle.serde_json.specs.View.{view, items_view};
 ghost use Rattle.rpki_payloads.specs.ExceptionsText.{AreAssertions, AreExceptions, AreExceptionsIn, AreFilters};
 ghost use Rattle.rpki_payloads.specs.ExceptionsText.{AreListed, IsKeyAssertion, IsKeyFilter, IsPrefixAssertion};
-ghost use Rattle.rpki_payloads.specs.ExceptionsText.{AreOctetsIn, IsMember, IsPrefixFilter, IsVrpWith, member_name};
-ghost use Rattle.rpki_payloads.specs.Exceptions.{AreEach};
+ghost use Rattle.rpki_payloads.specs.ExceptionsText.{AreOctetsIn, IsMember, IsPrefixFilter, IsVersionOne, IsVrpWith};
+ghost use Rattle.rpki_payloads.specs.ExceptionsText.{IsArrayFault, IsAssertionsFault, IsElementFault};
+ghost use Rattle.rpki_payloads.specs.ExceptionsText.{IsExceptionsFault, IsFiltersFault, IsTextFault, member_name};
+ghost use Rattle.rpki_payloads.specs.declared.exceptions_text.Member.TheVariants.{KeyAssertions, KeyFilters};
+ghost use Rattle.rpki_payloads.specs.declared.exceptions_text.Member.TheVariants.{PrefixAssertions, PrefixFilters};
+ghost use Rattle.rpki_payloads.specs.Exceptions.{AreEach, Finds};
 ghost use Rattle.rpki_payloads.specs.declared.key_filters.KeyFilter.{KeyFilter as F};
 
 use crate::covered::width_of;
@@ -15,8 +19,8 @@ use crate::exceptions::Exceptions;
 use crate::filters::PrefixFilter;
 use crate::key_filters::KeyFilter;
 use crate::members::{
-    asn_in, has_comment, has_only_four, has_only_three, has_only_two, identifier_in, longest_in,
-    octets_of, prefix_in,
+    asn_at, asn_in, has_comment, has_only_four, has_only_three, has_only_two, identifier_at,
+    identifier_in, longest_in, octets_of, prefix_at, prefix_in,
 };
 use crate::router_key::RouterKey;
 use crate::vrp::Vrp;
@@ -101,13 +105,17 @@ impl<T: Drop> From<AllocFailed<T>> for ExceptionsError {
 
 /// A filter of prefixes (RFC 8416 3.3.1). None if it is none.
 fn prefix_filter_of(value: &Value) -> Option<PrefixFilter>
-    ensures { IfSome result (IsPrefixFilter (view value.now)) }
+    ensures { Finds (IsPrefixFilter (view value.now)) result }
 {
     if !has_only_three(value, "prefix", "asn", "comment") || !has_comment(value) {
         return None;
     }
-    let prefix = prefix_in(value)?;
-    let asn = asn_in(value)?;
+    let Some(prefix) = prefix_in(value) else {
+        return None;
+    };
+    let Some(asn) = asn_in(value) else {
+        return None;
+    };
     if prefix.is_none() && asn.is_none() {
         return None;
     }
@@ -128,6 +136,7 @@ fn octets_in(identifier: Option<KeyIdentifier>) -> Option<[u8; 20]>
 fn key_filter_with(asn: Option<u32>, identifier: Option<[u8; 20]>) -> Option<KeyFilter>
     ensures value { IfSome result (λ f. (f.asn ≡ asn) × (f.identifier ≡ identifier)) }
     ensures some { IfSome result (λ _. asn ≡ None → identifier ≡ None → ⊥) }
+    ensures none { IfNone result ((asn ≡ None) × (identifier ≡ None)) }
 {
     if asn.is_none() && identifier.is_none() {
         return None;
@@ -137,7 +146,7 @@ fn key_filter_with(asn: Option<u32>, identifier: Option<[u8; 20]>) -> Option<Key
 
 /// A filter of the keys of routers (RFC 8416 3.3.2). None if it is none.
 fn key_filter_of(alloc: Global, value: &Value) -> Result<Option<KeyFilter>, AllocError>
-    ensures { IfOk result (λ o. IfSome o (IsKeyFilter (view value.now))) }
+    ensures { IfOk result (λ o. Finds (IsKeyFilter (view value.now)) o) }
 {
     if !has_only_three(value, "asn", "SKI", "comment") || !has_comment(value) {
         return Ok(None);
@@ -154,7 +163,7 @@ fn key_filter_of(alloc: Global, value: &Value) -> Result<Option<KeyFilter>, Allo
 /// The prefix that is added for this AS, where the maximum length is none below that of the prefix, nor above that of
 /// addresses.
 pub(crate) fn vrp_with(prefix: Prefix, longest: Option<u32>, as_id: u32) -> Option<Vrp>
-    ensures { IfSome result (IsVrpWith prefix longest as_id) }
+    ensures { Finds (IsVrpWith prefix longest as_id) result }
 {
     let most = match longest {
         Some(longest) => longest,
@@ -173,20 +182,26 @@ pub(crate) fn vrp_with(prefix: Prefix, longest: Option<u32>, as_id: u32) -> Opti
 
 /// A prefix that is added (RFC 8416 3.4.1). None if it is none.
 fn prefix_assertion_of(value: &Value) -> Option<Vrp>
-    ensures { IfSome result (IsPrefixAssertion (view value.now)) }
+    ensures { Finds (IsPrefixAssertion (view value.now)) result }
 {
     if !has_only_four(value, "asn", "prefix", "maxPrefixLength", "comment") || !has_comment(value) {
         return None;
     }
-    let asn = asn_in(value)??;
-    let prefix = prefix_in(value)??;
-    let longest = longest_in(value)?;
+    let Some(asn) = asn_at(value) else {
+        return None;
+    };
+    let Some(prefix) = prefix_at(value) else {
+        return None;
+    };
+    let Some(longest) = longest_in(value) else {
+        return None;
+    };
     vrp_with(prefix, longest, asn)
 }
 
 /// The member `routerPublicKey`. None if it is not there, or is no text in base 64.
 fn info_in(alloc: Global, value: &Value) -> Result<Option<Bytes>, AllocError>
-    ensures { IfOk result (λ o. IfSome o (IsMember (codes "routerPublicKey") AreOctetsIn (view value.now))) }
+    ensures { IfOk result (λ o. Finds (IsMember (codes "routerPublicKey") AreOctetsIn (view value.now)) o) }
 {
     match value.get("routerPublicKey") {
         Some(member) => match octets_of(alloc, member)? {
@@ -202,15 +217,15 @@ fn info_in(alloc: Global, value: &Value) -> Result<Option<Bytes>, AllocError>
 
 /// A key of a router that is added (RFC 8416 3.4.2). None if it is none.
 fn key_assertion_of(alloc: Global, value: &Value) -> Result<Option<RouterKey>, AllocError>
-    ensures { IfOk result (λ o. IfSome o (IsKeyAssertion (view value.now))) }
+    ensures { IfOk result (λ o. Finds (IsKeyAssertion (view value.now)) o) }
 {
     if !has_only_four(value, "asn", "SKI", "routerPublicKey", "comment") || !has_comment(value) {
         return Ok(None);
     }
-    let Some(Some(asn)) = asn_in(value) else {
+    let Some(asn) = asn_at(value) else {
         return Ok(None);
     };
-    let Some(Some(identifier)) = identifier_in(alloc, value)? else {
+    let Some(identifier) = identifier_at(alloc, value)? else {
         return Ok(None);
     };
     let Some(info) = info_in(alloc, value)? else {
@@ -237,7 +252,8 @@ pub(crate) fn elements_in<'a>(value: &'a Value, name: &str) -> Option<&'a Vec<Va
 
 /// The filters of prefixes, each in its place.
 fn prefix_filters_of(alloc: Global, values: &[Value]) -> Result<Vec<PrefixFilter>, ExceptionsError>
-    ensures { IfOk result (λ all. AreEach (λ v. IsPrefixFilter (view v)) values.now all.items) }
+    ensures ok { IfOk result (λ all. AreEach (λ v. IsPrefixFilter (view v)) values.now all.items) }
+    ensures err { IfErr result (IsElementFault (λ v. IsPrefixFilter (view v)) PrefixFilters values.now) }
 {
     let mut all = Vec::new(alloc);
     'values: for value in values {
@@ -255,8 +271,10 @@ fn push_key_filter(
     all: &mut Vec<KeyFilter>,
     value: &Value,
 ) -> Result<bool, AllocError>
-    ensures { IfOk result (λ told. told ≡ true → (f : F) × IsKeyFilter (view value.now) f
+    ensures pushed { IfOk result (λ is_one. is_one ≡ true → (f : F) × IsKeyFilter (view value.now) f
         × (all.new.items ≡ all.old.items ++ f ∷ [])) }
+    ensures none { IfOk result (λ is_one. is_one ≡ false → (all.new ≡ all.old)
+        × ((f : F) → IsKeyFilter (view value.now) f → ⊥)) }
 {
     match key_filter_of(alloc, value)? {
         Some(one) => {
@@ -269,7 +287,8 @@ fn push_key_filter(
 
 /// The filters of keys, each in its place.
 fn key_filters_of(alloc: Global, values: &[Value]) -> Result<Vec<KeyFilter>, ExceptionsError>
-    ensures { IfOk result (λ all. AreEach (λ v. IsKeyFilter (view v)) values.now all.items) }
+    ensures ok { IfOk result (λ all. AreEach (λ v. IsKeyFilter (view v)) values.now all.items) }
+    ensures err { IfErr result (IsElementFault (λ v. IsKeyFilter (view v)) KeyFilters values.now) }
 {
     let mut all = Vec::new(alloc);
     'values: for value in values {
@@ -282,7 +301,8 @@ fn key_filters_of(alloc: Global, values: &[Value]) -> Result<Vec<KeyFilter>, Exc
 
 /// The prefixes that are added, each in its place.
 fn prefix_assertions_of(alloc: Global, values: &[Value]) -> Result<Vec<Vrp>, ExceptionsError>
-    ensures { IfOk result (λ all. AreEach (λ v. IsPrefixAssertion (view v)) values.now all.items) }
+    ensures ok { IfOk result (λ all. AreEach (λ v. IsPrefixAssertion (view v)) values.now all.items) }
+    ensures err { IfErr result (IsElementFault (λ v. IsPrefixAssertion (view v)) PrefixAssertions values.now) }
 {
     let mut all = Vec::new(alloc);
     'values: for value in values {
@@ -296,7 +316,8 @@ fn prefix_assertions_of(alloc: Global, values: &[Value]) -> Result<Vec<Vrp>, Exc
 
 /// The keys that are added, each in its place.
 fn key_assertions_of(alloc: Global, values: &[Value]) -> Result<Vec<RouterKey>, ExceptionsError>
-    ensures { IfOk result (λ all. AreEach (λ v. IsKeyAssertion (view v)) values.now all.items) }
+    ensures ok { IfOk result (λ all. AreEach (λ v. IsKeyAssertion (view v)) values.now all.items) }
+    ensures err { IfErr result (IsElementFault (λ v. IsKeyAssertion (view v)) KeyAssertions values.now) }
 {
     let mut all = Vec::new(alloc);
     'values: for value in values {
@@ -310,7 +331,8 @@ fn key_assertions_of(alloc: Global, values: &[Value]) -> Result<Vec<RouterKey>, 
 
 /// The elements of the member of this name, each of which is a filter of prefixes.
 fn prefix_filters_in(alloc: Global, value: &Value) -> Result<Vec<PrefixFilter>, ExceptionsError>
-    ensures { IfOk result (λ all. AreListed (codes "prefixFilters") IsPrefixFilter (view value.now) all.items) }
+    ensures ok { IfOk result (λ all. AreListed (codes "prefixFilters") IsPrefixFilter (view value.now) all.items) }
+    ensures err { IfErr result (IsArrayFault IsPrefixFilter PrefixFilters (view value.now)) }
 {
     match elements_in(value, "prefixFilters") {
         Some(values) => prefix_filters_of(alloc, values.as_slice()),
@@ -320,7 +342,8 @@ fn prefix_filters_in(alloc: Global, value: &Value) -> Result<Vec<PrefixFilter>, 
 
 /// The elements of the member of this name, each of which is a filter of keys.
 fn key_filters_in(alloc: Global, value: &Value) -> Result<Vec<KeyFilter>, ExceptionsError>
-    ensures { IfOk result (λ all. AreListed (codes "bgpsecFilters") IsKeyFilter (view value.now) all.items) }
+    ensures ok { IfOk result (λ all. AreListed (codes "bgpsecFilters") IsKeyFilter (view value.now) all.items) }
+    ensures err { IfErr result (IsArrayFault IsKeyFilter KeyFilters (view value.now)) }
 {
     match elements_in(value, "bgpsecFilters") {
         Some(values) => key_filters_of(alloc, values.as_slice()),
@@ -330,7 +353,9 @@ fn key_filters_in(alloc: Global, value: &Value) -> Result<Vec<KeyFilter>, Except
 
 /// The elements of the member of this name, each of which is a prefix that is added.
 fn prefix_assertions_in(alloc: Global, value: &Value) -> Result<Vec<Vrp>, ExceptionsError>
-    ensures { IfOk result (λ all. AreListed (codes "prefixAssertions") IsPrefixAssertion (view value.now) all.items) }
+    ensures ok { IfOk result (λ all. AreListed (codes "prefixAssertions") IsPrefixAssertion
+        (view value.now) all.items) }
+    ensures err { IfErr result (IsArrayFault IsPrefixAssertion PrefixAssertions (view value.now)) }
 {
     match elements_in(value, "prefixAssertions") {
         Some(values) => prefix_assertions_of(alloc, values.as_slice()),
@@ -340,7 +365,8 @@ fn prefix_assertions_in(alloc: Global, value: &Value) -> Result<Vec<Vrp>, Except
 
 /// The elements of the member of this name, each of which is a key that is added.
 fn key_assertions_in(alloc: Global, value: &Value) -> Result<Vec<RouterKey>, ExceptionsError>
-    ensures { IfOk result (λ all. AreListed (codes "bgpsecAssertions") IsKeyAssertion (view value.now) all.items) }
+    ensures ok { IfOk result (λ all. AreListed (codes "bgpsecAssertions") IsKeyAssertion (view value.now) all.items) }
+    ensures err { IfErr result (IsArrayFault IsKeyAssertion KeyAssertions (view value.now)) }
 {
     match elements_in(value, "bgpsecAssertions") {
         Some(values) => key_assertions_of(alloc, values.as_slice()),
@@ -353,7 +379,8 @@ fn filters_of(
     alloc: Global,
     value: &Value,
 ) -> Result<(Vec<PrefixFilter>, Vec<KeyFilter>), ExceptionsError>
-    ensures { IfOk result (λ all. AreFilters (view value.now) all.0.items all.1.items) }
+    ensures ok { IfOk result (λ all. AreFilters (view value.now) all.0.items all.1.items) }
+    ensures err { IfErr result (IsFiltersFault (view value.now)) }
 {
     if !has_only_two(value, "prefixFilters", "bgpsecFilters") {
         return Err(ExceptionsError::Missing(Member::Filters));
@@ -368,7 +395,8 @@ fn assertions_of(
     alloc: Global,
     value: &Value,
 ) -> Result<(Vec<Vrp>, Vec<RouterKey>), ExceptionsError>
-    ensures { IfOk result (λ all. AreAssertions (view value.now) all.0.items all.1.items) }
+    ensures ok { IfOk result (λ all. AreAssertions (view value.now) all.0.items all.1.items) }
+    ensures err { IfErr result (IsAssertionsFault (view value.now)) }
 {
     if !has_only_two(value, "prefixAssertions", "bgpsecAssertions") {
         return Err(ExceptionsError::Missing(Member::Assertions));
@@ -380,8 +408,7 @@ fn assertions_of(
 
 /// Whether the version is 1.
 fn is_version_one(value: &Value) -> bool
-    ensures { IsTrue result → option_and_then as_u64 (option_and_then as_number (get (codes "slurmVersion")
-        (view value.now))) ≡ Some 1 }
+    ensures { IsTrue result ↔ IsVersionOne (view value.now) }
 {
     match value.get("slurmVersion") {
         Some(version) => match version.as_u64() {
@@ -394,7 +421,8 @@ fn is_version_one(value: &Value) -> bool
 
 /// The exceptions that the value is.
 fn exceptions_of(alloc: Global, value: &Value) -> Result<Exceptions, ExceptionsError>
-    ensures { IfOk result (AreExceptionsIn (view value.now)) }
+    ensures ok { IfOk result (AreExceptionsIn (view value.now)) }
+    ensures err { IfErr result (IsExceptionsFault (view value.now)) }
 {
     if !has_only_three(
         value,
@@ -428,10 +456,12 @@ impl Exceptions {
     /// in which no member is missing, and there is no other, except for comments. A name that the text has twice in an
     /// object counts as its last.
     ///
-    /// Returns `Json` if the octets are no JSON; `Members` for another object; `Missing` or `Element` for a member or
-    /// an element of an array that is none of its kind; `OutOfMemory` if allocation fails.
+    /// Returns `Json` if the octets are no JSON; `Members` for another object; `Missing` or `Element` for the first
+    /// member or element of an array that is none of its kind: the version, then whether both objects are there, then
+    /// the filters, then the assertions; `OutOfMemory` if allocation fails.
     pub fn read(alloc: Global, octets: &[u8]) -> Result<Exceptions, ExceptionsError>
-        ensures { IfOk result (AreExceptions octets.now) }
+        ensures ok { IfOk result (AreExceptions octets.now) }
+        ensures err { IfErr result (IsTextFault octets.now) }
     {
         match Value::from_slice(alloc, octets) {
             Ok(value) => exceptions_of(alloc, &value),

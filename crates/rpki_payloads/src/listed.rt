@@ -1,20 +1,22 @@
 //! Payloads as another validator lists them: in csv, as of rpki-client and Routinator, or in JSON, as of both.
 
-ghost use Rattle.std.specs.Prelude.{◌≡◌, ◌↔◌, ◌++◌, Some, None, IfOk, IfSome, OnOk, codes};
+ghost use Rattle.std.specs.Prelude.{◌≡◌, IfOk, IfErr, OnOk, codes};
+ghost use Rattle.csv.specs.Reading.{error_kind};
 ghost use Rattle.csv.specs.Records.{fields_of};
 ghost use Rattle.serde_json.specs.View.{view};
 ghost use Rattle.rpki_resources.specs.IpRead.{IsPrefixText};
-ghost use Rattle.rpki_payloads.specs.Exceptions.{AreEach};
+ghost use Rattle.rpki_payloads.specs.Exceptions.{AreEach, Finds};
 ghost use Rattle.rpki_payloads.specs.ExceptionsText.{AreListed, IsMember, IsNumberIn};
 ghost use Rattle.rpki_payloads.specs.Listed.{AddsRow, AreFields, AreInCsv, AreInJson, AreListedIn, IsAsIn, IsAsText};
-ghost use Rattle.rpki_payloads.specs.Listed.{IsElement, IsLengthText, IsRow, Lists, has_titles, is_object, is_space};
-ghost use Rattle.rpki_payloads.specs.Listed.{is_title};
+ghost use Rattle.rpki_payloads.specs.Listed.{IsCsvFault, IsElement, IsElementFault, IsJsonFault, IsLengthText};
+ghost use Rattle.rpki_payloads.specs.Listed.{IsListFault, IsReadFault, IsRoasFault, IsRow, IsRowFault, Lists};
+ghost use Rattle.rpki_payloads.specs.Listed.{has_titles, is_object, is_space, is_title};
 
 use crate::exceptions_text::{elements_in, vrp_with};
-use crate::members::{number_of, prefix_in};
+use crate::members::{number_of, prefix_at};
 use crate::order::sort_vrps;
 use crate::vrp::Vrp;
-use csv::{ByteRecord, ErrorKind, Position, ReaderBuilder};
+use csv::{ErrorKind, Position, ReaderBuilder, StringRecord};
 use rpki_resources::{Asn, Prefix};
 use serde_json::Value;
 use std::alloc::{AllocError, AllocFailed, Global};
@@ -28,8 +30,8 @@ pub enum ListError {
     Roas,
     /// The element of that array with this number, from 0 on, is no payload.
     Element(usize),
-    /// The row of csv (RFC 4180) that begins on this line, from 1 on, or on the first empty line in front of it, is no
-    /// payload, or has another number of fields than the first.
+    /// The row of csv (RFC 4180) that begins on this line, from 1 on, or on the first empty line before it, is no
+    /// payload, or not in UTF-8.
     Line(u64),
     /// Allocation failed.
     OutOfMemory,
@@ -58,57 +60,54 @@ impl<T: Drop> From<AllocFailed<T>> for ListError {
 }
 
 /// The AS number that the field is the text of. None if it is that of none.
-fn asn_of(field: &[u8]) -> Option<u32>
-    ensures { IfSome result (IsAsText field.now) }
+fn asn_of(field: &str) -> Option<u32>
+    ensures { Finds (IsAsText field.now) result }
 {
-    match str::from_utf8(field) {
-        Ok(text) => match text.parse::<Asn>() {
-            Ok(asn) => Some(asn.0),
-            Err(_) => None,
-        },
+    match field.parse::<Asn>() {
+        Ok(asn) => Some(asn.0),
         Err(_) => None,
     }
 }
 
 /// The prefix that the field is the text of. None if it is that of none.
-fn prefix_of(field: &[u8]) -> Option<Prefix>
-    ensures { IfSome result (IsPrefixText field.now) }
+fn prefix_of(field: &str) -> Option<Prefix>
+    ensures { Finds (IsPrefixText field.now) result }
 {
-    match str::from_utf8(field) {
-        Ok(text) => match text.parse::<Prefix>() {
-            Ok(prefix) => Some(prefix),
-            Err(_) => None,
-        },
+    match field.parse::<Prefix>() {
+        Ok(prefix) => Some(prefix),
         Err(_) => None,
     }
 }
 
-/// The number that the field is the text of. None if it is that of none.
-fn length_of(field: &[u8]) -> Option<u32>
-    ensures { IfSome result (IsLengthText field.now) }
+/// The number below 2^32 that the field is the text of. None if it is that of none.
+fn length_of(field: &str) -> Option<u32>
+    ensures { Finds (IsLengthText field.now) result }
 {
-    match str::from_utf8(field) {
-        Ok(text) => match text.parse::<u32>() {
-            Ok(length) => Some(length),
-            Err(_) => None,
-        },
+    match field.parse::<u32>() {
+        Ok(length) => Some(length),
         Err(_) => None,
     }
 }
 
 /// The payload of these fields. None if it is none.
-fn vrp_of(number: &[u8], text: &[u8], digits: &[u8]) -> Option<Vrp>
-    ensures { IfSome result (AreFields number.now text.now digits.now) }
+fn vrp_of(number: &str, text: &str, digits: &str) -> Option<Vrp>
+    ensures { Finds (AreFields number.now text.now digits.now) result }
 {
-    let asn = asn_of(number)?;
-    let prefix = prefix_of(text)?;
-    let longest = length_of(digits)?;
+    let Some(asn) = asn_of(number) else {
+        return None;
+    };
+    let Some(prefix) = prefix_of(text) else {
+        return None;
+    };
+    let Some(longest) = length_of(digits) else {
+        return None;
+    };
     vrp_with(prefix, Some(longest), asn)
 }
 
 /// The payload of the row. None if it is that of none.
-fn vrp_in(row: &ByteRecord) -> Option<Vrp>
-    ensures { IfSome result (IsRow (fields_of row.now)) }
+fn vrp_in(row: &StringRecord) -> Option<Vrp>
+    ensures { Finds (IsRow (fields_of row.now)) result }
 {
     let number = row.get(0)?;
     let text = row.get(1)?;
@@ -117,14 +116,14 @@ fn vrp_in(row: &ByteRecord) -> Option<Vrp>
 }
 
 /// Whether the field is the title of AS numbers, in any case.
-fn is_title(field: &[u8]) -> bool
+fn is_title(field: &str) -> bool
     ensures { result ≡ is_title field.now }
 {
-    field.eq_ignore_ascii_case(b"asn")
+    field.eq_ignore_ascii_case("asn")
 }
 
 /// Whether the row has titles.
-fn has_titles(row: &ByteRecord) -> bool
+fn has_titles(row: &StringRecord) -> bool
     ensures { result ≡ has_titles (fields_of row.now) }
 {
     match row.get(0) {
@@ -142,18 +141,21 @@ fn line_at(position: Option<Position>) -> u64 {
 }
 
 /// What an error of the reader of csv is.
-fn fault_of(e: &csv::Error) -> ListError {
+fn fault_of(e: &csv::Error) -> ListError
+    ensures { IsReadFault (error_kind e.now) result }
+{
     match e.kind() {
-        ErrorKind::UnequalLengths { pos, .. } => ListError::Line(line_at(*pos)),
+        ErrorKind::Utf8 { pos, .. } => ListError::Line(line_at(*pos)),
         _ => ListError::OutOfMemory,
     }
 }
 
 /// Adds the payload of the row, if it has no titles.
 ///
-/// Returns `Line` if it is that of none.
-fn push_row(all: &mut Vec<Vrp>, row: &ByteRecord) -> Result<(), ListError>
-    ensures { OnOk result (AddsRow (fields_of row.now) all.old.items all.new.items) }
+/// Returns `Line` if it is that of none; `OutOfMemory` if allocation fails.
+fn push_row(all: &mut Vec<Vrp>, row: &StringRecord) -> Result<(), ListError>
+    ensures ok { OnOk result (AddsRow (fields_of row.now) all.old.items all.new.items) }
+    ensures err { IfErr result (IsRowFault (fields_of row.now)) }
 {
     if has_titles(row) {
         return Ok(());
@@ -167,13 +169,15 @@ fn push_row(all: &mut Vec<Vrp>, row: &ByteRecord) -> Result<(), ListError>
 
 /// The payloads that the text lists in csv.
 fn in_csv(alloc: Global, text: &[u8]) -> Result<Vec<Vrp>, ListError>
-    ensures { IfOk result (λ all. AreInCsv text.now all.items) }
+    ensures ok { IfOk result (λ all. AreInCsv text.now all.items) }
+    ensures err { IfErr result (IsCsvFault text.now) }
 {
     let rdr = ReaderBuilder::new()
         .has_headers(false)
+        .flexible(true)
         .from_reader(alloc, text);
     let mut all = Vec::new(alloc);
-    'rows: for row in rdr.into_byte_records() {
+    'rows: for row in rdr.into_records() {
         match row {
             Ok(row) => push_row(&mut all, &row)?,
             Err(e) => return Err(fault_of(&e)),
@@ -184,7 +188,7 @@ fn in_csv(alloc: Global, text: &[u8]) -> Result<Vec<Vrp>, ListError>
 
 /// An AS number: a number, or the text of one. None if it is neither.
 fn as_of(value: &Value) -> Option<u32>
-    ensures { IfSome result (IsAsIn (view value.now)) }
+    ensures { Finds (IsAsIn (view value.now)) result }
 {
     match value.as_str() {
         Some(text) => match text.parse::<Asn>() {
@@ -197,7 +201,7 @@ fn as_of(value: &Value) -> Option<u32>
 
 /// The member `asn`. None if it is not there, or is no AS number.
 fn as_in(value: &Value) -> Option<u32>
-    ensures { IfSome result (IsMember (codes "asn") IsAsIn (view value.now)) }
+    ensures { Finds (IsMember (codes "asn") IsAsIn (view value.now)) result }
 {
     match value.get("asn") {
         Some(member) => as_of(member),
@@ -207,7 +211,7 @@ fn as_in(value: &Value) -> Option<u32>
 
 /// The member `maxLength`. None if it is not there, or is no number below 2^32.
 fn length_in(value: &Value) -> Option<u32>
-    ensures { IfSome result (IsMember (codes "maxLength") IsNumberIn (view value.now)) }
+    ensures { Finds (IsMember (codes "maxLength") IsNumberIn (view value.now)) result }
 {
     match value.get("maxLength") {
         Some(member) => number_of(member),
@@ -217,17 +221,24 @@ fn length_in(value: &Value) -> Option<u32>
 
 /// The payload of the element. None if it is that of none.
 fn element_of(value: &Value) -> Option<Vrp>
-    ensures { IfSome result (IsElement (view value.now)) }
+    ensures { Finds (IsElement (view value.now)) result }
 {
-    let asn = as_in(value)?;
-    let prefix = prefix_in(value)??;
-    let longest = length_in(value)?;
+    let Some(asn) = as_in(value) else {
+        return None;
+    };
+    let Some(prefix) = prefix_at(value) else {
+        return None;
+    };
+    let Some(longest) = length_in(value) else {
+        return None;
+    };
     vrp_with(prefix, Some(longest), asn)
 }
 
 /// The payloads of the elements, each in its place.
 fn elements_of(alloc: Global, values: &[Value]) -> Result<Vec<Vrp>, ListError>
-    ensures { IfOk result (λ all. AreEach (λ v. IsElement (view v)) values.now all.items) }
+    ensures ok { IfOk result (λ all. AreEach (λ v. IsElement (view v)) values.now all.items) }
+    ensures err { IfErr result (IsElementFault values.now) }
 {
     let mut all = Vec::new(alloc);
     'values: for value in values {
@@ -241,7 +252,8 @@ fn elements_of(alloc: Global, values: &[Value]) -> Result<Vec<Vrp>, ListError>
 
 /// The payloads that the value lists.
 fn listed_by(alloc: Global, value: &Value) -> Result<Vec<Vrp>, ListError>
-    ensures { IfOk result (λ all. AreListed (codes "roas") IsElement (view value.now) all.items) }
+    ensures ok { IfOk result (λ all. AreListed (codes "roas") IsElement (view value.now) all.items) }
+    ensures err { IfErr result (IsRoasFault (view value.now)) }
 {
     match elements_in(value, "roas") {
         Some(values) => elements_of(alloc, values.as_slice()),
@@ -251,7 +263,8 @@ fn listed_by(alloc: Global, value: &Value) -> Result<Vec<Vrp>, ListError>
 
 /// The payloads that the text lists in JSON.
 fn in_json(alloc: Global, text: &[u8]) -> Result<Vec<Vrp>, ListError>
-    ensures { IfOk result (λ all. AreInJson text.now all.items) }
+    ensures ok { IfOk result (λ all. AreInJson text.now all.items) }
+    ensures err { IfErr result (IsJsonFault text.now) }
 {
     match Value::from_slice(alloc, text) {
         Ok(value) => listed_by(alloc, &value),
@@ -287,7 +300,8 @@ fn is_object(text: &[u8]) -> bool
 
 /// The payloads that the text lists, as often and in the order as it does.
 fn listed(alloc: Global, text: &[u8]) -> Result<Vec<Vrp>, ListError>
-    ensures { IfOk result (λ all. Lists text.now all.items) }
+    ensures ok { IfOk result (λ all. Lists text.now all.items) }
+    ensures err { IfErr result (IsListFault text.now) }
 {
     if is_object(text) {
         return in_json(alloc, text);
@@ -300,9 +314,10 @@ fn listed(alloc: Global, text: &[u8]) -> Result<Vec<Vrp>, ListError>
 /// there is in an object or a row isn't read.
 ///
 /// Returns `Json` if the text begins with a brace, and is no JSON; `Roas` if it has no such array; `Element` or `Line`
-/// for what is no payload; `OutOfMemory` if allocation fails.
+/// for the first that is no payload; `OutOfMemory` if allocation fails.
 pub fn listed_vrps(alloc: Global, text: &[u8]) -> Result<Vec<Vrp>, ListError>
-    ensures { IfOk result (λ vrps. AreListedIn text.now vrps.items) }
+    ensures ok { IfOk result (λ vrps. AreListedIn text.now vrps.items) }
+    ensures err { IfErr result (IsListFault text.now) }
 {
     let mut vrps = listed(alloc, text)?;
     sort_vrps(&mut vrps);

@@ -1,11 +1,12 @@
 //! Members of objects of JSON, as files of local exceptions have them.
 
-ghost use Rattle.std.specs.Prelude.{◌≡◌, ◌≤◌, ◌∷◌, [], IsTrue, IfOk, IfSome, codes, map, if◌then◌else◌};
+ghost use Rattle.std.specs.Prelude.{◌≡◌, ◌≤◌, ◌↔◌, ◌∷◌, [], IsTrue, IfOk, codes, map, option_map, if◌then◌else◌};
 ghost use Rattle.std.specs.Option.{is_some};
 ghost use Rattle.serde_json.specs.Find.{get};
 ghost use Rattle.serde_json.specs.View.{view};
+ghost use Rattle.rpki_payloads.specs.Exceptions.{Finds};
 ghost use Rattle.rpki_payloads.specs.ExceptionsText.{AreOctetsIn, HasComment, HasOnly, IsIdentifierIn, IsNumberIn};
-ghost use Rattle.rpki_payloads.specs.ExceptionsText.{IsPrefixIn, MayBeMember, HasSize};
+ghost use Rattle.rpki_payloads.specs.ExceptionsText.{IsMember, IsPrefixIn, MayBeMember, HasSize};
 
 use rpki::crypto::keys::KeyIdentifier;
 use rpki_resources::Prefix;
@@ -30,7 +31,7 @@ fn one_if(is_so: bool) -> usize
 
 /// Whether it is an object with so many members.
 fn has_size(value: &Value, count: usize) -> bool
-    ensures { IsTrue result → HasSize count (view value.now) }
+    ensures { IsTrue result ↔ HasSize count (view value.now) }
 {
     match value.as_object() {
         Some(members) => members.len() == count,
@@ -40,7 +41,7 @@ fn has_size(value: &Value, count: usize) -> bool
 
 /// Whether it is an object, all of whose members have one of these two names.
 pub fn has_only_two(value: &Value, one: &str, two: &str) -> bool
-    ensures { IsTrue result → HasOnly (one.now ∷ two.now ∷ []) (view value.now) }
+    ensures { IsTrue result ↔ HasOnly (one.now ∷ two.now ∷ []) (view value.now) }
 {
     let count = one_if(has_member(value, one)) + one_if(has_member(value, two));
     has_size(value, count)
@@ -48,7 +49,7 @@ pub fn has_only_two(value: &Value, one: &str, two: &str) -> bool
 
 /// Whether it is an object, all of whose members have one of these three names.
 pub fn has_only_three(value: &Value, one: &str, two: &str, three: &str) -> bool
-    ensures { IsTrue result → HasOnly (one.now ∷ two.now ∷ three.now ∷ []) (view value.now) }
+    ensures { IsTrue result ↔ HasOnly (one.now ∷ two.now ∷ three.now ∷ []) (view value.now) }
 {
     let count = one_if(has_member(value, one))
         + one_if(has_member(value, two))
@@ -58,7 +59,7 @@ pub fn has_only_three(value: &Value, one: &str, two: &str, three: &str) -> bool
 
 /// Whether it is an object, all of whose members have one of these four names.
 pub fn has_only_four(value: &Value, one: &str, two: &str, three: &str, four: &str) -> bool
-    ensures { IsTrue result → HasOnly (one.now ∷ two.now ∷ three.now ∷ four.now ∷ []) (view value.now) }
+    ensures { IsTrue result ↔ HasOnly (one.now ∷ two.now ∷ three.now ∷ four.now ∷ []) (view value.now) }
 {
     let count = one_if(has_member(value, one))
         + one_if(has_member(value, two))
@@ -69,7 +70,7 @@ pub fn has_only_four(value: &Value, one: &str, two: &str, three: &str, four: &st
 
 /// Whether a comment, if there is one, is a text.
 pub fn has_comment(value: &Value) -> bool
-    ensures { IsTrue result → HasComment (view value.now) }
+    ensures { IsTrue result ↔ HasComment (view value.now) }
 {
     match value.get("comment") {
         Some(comment) => comment.as_str().is_some(),
@@ -79,7 +80,7 @@ pub fn has_comment(value: &Value) -> bool
 
 /// A number below 2^32.
 pub fn number_of(value: &Value) -> Option<u32>
-    ensures { IfSome result (IsNumberIn (view value.now)) }
+    ensures { Finds (IsNumberIn (view value.now)) result }
 {
     match value.as_u64() {
         Some(number) => {
@@ -94,7 +95,7 @@ pub fn number_of(value: &Value) -> Option<u32>
 
 /// A prefix.
 pub fn prefix_of(value: &Value) -> Option<Prefix>
-    ensures { IfSome result (IsPrefixIn (view value.now)) }
+    ensures { Finds (IsPrefixIn (view value.now)) result }
 {
     match value.as_str() {
         Some(text) => match text.parse::<Prefix>() {
@@ -107,7 +108,7 @@ pub fn prefix_of(value: &Value) -> Option<Prefix>
 
 /// Octets, in base 64.
 pub fn octets_of(alloc: Global, value: &Value) -> Result<Option<Vec<u8>>, AllocError>
-    ensures { IfOk result (λ o. IfSome o (λ octets. AreOctetsIn (view value.now) octets.items)) }
+    ensures { IfOk result (λ o. Finds (AreOctetsIn (view value.now)) (option_map (λ v. v.items) o)) }
 {
     match value.as_str() {
         Some(text) => match Slurm.decode(alloc, text) {
@@ -121,7 +122,7 @@ pub fn octets_of(alloc: Global, value: &Value) -> Result<Option<Vec<u8>>, AllocE
 
 /// The identifier of a key, in base 64.
 pub fn identifier_of(alloc: Global, value: &Value) -> Result<Option<KeyIdentifier>, AllocError>
-    ensures { IfOk result (λ o. IfSome o (IsIdentifierIn (view value.now))) }
+    ensures { IfOk result (λ o. Finds (IsIdentifierIn (view value.now)) o) }
 {
     match octets_of(alloc, value)? {
         Some(octets) => match KeyIdentifier::try_from(octets.as_slice()) {
@@ -134,7 +135,7 @@ pub fn identifier_of(alloc: Global, value: &Value) -> Result<Option<KeyIdentifie
 
 /// The member `asn`, where there is one. None if it is no number below 2^32.
 pub fn asn_in(value: &Value) -> Option<Option<u32>>
-    ensures { IfSome result (MayBeMember (codes "asn") IsNumberIn (view value.now)) }
+    ensures { Finds (MayBeMember (codes "asn") IsNumberIn (view value.now)) result }
 {
     match value.get("asn") {
         Some(member) => match number_of(member) {
@@ -147,7 +148,7 @@ pub fn asn_in(value: &Value) -> Option<Option<u32>>
 
 /// The member `maxPrefixLength`, where there is one. None if it is no number below 2^32.
 pub fn longest_in(value: &Value) -> Option<Option<u32>>
-    ensures { IfSome result (MayBeMember (codes "maxPrefixLength") IsNumberIn (view value.now)) }
+    ensures { Finds (MayBeMember (codes "maxPrefixLength") IsNumberIn (view value.now)) result }
 {
     match value.get("maxPrefixLength") {
         Some(member) => match number_of(member) {
@@ -160,7 +161,7 @@ pub fn longest_in(value: &Value) -> Option<Option<u32>>
 
 /// The member `prefix`, where there is one. None if it is no prefix.
 pub fn prefix_in(value: &Value) -> Option<Option<Prefix>>
-    ensures { IfSome result (MayBeMember (codes "prefix") IsPrefixIn (view value.now)) }
+    ensures { Finds (MayBeMember (codes "prefix") IsPrefixIn (view value.now)) result }
 {
     match value.get("prefix") {
         Some(member) => match prefix_of(member) {
@@ -176,7 +177,7 @@ pub fn identifier_in(
     alloc: Global,
     value: &Value,
 ) -> Result<Option<Option<KeyIdentifier>>, AllocError>
-    ensures { IfOk result (λ o. IfSome o (MayBeMember (codes "SKI") IsIdentifierIn (view value.now))) }
+    ensures { IfOk result (λ o. Finds (MayBeMember (codes "SKI") IsIdentifierIn (view value.now)) o) }
 {
     match value.get("SKI") {
         Some(member) => match identifier_of(alloc, member)? {
@@ -184,5 +185,35 @@ pub fn identifier_in(
             None => Ok(None),
         },
         None => Ok(Some(None)),
+    }
+}
+
+/// The member `asn`. None if it is not there, or is no number below 2^32.
+pub fn asn_at(value: &Value) -> Option<u32>
+    ensures { Finds (IsMember (codes "asn") IsNumberIn (view value.now)) result }
+{
+    match value.get("asn") {
+        Some(member) => number_of(member),
+        None => None,
+    }
+}
+
+/// The member `prefix`. None if it is not there, or is no prefix.
+pub fn prefix_at(value: &Value) -> Option<Prefix>
+    ensures { Finds (IsMember (codes "prefix") IsPrefixIn (view value.now)) result }
+{
+    match value.get("prefix") {
+        Some(member) => prefix_of(member),
+        None => None,
+    }
+}
+
+/// The member `SKI`. None if it is not there, or is no identifier of a key.
+pub fn identifier_at(alloc: Global, value: &Value) -> Result<Option<KeyIdentifier>, AllocError>
+    ensures { IfOk result (λ o. Finds (IsMember (codes "SKI") IsIdentifierIn (view value.now)) o) }
+{
+    match value.get("SKI") {
+        Some(member) => identifier_of(alloc, member),
+        None => Ok(None),
     }
 }

@@ -1,6 +1,8 @@
+use Rattle.std.proofs.Common.{arith, refl}
 use Rattle.serde_json.specs.View.{view}
 use Rattle.rpki_payloads.specs.ExceptionsText.{IsPrefixAssertion}
 use Rattle.rpki_payloads.proofs.ExceptionLaws.{each-next}
+use Rattle.rpki_payloads.proofs.FindsLaws.{first-other}
 use Rattle.rpki_payloads.proofs.exceptions_text.prefix_assertions_of.Goals as goal
 
 pub values-preserved : goal.values-preserved
@@ -8,3 +10,11 @@ values-preserved c =
     rw c.in_ok-push.ensures.items
     (each-next (λ v. IsPrefixAssertion (view v)) c.args.values.now c.values.all.items c.values.value-index
     c.value-item.result _ c.values-test.true c.value-item.is c.values.invariant c.in-Some.ensures)
+
+pub returns-in_default-clause-err : goal.returns-in_default-clause-err
+returns-in_default-clause-err c = (
+  refl,
+  first-other (λ v. IsPrefixAssertion (view v)) c.args.values.now c.values.all.items c.values.value-index c.len.result
+      c.value-item.result (omega (arith, c.len.ensures, c.values.all.ok.0)) c.values-test.true c.value-item.is
+      c.values.invariant c.in_default.ensures,
+)
