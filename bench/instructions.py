@@ -8,10 +8,14 @@ usage: bench/instructions.py            (after bindings/archive; needs valgrind)
 import os
 import re
 import subprocess
+import sys
 import tempfile
 
+sys.dont_write_bytecode = True
+sys.path.append(os.path.join(os.path.dirname(os.path.abspath(__file__)), "..", "tests", "python"))
+
 from certificates import write
-from linked import ARCHIVE, BESIDE, CERTIFICATE, COMPILER, SOURCES, links
+from linked import CERTIFICATE, built, found_beside
 
 CALLS = [
     ("walk: plain C", ["rpki_walk", "rpki_index, capacity 0", "rpki_signed_data"]),
@@ -59,12 +63,7 @@ def shown(name, took, least):
 
 def main():
     with tempfile.TemporaryDirectory() as folder:
-        program = os.path.join(folder, "linked")
-        found = [name for name, (_, text, words) in BESIDE.items() if links(folder, text, words)]
-        words = [f"-D{BESIDE[name][0]}" for name in found]
-        words += [*SOURCES, ARCHIVE]
-        words += [word for name in found for word in BESIDE[name][2]]
-        subprocess.run([*COMPILER, *words, "-o", program], check=True)
+        program = built(folder, found_beside(folder))
         write(BATCH, os.path.join(folder, "certificates"))
         for plain, calls in CALLS:
             least = a_call(program, plain)

@@ -15,9 +15,14 @@ import sys
 import tempfile
 import time
 
-from certificates import write
+sys.dont_write_bytecode = True
+sys.path.append(os.path.join(os.path.dirname(os.path.abspath(__file__)), "..", "tests", "python"))
 
-TOP = os.path.dirname(os.path.dirname(os.path.abspath(__file__)))
+from certificates import write
+from der import bits, sequence
+from makers.x509 import SHA256_WITH_RSA
+from programs import TOP
+
 ARCHIVE = os.path.join(TOP, "bindings", "out", "librpki.a")
 COMPILER = [os.environ.get("CC", "cc"), "-std=c99", "-O2", "-Wall", "-Wextra", f"-I{TOP}/include"]
 CERTIFICATE = os.path.join(TOP, "examples", "certificate.der")
@@ -66,15 +71,6 @@ def has_peers(folder):
     return cargo(["generate-lockfile"], folder, capture_output=True).returncode == 0
 
 
-# An algorithm identifier and a signature.
-ENDING = bytes.fromhex("300D06092A864886F70D01010B0500030200AA")
-
-
-def sequence(contents):
-    """A SEQUENCE of 65,536 octets or more."""
-    return b"\x30\x83" + len(contents).to_bytes(3, "big") + contents
-
-
 def roots(folder):
     """A file of signed data: the root certificates that this machine trusts, where it has them, are what is signed."""
     if not os.path.exists(ROOTS):
@@ -83,20 +79,30 @@ def roots(folder):
         bodies = re.findall(r"-----BEGIN CERTIFICATE-----(.*?)-----END", text.read(), re.S)
     path = os.path.join(folder, "roots")
     with open(path, "wb") as octets:
-        octets.write(sequence(sequence(b"".join(base64.b64decode(body) for body in bodies)) + ENDING))
+        octets.write(sequence(sequence(*map(base64.b64decode, bodies)), SHA256_WITH_RSA, bits(b"\xAA")))
     return [path]
+
+
+def built(folder, libraries):
+    """bench/linked.c, with these of the libraries."""
+    program = os.path.join(folder, "linked")
+    words = [f"-D{BESIDE[name][0]}" for name in libraries] + [*SOURCES, ARCHIVE]
+    words += [word for name in libraries for word in BESIDE[name][2]]
+    subprocess.run([*COMPILER, *words, "-o", program], check=True)
+    return program
+
+
+def found_beside(folder):
+    """The libraries that are there."""
+    return [name for name, (_, text, words) in BESIDE.items() if links(folder, text, words)]
 
 
 def main():
     if not os.path.exists(ARCHIVE):
         sys.exit("make the archive first: bindings/archive")
     with tempfile.TemporaryDirectory() as folder:
-        program = os.path.join(folder, "linked")
-        found = [name for name, (_, text, words) in BESIDE.items() if links(folder, text, words)]
-        words = [f"-D{BESIDE[name][0]}" for name in found]
-        words += [*SOURCES, ARCHIVE]
-        words += [word for name in found for word in BESIDE[name][2]]
-        subprocess.run([*COMPILER, *words, "-o", program], check=True)
+        found = found_beside(folder)
+        program = built(folder, found)
         peers = has_peers(folder)
         if peers:
             cargo(["build", "--release", "--quiet"], folder, check=True)

@@ -12,53 +12,39 @@ import sys
 import tempfile
 import time
 
-TOP = os.path.dirname(os.path.dirname(os.path.abspath(__file__)))
+sys.dont_write_bytecode = True
+sys.path.append(os.path.join(os.path.dirname(os.path.abspath(__file__)), "..", "tests", "python"))
+
+import der
+from der import bits, identifier, integer, sequence, set_of, tlv
+from makers import x509
+from programs import TOP
+
 PROGRAM = os.path.join(TOP, "crates", "rpkibasic", "out", "rpkibasic")
 RUNS = 5
 
-ALGORITHM = bytes.fromhex("300D06092A864886F70D01010B0500")
-SIGNATURE = bytes.fromhex("030200AA")
-
-
-def header(first, length):
-    if length < 128:
-        return bytes([first, length])
-    octets = length.to_bytes((length.bit_length() + 7) // 8, "big")
-    return bytes([first, 0x80 + len(octets)]) + octets
-
-
-def value(first, contents):
-    return header(first, len(contents)) + contents
-
 
 def signed(inner):
-    return value(0x30, inner + ALGORITHM + SIGNATURE)
+    return sequence(inner, x509.SHA256_WITH_RSA, bits(b"\xAA"))
 
 
 def small_values(size):
     """Signed data of about so many octets, nearly all of it short values three deep; and its headers."""
-    unit = value(0x30, value(0x06, b"\x55\x04\x03") + value(0x31, value(0x13, b"name") + value(0x02, b"\x01")))
+    unit = sequence(identifier(x509.COMMON), set_of(tlv(0x13, b"name"), integer(b"\x01")))
     count = size // len(unit)
-    return signed(value(0x30, unit * count)), 1 + 5 * count
+    return signed(sequence(unit * count)), 1 + 5 * count
 
 
 def nested(depth):
     """Signed data of a value that is nested so deep; and its headers."""
-    parts, length = [], 0
-    for _ in range(depth):
-        part = header(0x30, length)
-        parts.append(part)
-        length += len(part)
-    return signed(b"".join(reversed(parts))), depth
+    return signed(der.nested(depth - 1)), depth
 
 
 def certificate():
     """Signed data of the size and shape of a certificate; and the headers of what is signed."""
-    name = value(0x30, value(0x31, value(0x30, value(0x06, b"\x55\x04\x03") + value(0x13, b"A" * 40))))
-    key = value(0x30, ALGORITHM + value(0x03, b"\x00" + b"\x55" * 270))
-    extension = value(0x30, value(0x06, b"\x55\x1d\x0e") + value(0x04, b"\x04\x14" + b"\x11" * 20))
-    extensions = extension * 10
-    inner = value(0x30, value(0x02, b"\x01") + ALGORITHM + name + name + key + value(0xA3, value(0x30, extensions)))
+    both, key = x509.name("A" * 40), x509.rsa_key(b"\x55" * 270)
+    extensions = sequence(x509.extension(x509.SUBJECT_KEY, tlv(0x04, b"\x11" * 20)) * 10)
+    inner = sequence(integer(b"\x01"), x509.SHA256_WITH_RSA, both, both, key, tlv(0xA3, extensions))
     return signed(inner), 1 + 1 + 3 + 2 * 5 + 1 + 3 + 1 + 2 + 10 * 3
 
 

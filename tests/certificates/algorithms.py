@@ -5,10 +5,12 @@ import hashlib
 import json
 import os
 import re
-import subprocess
 
 import forms
-from authority import openssl
+from fields import lines_of
+from lax import arcs, values
+from openssl import openssl
+from programs import ran
 
 ROOTS = "/etc/ssl/certs/*.pem"
 # What rpkicert calls attributes (RFC 4514 3) and extensions (RFC 5280 4.2.1, 4.2.2); all others have their arcs.
@@ -18,29 +20,6 @@ EXTENSIONS = {"2.5.29.14": "subjectKeyIdentifier", "2.5.29.15": "keyUsage", "2.5
               "2.5.29.35": "authorityKeyIdentifier", "2.5.29.37": "extendedKeyUsage",
               "1.3.6.1.5.5.7.1.1": "authorityInfoAccess", "1.3.6.1.5.5.7.1.11": "subjectInfoAccess"}
 STRINGS = {0x13: "ascii", 0x0C: "utf-8", 0x16: "ascii"}
-
-
-def values(octets):
-    """The identifier octet, the contents and the octets of each value, in order."""
-    while octets:
-        length, start = octets[1], 2
-        if length > 127:
-            start += length - 128
-            length = int.from_bytes(octets[2:start], "big")
-        yield octets[0], octets[start:start + length], octets[:start + length]
-        octets = octets[start + length:]
-
-
-def arcs(contents):
-    """The arcs of an object identifier (X.690 8.19)."""
-    numbers, number = [], 0
-    for octet in contents:
-        number = number * 128 + octet % 128
-        if octet < 128:
-            numbers.append(number)
-            number = 0
-    first = min(numbers[0] // 40, 2)
-    return ".".join(map(str, [first, numbers[0] - 40 * first, *numbers[1:]]))
 
 
 def escaped(octets):
@@ -68,7 +47,7 @@ def name_text(contents):
 
 
 def told(path, *words):
-    """What `openssl x509` says after the sign of equality."""
+    """What `openssl x509` says of a file in PEM after the sign of equality."""
     return openssl("x509", "-in", path, "-noout", *words).decode().strip().split("=", 1)[1]
 
 
@@ -117,17 +96,6 @@ def expected_fields(path):
     return fields + [("SHA-256 Fingerprint", told(path, "-fingerprint", "-sha256"))], objection
 
 
-def run(program, *words):
-    """Status, output and faults of a run."""
-    done = subprocess.run([program, *words], capture_output=True, timeout=60)
-    return done.returncode, done.stdout, done.stderr
-
-
-def lines_of(output):
-    """The fields of a text, in order."""
-    return [tuple(line.split(": ", 1)) for line in output.decode().splitlines()]
-
-
 def is_rpki(path):
     """Whether both algorithms are those of the RPKI (RFC 7935 2, 3, RFC 8608 3)."""
     text = openssl("x509", "-in", path, "-noout", "-text").decode(errors="replace")
@@ -140,23 +108,23 @@ def of_other(program, name, path):
     """A certificate of other algorithms: as lines, as JSON, checked, and held to a profile."""
     fields, objection = expected_fields(path)
     fields = [forms.hash_id(openssl("x509", "-in", path, "-outform", "DER")), ("Signature", "not checked")] + fields
-    status, output, faults = run(program, path)
+    status, output, faults = ran(program, path)
     yield f"{name}", (status, lines_of(output), faults), (0, [("File", path)] + fields, b"")
-    status, output, faults = run(program, "--json", path)
+    status, output, faults = ran(program, "--json", path)
     named = forms.pairs([("File", path)] + fields)
     yield f"{name} as JSON", (status, json.loads(output, object_pairs_hook=list), faults), (0, named, b"")
     line = f"{path}: {objection}, which the RPKI doesn't use\n".encode()
-    yield f"{name}, checked", run(program, "--check", path), (1, line, b"")
+    yield f"{name}, checked", ran(program, "--check", path), (1, line, b"")
     said = "RFC 7935 2, 3: of an algorithm that the RPKI doesn't use"
     for profile in ("ta", "router"):
-        seen = run(program, "--check", "--profile", profile, path)
+        seen = ran(program, "--check", "--profile", profile, path)
         yield f"{name} as {profile}", seen, (1, f"{path}: {said}\n".encode(), b"")
 
 
 def roots(program, folder):
     """Each root that the machine trusts is shown; of other algorithms its fields are those that openssl tells."""
     for path in sorted(glob.glob(ROOTS)):
-        status, output, faults = run(program, path)
+        status, output, faults = ran(program, path)
         yield f"root {path}", (status, output.startswith(f"File: {path}\n".encode()), faults), (0, True, b"")
         if not is_rpki(path):
             yield from of_other(program, f"root {path}", path)

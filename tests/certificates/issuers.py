@@ -6,28 +6,20 @@ import json
 import os
 from datetime import datetime, timedelta, timezone
 
-import authority
-import kinds
-import payloads
-import signing
-from authority import openssl
-from kinds import run
+import repository
+from arguments import USAGE
+from fields import OK, UNASKED
+from makers import authority, objects, payloads, signing
+from openssl import openssl, said_of, text_of
+from programs import ran
 
-SYNOPSIS = b"usage: rpkicert [--json] [--check] [--profile ta|ca|ee|detached|router [--lax]]"
-USAGE = SYNOPSIS + b" [--issuer FILE] [--at MOMENT] FILE..\n"
-OK, UNASKED = "OK", "OK, issuer not checked"
 BAD, NAME, KEY = "bad signature", "issuer name mismatch", "authority key identifier mismatch"
 OF_CERTIFICATE, OF_LIST, OF_MANIFEST = "RFC 6487 7.2: ", "RFC 5280 6.3.3: ", "RFC 9286 6.3: "
 
 
-def told(path, *words, kind="x509"):
-    """What openssl says after the sign of equality."""
-    return openssl(kind, "-inform", "DER", "-in", path, "-noout", *words).decode().strip().split("=", 1)[1]
-
-
 def extension(path, name, kind="x509"):
     """The hexadecimal digits that openssl prints of an extension; nothing where it isn't there."""
-    lines = openssl(kind, "-inform", "DER", "-in", path, "-noout", "-text").decode().splitlines()
+    lines = text_of(path, kind).splitlines()
     places = [at for at, line in enumerate(lines) if name in line]
     return lines[places[0] + 1].strip().replace("keyid:", "") if places else ""
 
@@ -37,7 +29,7 @@ def fault(path, issuer, kind="x509", clause=OF_CERTIFICATE):
     another key has signed it, or the same one under another name."""
     if extension(path, "Authority Key Identifier", kind) != extension(issuer, "Subject Key Identifier"):
         return clause + BAD
-    if told(path, "-issuer", kind=kind) != told(issuer, "-subject"):
+    if said_of(path, "-issuer", kind=kind) != said_of(issuer, "-subject"):
         return clause + NAME
     return OK
 
@@ -48,7 +40,7 @@ def line(path, said):
 
 def issued(program, folder):
     """Each certificate beside each as its issuer, as DER and as PEM."""
-    paths = {name: os.path.join(folder, name) for name, *_ in authority.CERTIFICATES}
+    paths = authority.paths(folder)
     for issuer, of_issuer in paths.items():
         for name, path in paths.items():
             said = fault(path + ".der", of_issuer + ".der")
@@ -57,37 +49,37 @@ def issued(program, folder):
             elif issuer == "router":
                 said = OF_CERTIFICATE + BAD  # RFC 7935 3: issuers have keys of RSA
             for ending in (".der", ".pem"):
-                seen = run(program, "--check", "--issuer", of_issuer + ending, path + ".der")
+                seen = ran(program, "--check", "--issuer", of_issuer + ending, path + ".der")
                 status = 0 if said == OK else 1
                 yield f"{name} by {issuer}{ending}", seen, (status, line(path + ".der", said), b"")
     with open(paths["ta"] + ".pem", "rb") as file:
         octets = file.read()
-    seen = run(program, "--check", "--issuer", "-", paths["ca"] + ".der", octets=octets)
+    seen = ran(program, "--check", "--issuer", "-", paths["ca"] + ".der", octets=octets)
     yield "an issuer as input", seen, (0, line(paths["ca"] + ".der", OK), b"")
     path = paths["ca"] + ".der"
-    plain, marked = run(program, path)[1].splitlines(), run(program, "--issuer", paths["ta"] + ".der", path)
+    plain, marked = ran(program, path)[1].splitlines(), ran(program, "--issuer", paths["ta"] + ".der", path)
     yield "a field", (marked[0], marked[1].splitlines(), marked[2]), (
         0, plain[:2] + [b"Signature: good"] + plain[3:], b"")
     yield "without an issuer", plain[2], b"Signature: not checked"
-    status, output, faults = run(program, "--json", "--issuer", paths["ta"] + ".der", path)
+    status, output, faults = ran(program, "--json", "--issuer", paths["ta"] + ".der", path)
     yield "a member", (status, json.loads(output)["signature"], faults), (0, "good", b"")
     verdicts = {"ta": {"signature": "good", "verdict": OK},
                 "ca": {"signature": BAD, "verdict": OF_CERTIFICATE + BAD}}
     for issuer, told in verdicts.items():
-        status, output, faults = run(program, "--json", "--check", "--issuer", paths[issuer] + ".der", path)
+        status, output, faults = ran(program, "--json", "--check", "--issuer", paths[issuer] + ".der", path)
         yield f"a verdict as JSON, {issuer}", (status, json.loads(output), faults), (
             0 if issuer == "ta" else 1, {"file": path, **told}, b"")
-    status, output, faults = run(program, "--json", "--at", at(period(path)[0]), path)
+    status, output, faults = ran(program, "--json", "--at", at(period(path)[0]), path)
     yield "a member without an issuer", (status, json.loads(output)["signature"], faults), (0, "not checked", b"")
-    seen = run(program, "--issuer", paths["ca"] + ".der", path)
+    seen = ran(program, "--issuer", paths["ca"] + ".der", path)
     yield "a fault", seen, (1, b"", b"rpkicert: " + line(path, OF_CERTIFICATE + BAD))
-    seen = run(program, "--check", "--profile", "ee", "--issuer", paths["ca"] + ".der", path)
+    seen = ran(program, "--check", "--profile", "ee", "--issuer", paths["ca"] + ".der", path)
     yield "the profile is first", (seen[0], seen[1].startswith(f"{path}: violates".encode())), (1, True)
-    seen = run(program, "--check", "--issuer", paths["ca"] + ".der", "--at", "1999-12-31T00:00:00Z", path)
+    seen = ran(program, "--check", "--issuer", paths["ca"] + ".der", "--at", "1999-12-31T00:00:00Z", path)
     yield "the moment is before the issuer", seen, (1, line(path, EARLY), b"")
     many = [paths[name] + ".der" for name in ("ee", "ca", "router")]
     wanted = line(many[0], OK) + line(many[1], OF_CERTIFICATE + BAD) + line(many[2], OK)
-    yield "several", run(program, "--check", "--issuer", paths["ca"] + ".der", *many), (1, wanted, b"")
+    yield "several", ran(program, "--check", "--issuer", paths["ca"] + ".der", *many), (1, wanted, b"")
 
 
 def made(folder, name, lines, issuer="ta", subject="ca"):
@@ -123,7 +115,7 @@ def broken(program, folder):
     issuer = os.path.join(folder, "ta.der")
     for number, (name, lines, said) in enumerate(rows):
         path = made(folder, f"broken{number}", lines)
-        seen = run(program, "--check", "--issuer", issuer, path)
+        seen = ran(program, "--check", "--issuer", issuer, path)
         yield f"broken: {name}", seen, (0 if said == OK else 1, line(path, said), b"")
     # an anchor of the same name and another key, and one of the same key and another name
     new_key = ["-newkey", "rsa:2048", "-nodes", "-keyout", os.path.join(folder, "new.key"), "-subj", "/CN=anchor"]
@@ -133,21 +125,21 @@ def broken(program, folder):
         openssl("req", "-x509", "-new", "-config", config, "-extensions", "extensions", "-outform", "DER", *words,
                 "-out", path)
         certificate = os.path.join(folder, "ca.der")
-        yield f"an issuer of {name}", run(program, "--check", "--issuer", path, certificate), (
+        yield f"an issuer of {name}", ran(program, "--check", "--issuer", path, certificate), (
             1, line(certificate, OF_CERTIFICATE + said), b"")
 
 
 def published(program, folder):
     """Lists and signed objects of a repository, beside both of its authorities."""
-    place = kinds.made(os.path.join(folder, "issuers"))
+    place = repository.made(os.path.join(folder, "issuers"))
     issuers = {name: os.path.join(place, "rpki.example/repo/ta", name + ".cer") for name in ("ta", "ca")}
     rows = [(os.path.join(place, "rpki.example/repo", name, name + ".crl"), None) for name in ("ta", "ca")]
     rows += [(os.path.join(place, where, name), os.path.join(place, "work", entity + ".cer"))
-             for name, (where, _, entity, _) in kinds.SIGNED.items()]
+             for name, (where, _, entity, _) in repository.SIGNED.items()]
     for path, cert in rows:
         for issuer, certificate in issuers.items():
             said = fault(cert, certificate) if cert else fault(path, certificate, "crl", OF_LIST)
-            seen = run(program, "--check", "--issuer", certificate, path)
+            seen = ran(program, "--check", "--issuer", certificate, path)
             yield f"{os.path.basename(path)} by {issuer}", seen, (0 if said == OK else 1, line(path, said), b"")
     first, last = "2026-01-01T00:00:00Z", "2036-01-01T00:00:00Z"
     before, after = "2025-12-31T23:59:59Z", "2036-01-01T00:00:01Z"
@@ -155,7 +147,7 @@ def published(program, folder):
         early = OF_CERTIFICATE + "certificate is not yet valid" if cert else OF_LIST + "issued later"
         late = OF_CERTIFICATE + "certificate has expired" if cert else OF_LIST + "stale"
         for moment, said in [(before, early), (first, UNASKED), (last, UNASKED), (after, late)]:
-            seen = run(program, "--check", "--at", moment, path)
+            seen = ran(program, "--check", "--at", moment, path)
             yield f"{os.path.basename(path)} at {moment}", seen, (0 if said == UNASKED else 1, line(path, said), b"")
     # an authority of the same name and of another key
     other = os.path.join(folder, "other.cer")
@@ -166,14 +158,14 @@ def published(program, folder):
     openssl("req", "-x509", "-new", "-newkey", "rsa:2048", "-nodes", "-keyout", os.path.join(folder, "other.key"),
             "-config", config, "-extensions", "extensions", "-subj", "/CN=ca", "-outform", "DER", "-out", other)
     path = rows[1][0]
-    yield "a list of another key", run(program, "--check", "--issuer", other, path), (
+    yield "a list of another key", ran(program, "--check", "--issuer", other, path), (
         1, line(path, fault(path, other, "crl", OF_LIST)), b"")
     yield "the key is another", fault(path, other, "crl", OF_LIST), OF_LIST + BAD
 
 
 def period(path):
     """The period of a certificate, by openssl."""
-    texts = [told(path, word, "-dateopt", "iso_8601") for word in ("-startdate", "-enddate")]
+    texts = [said_of(path, word, "-dateopt", "iso_8601") for word in ("-startdate", "-enddate")]
     return [datetime.strptime(text, "%Y-%m-%d %H:%M:%SZ").replace(tzinfo=timezone.utc) for text in texts]
 
 
@@ -202,10 +194,10 @@ def moments(program, folder):
         # A word that begins with a hyphen is no value of its own.
         apart = [] if moment[0] == "-" else [("--at", moment)]
         for words in *apart, (f"--at={moment}",):
-            seen = run(program, "--check", *words, path)
+            seen = ran(program, "--check", *words, path)
             yield f"{words}", seen, (0 if said == "OK" else 1, line(path, UNASKED if said == "OK" else said), b"")
         issuer = os.path.join(folder, "ta.der")
-        seen = run(program, "--check", f"--at={moment}", "--issuer", issuer, path)
+        seen = ran(program, "--check", f"--at={moment}", "--issuer", issuer, path)
         yield f"{moment} and an issuer", seen, (
             0 if said == "OK" else 1, line(path, said), b"")
     seconds = str(int(first.timestamp()))
@@ -222,22 +214,22 @@ def moments(program, folder):
         apart = [] if word[:1] == "-" else [["--at", word, path], ["--check", "--at", word, "--issuer", "lost", path]]
         for order in joined + apart:
             told = b"rpkicert: " + line(word, "no moment") + USAGE
-            yield f"no moment {order}", run(program, *order), (2, b"", told)
+            yield f"no moment {order}", ran(program, *order), (2, b"", told)
 
 
 def updates(program, folder):
     """A manifest within and without its updates, in the period of its signer's certificate."""
-    first, last = period(signing.signer_of(folder, kinds.MANIFEST).path)
+    first, last = period(signing.signer_of(folder, objects.MANIFEST).path)
     middle = first + (last - first) / 2
     middle = middle.replace(microsecond=0)
     until = middle + timedelta(days=1)
     spelled = [moment.strftime("%Y%m%d%H%M%SZ") for moment in (middle, until)]
     content = payloads.manifest([], this=spelled[0], until=spelled[1])
-    octets = signing.object_of(folder, kinds.MANIFEST, content)
+    octets = signing.object_of(folder, objects.MANIFEST, content)
     for moment, said in [(first - SECOND, EARLY), (first, OF_MANIFEST + "issued later"),
                          (middle - SECOND, OF_MANIFEST + "issued later"), (middle, UNASKED), (until, UNASKED),
                          (until + SECOND, OF_MANIFEST + "stale"), (last + SECOND, LATE)]:
-        seen = run(program, "--check", "--at", at(moment), "-", octets=octets)
+        seen = ran(program, "--check", "--at", at(moment), "-", octets=octets)
         yield f"a manifest at {moment}", seen, (0 if said == UNASKED else 1, line("-", said), b"")
 
 
@@ -254,10 +246,10 @@ def none(program, folder):
     for issuer, said in rows:
         for words in ["--issuer", issuer, path], ["--check", path, f"--issuer={issuer}"], \
                 ["--json", "--at", "2026-01-01T00:00:00Z", "--issuer", issuer, path, path]:
-            yield f"no issuer {issuer} {words[0]}", run(program, *words), (2, b"", b"rpkicert: " + line(issuer, said))
+            yield f"no issuer {issuer} {words[0]}", ran(program, *words), (2, b"", b"rpkicert: " + line(issuer, said))
     for words in (["--issuer"], ["--issuer", path], ["--at"], ["--at", "2026-01-01T00:00:00Z"],
                   ["--issuer", path, "--issuer", path, path], [path, "--at"]):
-        yield f"usage {words}", (run(program, *words)[0], run(program, *words)[1]), (2, b"")
+        yield f"usage {words}", (ran(program, *words)[0], ran(program, *words)[1]), (2, b"")
 
 
 TABLES = [issued, broken, published, moments, updates, none]

@@ -1,6 +1,7 @@
 """What is said of a certificate whose name or extension breaks a rule of its profile: the section of the rule, which
 name or extension it is, and what is wrong with it (RFC 6487 4.4 to 4.8.9, RFC 8209 3.1)."""
-import certificate as made
+from lax import values_of
+from makers import certificate as made, x509
 
 # The sections, and what each is of.
 ISSUER, SUBJECT = "RFC 6487 4.4: issuer: ", "RFC 6487 4.5: subject: "
@@ -38,40 +39,33 @@ def violated(text, expected):
     return f"violates the profile: {section}{expected}"
 
 
-def both(first, second):
-    """The one change, and then the other."""
-    def change(it):
-        first(it)
-        second(it)
-    return change
-
-
 # Extensions that are malformed, or not as critical as they have to be, and names; the profile, and what is said.
 CRITICAL, WRONG = "extension is not as critical as it has to be", b"\5\0"
-BY_UTF8 = (made.COMMON, made.UTF8, b"a")
+BY_UTF8 = (x509.COMMON, x509.UTF8, b"a")
 ROWS = [
-    ("an issuer of UTF-8", lambda it: it.tbs.inside.__setitem__(3, made.values_of(made.of_names(BY_UTF8))[0]), "ca",
+    ("an issuer of UTF-8", lambda it: it.tbs.inside.__setitem__(3, values_of(x509.of_names(BY_UTF8))[0]), "ca",
      ISSUER + "invalid name"),
     ("a subject of UTF-8", made.subject(BY_UTF8), "ca", SUBJECT + "invalid name"),
-    ("a subject of two names", made.subject((made.COMMON, made.PRINTABLE, b"a"), (made.COMMON, made.PRINTABLE, b"b")),
+    ("a subject of two names", made.subject((x509.COMMON, x509.PRINTABLE, b"a"), (x509.COMMON, x509.PRINTABLE, b"b")),
      "ca", SUBJECT + "multiple common names"),
-    ("a subject without a common name", made.subject((made.SERIAL, made.PRINTABLE, b"1")), "ca",
+    ("a subject without a common name", made.subject((x509.SERIAL, x509.PRINTABLE, b"1")), "ca",
      SUBJECT + "missing common name"),
-    ("constraints", made.put(made.CONSTRAINTS, WRONG), "ca", CONSTRAINTS + "unexpected value"),
-    ("a critical subject key identifier", made.turn(made.SUBJECT_KEY), "ca", SUBJECT_KEY + CRITICAL),
-    ("a subject key identifier", made.put(made.SUBJECT_KEY, WRONG), "ca", SUBJECT_KEY + "unexpected value"),
-    ("a critical authority key identifier", made.turn(made.AUTHORITY_KEY), "ca", AUTHORITY_KEY + CRITICAL),
-    ("uses that aren't critical", made.turn(made.USAGE), "ca", USAGE + CRITICAL),
-    ("uses", made.put(made.USAGE, WRONG), "ca", USAGE + "unexpected value"),
-    ("uses of an end entity", both(made.end_entity(made.SIGNED), made.put(made.USAGE, WRONG)), "ee",
+    ("constraints", made.put(x509.CONSTRAINTS, WRONG), "ca", CONSTRAINTS + "unexpected value"),
+    ("a critical subject key identifier", made.turn(x509.SUBJECT_KEY), "ca", SUBJECT_KEY + CRITICAL),
+    ("a subject key identifier", made.put(x509.SUBJECT_KEY, WRONG), "ca", SUBJECT_KEY + "unexpected value"),
+    ("a critical authority key identifier", made.turn(x509.AUTHORITY_KEY), "ca", AUTHORITY_KEY + CRITICAL),
+    ("uses that aren't critical", made.turn(x509.USAGE), "ca", USAGE + CRITICAL),
+    ("uses", made.put(x509.USAGE, WRONG), "ca", USAGE + "unexpected value"),
+    ("uses of an end entity", made.both(made.end_entity(made.SIGNED), made.put(x509.USAGE, WRONG)), "ee",
      USAGE + "unexpected value"),
-    ("a router's purposes", both(made.router, made.put(made.PURPOSES, WRONG)), "router", PURPOSES + "unexpected value"),
-    ("a router's critical purposes", both(made.router, made.turn(made.PURPOSES)), "router", PURPOSES + CRITICAL),
-    ("critical points", made.turn(made.REVOCATION), "ca", POINTS + CRITICAL),
-    ("critical access to the issuer", made.turn(made.AUTHORITY_ACCESS), "ca", AUTHORITY_ACCESS + CRITICAL),
-    ("critical access to the subject", made.turn(made.SUBJECT_ACCESS), "ca", PUBLICATION + CRITICAL),
-    ("critical access to the object", both(made.end_entity(made.SIGNED), made.turn(made.SUBJECT_ACCESS)), "ee",
+    ("a router's purposes", made.both(made.router, made.put(x509.PURPOSES, WRONG)), "router",
+     PURPOSES + "unexpected value"),
+    ("a router's critical purposes", made.both(made.router, made.turn(x509.PURPOSES)), "router", PURPOSES + CRITICAL),
+    ("critical points", made.turn(x509.REVOCATION), "ca", POINTS + CRITICAL),
+    ("critical access to the issuer", made.turn(x509.AUTHORITY_ACCESS), "ca", AUTHORITY_ACCESS + CRITICAL),
+    ("critical access to the subject", made.turn(x509.SUBJECT_ACCESS), "ca", PUBLICATION + CRITICAL),
+    ("critical access to the object", made.both(made.end_entity(made.SIGNED), made.turn(x509.SUBJECT_ACCESS)), "ee",
      SIGNED_OBJECT + CRITICAL),
-    ("policies that aren't critical", made.turn(made.POLICIES), "ca", POLICIES + CRITICAL),
-    ("policies", made.put(made.POLICIES, WRONG), "ca", POLICIES + "unexpected value"),
+    ("policies that aren't critical", made.turn(x509.POLICIES), "ca", POLICIES + CRITICAL),
+    ("policies", made.put(x509.POLICIES, WRONG), "ca", POLICIES + "unexpected value"),
 ]

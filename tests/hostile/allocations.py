@@ -7,7 +7,7 @@ arguments hold afterwards, which is then what they held before."""
 import base64
 from typing import FrozenSet, List, NamedTuple
 
-from der import bits, digits_of as digits, nested, sequence
+from der import NULL, bits, digits_of as digits, nested, sequence
 from shim import Shim
 from vectors import (
     CONSTRAINTS, EXTENSIONS, EXTENSIONS_WRITTEN, EXTENSION_WITHOUT_OCTETS, KEY, KEY_DIGITS, NAME, ORGANIZATION,
@@ -58,7 +58,6 @@ def made(octets):
     return b"made " + digits(octets)
 
 
-NULL = b"\x05\x00"
 BITS = bits(b"\x61\x62\x63")
 DEEP = nested(300)
 DEEP_SIGNED = sequence(DEEP, RSA_SIGNATURE, bits(b"\xAA"))

@@ -10,9 +10,10 @@ import re
 import shutil
 import tempfile
 
-import lists
-from certificate import UNKNOWN, Certificate
 from der import digits_of, nested, sequence
+from makers.certificate import Certificate
+from makers.lists import entry, listed
+from makers.x509 import UNKNOWN
 from programs import run
 
 MEMBERS = 1_000
@@ -126,7 +127,7 @@ def identifiers_compared(programs):
 
 def of_even_numbers(count):
     """A list of so many entries, of the even numbers from 0 on."""
-    return lists.listed(entries=sequence(*(lists.entry(2 * number) for number in range(count))))
+    return listed(entries=sequence(*(entry(2 * number) for number in range(count))))
 
 
 def serial_numbers_looked_for(programs):

@@ -4,17 +4,17 @@ leave a failed allocation free where something is allocated."""
 import functools
 import hashlib
 
-import lists
-import objects
-import payloads
-from certificate import NUMBERS, SUBJECT_KEY, oid, router
-from certificates import MOMENT, OK_ANCHOR, OK_AUTHORITY, OK_ENTITY, chain, identifier_of, issued, period_of
-from contents import INHERITED_ADDRESSES, INHERITED_NUMBERS, addresses, numbers
+from certificates import OK_ANCHOR, OK_AUTHORITY, OK_ENTITY
 from der import sequence, tlv
+from makers import lists, objects, payloads
+from makers.certificate import router
+from makers.chain import MOMENT, chain, identifier_of, issued, period_of
+from makers.objects import ASPA
+from makers.resources import INHERITED_ADDRESSES, INHERITED_NUMBERS, addresses, numbers
+from makers.x509 import NUMBERS, SUBJECT_KEY
 from paths import claims, trimmed
 from programs import run
 
-ASPA = oid("1.2.840.113549.1.9.16.1.49")
 FIRST, LAST = "20270101000000Z", "20271231235959Z"
 OUTSIDE = "RFC 6487 7.2: resources that the issuer does not have"
 COUNTS = (1_001, 10_000)
@@ -95,7 +95,7 @@ def large_certificates(programs):
 
 def signer(claimed, anchor_change=as_it_is):
     """A trust anchor, and an end entity under it that claims this."""
-    anchor, entity = objects.chain()
+    anchor, entity = objects.entity_under_anchor()
     anchor_change(anchor)
     claims(*claimed)(entity)
     return anchor, entity
@@ -185,7 +185,7 @@ def large_providers(programs):
 
 def large_contents(programs):
     """Objects are valid whatever the sizes of their contents and their types."""
-    anchor, entity = objects.chain()
+    anchor, entity = objects.entity_under_anchor()
     for size in (65_535, 65_536, 1_000_000):
         octets = anchor.stamp() + made(entity, objects.ROA, bytes(size))
         yield f"a content of {size}", told(programs, ["object", "valid"], octets), (0, ["valid"])

@@ -1,10 +1,11 @@
 """Resources down a path (RFC 6487 7.2, RFC 8360 4.2.4): a trust anchor, an authority and an end entity, of which the
 lower two claim what a row says. The trust anchor has 192.0.2.0/24, 198.51.100.0/24, 2001:db8::/32, AS64496-AS64511 and
 AS65551."""
-from certificate import ADDRESSES, ADDRESSES_V2, NUMBERS, NUMBERS_V2, POLICIES, POLICY_V2, oid, policies, policy
-from certificates import OK_ANCHOR, OK_AUTHORITY, OK_ENTITY, chain, verified
-from contents import INHERITED_ADDRESSES, INHERITED_NUMBERS, addresses, family, numbers, prefix
-from der import sequence
+from certificates import OK_ANCHOR, OK_AUTHORITY, OK_ENTITY, verified
+from der import oid, sequence
+from makers.chain import chain
+from makers.resources import INHERITED_ADDRESSES, INHERITED_NUMBERS, addresses, family, numbers, prefix
+from makers.x509 import ADDRESSES, ADDRESSES_V2, NUMBERS, NUMBERS_V2, POLICIES, POLICY_V2, policies, policy
 
 NO_AUTHORITY = ["verify_issued ok", "verify_ca error"]
 OVERCLAIMS = ["verify_issued ok", "verify_ee error"]

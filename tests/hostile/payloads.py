@@ -1,25 +1,13 @@
-"""What signed objects contain: manifests (RFC 9286 4.2), route origin attestations (RFC 9582 4) and attestations of
-providers (ASPA, version 1), made by X.690 alone: what they say, beginnings, contents of many sizes, and allocations
-that are refused."""
+"""What signed objects contain: what contents say, beginnings, contents of many sizes, and allocations that are
+refused."""
 import hashlib
-import ipaddress
 
-from der import sequence, tlv, unsigned
-from lists import rejected, seconds
+from der import tlv
+from makers.payloads import NEXT, THIS, aspa, family, file, manifest, roa
+from makers.x509 import seconds
 from programs import run
 from shim import Shim
-
-SHA256 = tlv(6, bytes.fromhex("608648016503040201"))
-THIS, NEXT = "20260101000000Z", "20260201000000Z"
-FAMILIES = {4: b"\x00\x01", 6: b"\x00\x02"}
-
-
-def file(name, octets):
-    return sequence(tlv(22, name.encode()), tlv(3, b"\0" + hashlib.sha256(octets).digest()))
-
-
-def manifest(files, number=7, this=THIS, until=NEXT):
-    return sequence(unsigned(number), tlv(24, this.encode()), tlv(24, until.encode()), SHA256, sequence(*files))
+from variants.lists import rejected
 
 
 def of_manifest(files):
@@ -29,28 +17,8 @@ def of_manifest(files):
     return told
 
 
-def prefix(text, most=None):
-    """A prefix, as the BIT STRING of its bits, and perhaps a maximum length (RFC 3779 2.2.3.8)."""
-    network = ipaddress.ip_network(text)
-    size = (network.prefixlen + 7) // 8
-    bits = bytes([8 * size - network.prefixlen]) + network.network_address.packed[:size]
-    return sequence(tlv(3, bits), unsigned(most) if most is not None else b"")
-
-
-def family(version, prefixes):
-    return sequence(tlv(4, FAMILIES[version]), sequence(*(prefix(*one) for one in prefixes)))
-
-
-def roa(number, *families):
-    return sequence(unsigned(number), sequence(*families))
-
-
 def of_roa(number, prefixes):
     return [f"origin {text}-{most if most is not None else text.split('/')[1]} => {number}" for text, most in prefixes]
-
-
-def aspa(customer, providers):
-    return sequence(tlv(0xA0, unsigned(1)), unsigned(customer), sequence(*(unsigned(one) for one in providers)))
 
 
 def of_aspa(customer, providers):

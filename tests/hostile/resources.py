@@ -2,56 +2,16 @@
 both. Python's sets have each address, and its `ipaddress` makes the texts.
 
 `PAIRS=1000000 tests/hostile/run random_pairs` makes so many pairs in place of 2,000, in some minutes."""
-import ipaddress
 import os
 import random
 
-from der import bits, sequence, tlv
+from der import sequence, tlv
+from makers.blocks import STARTS, WIDTHS, block, blocks_of, random_set, text
 from programs import run
 
 PAIRS = int(os.environ.get("PAIRS", "2000"))
 BATCH = 5_000
 SEED = 3779
-
-# A window of so many addresses, at the ends of a family and at a border inside, where carries are long.
-SIZE = 40
-STARTS = {
-    4: [0, 2**32 - SIZE, 2**31 - SIZE // 2, 0x0A000000],
-    6: [0, 2**128 - SIZE, 2**127 - SIZE // 2, 0x20010DB8 << 96],
-}
-WIDTHS = {4: 32, 6: 128}
-ADDRESSES = {4: ipaddress.IPv4Address, 6: ipaddress.IPv6Address}
-
-
-def blocks_of(numbers):
-    """The runs of numbers that follow one another, from the lowest."""
-    found = []
-    for number in sorted(numbers):
-        if found and found[-1][1] + 1 == number:
-            found[-1][1] = number
-        else:
-            found.append([number, number])
-    return [tuple(block) for block in found]
-
-
-def is_prefix(low, high):
-    size = high - low + 1
-    return size & (size - 1) == 0 and low % size == 0
-
-
-def address(number, size, width):
-    """The first bits of an address (RFC 3779 2.1.1)."""
-    octets = (size + 7) // 8
-    return bits((number >> width - 8 * octets).to_bytes(octets, "big"), 8 * octets - size)
-
-
-def block(low, high, width):
-    """A block as a prefix, or as a range whose ends are stripped (RFC 3779 2.2.3.7 to 2.2.3.9)."""
-    if is_prefix(low, high):
-        return address(low, width - (high - low).bit_length(), width)
-    zeros = (low & -low).bit_length() - 1 if low else width
-    ones = (high + 1 & -(high + 1)).bit_length() - 1
-    return sequence(address(low, width - zeros, width), address(high >> ones << ones, width - ones, width))
 
 
 def resources(sets):
@@ -64,12 +24,6 @@ def resources(sets):
     return sequence(*families)
 
 
-def text(family, low, high):
-    if is_prefix(low, high):
-        return f"{ADDRESSES[family](low)}/{WIDTHS[family] - (high - low).bit_length()}"
-    return f"{ADDRESSES[family](low)}-{ADDRESSES[family](high)}"
-
-
 def told(family, one, other):
     """The lines of a pair, by Python's sets."""
     lines = [f"encompasses {int(one >= other)}", f"encompassed {int(one <= other)}", f"equal {int(one == other)}"]
@@ -77,15 +31,6 @@ def told(family, one, other):
         lines.append(word)
         lines += [f"block {text(family, low, high)}" for low, high in blocks_of(numbers)]
     return lines
-
-
-def random_set(random, start):
-    """Runs of random addresses of the window; at times all of them, or none."""
-    numbers = set()
-    for _ in range(random.choice([0, 1, 1, 2, 3, 5, 8])):
-        low = random.randrange(SIZE)
-        numbers.update(range(start + low, start + min(SIZE, low + random.choice([1, 1, 2, 3, 4, 8, 16, SIZE]))))
-    return numbers
 
 
 def random_pair(random):

@@ -1,13 +1,11 @@
 """Signatures by RSA that openssl makes at each run, of keys of several sizes and exponents, and with octets changed."""
 import os
 import random
-import sys
 import tempfile
 
-sys.path.append(os.path.join(os.path.dirname(os.path.dirname(os.path.abspath(__file__))), "signatures"))
-
-from programs import run, unproved
-from rsa_signatures import Signer, answer, bits_of
+from judges.signatures import answer
+from makers.rsa import Key, bits_of
+from programs import build, run
 
 KEYS = [(2048, 65537), (2048, 3), (2056, 65537), (3072, 65537), (4096, 65537), (2048, 2**63 + 29)]
 MESSAGES = 10
@@ -16,10 +14,10 @@ MESSAGES = 10
 def rows(folder, chance):
     """Good signatures of messages of any length, each with a message that differs, and with an octet that does."""
     for bits, exponent in KEYS:
-        key = Signer(folder, bits, exponent, exponent)
+        key = Key(os.path.join(folder, f"{bits}-{exponent}.pem"), bits, exponent)
         for _ in range(MESSAGES):
             message = chance.randbytes(chance.randrange(200))
-            signature = key.sign(message)
+            signature = key.signed_by_openssl(message)
             changed = bytearray(signature)
             changed[chance.randrange(len(changed))] ^= 1 << chance.randrange(8)
             for name, octets, value in (("good", message, signature), ("another message", message + b"a", signature),
@@ -32,7 +30,7 @@ def new_signatures(_):
     seed = random.randrange(2**32)
     with tempfile.TemporaryDirectory() as folder:
         program = os.path.join(folder, "rsa_rows")
-        unproved.build("rsa_rows", program)
+        build("rsa_rows", program)
         made = list(rows(folder, random.Random(seed)))
         lines = [f"{bits_of(key.octets, key.exponent).hex()} {message.hex()} {value.hex()}\n"
                  for _, key, message, value in made]

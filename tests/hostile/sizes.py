@@ -8,14 +8,14 @@ import hashlib
 import os
 from itertools import chain
 
-from der import bits, contents, members, nested, sequence, tlv, unsigned
 from allocations import made, on_cursor, on_octets, on_uri, on_value
+from der import NULL, bits, nested, sequence, tlv, unsigned
+from lax import contents, members
 from programs import TOP
 from shim import Shim
 from vectors import COMMON_NAME, P256_KEY, RSA_KEY, RSA_SIGNATURE
 
 SIZES = [0, 1, 127, 128, 255, 256, 65_535, 65_536, 1_000_000]
-NULL = b"\x05\x00"
 
 
 def filled(size):

@@ -3,14 +3,13 @@
 `hostile_calls write` does that in twelve ways, and tells of each writer in a line: its number, the call that fails
 (from 0), how often it was called, how the encoder ended, and the octets that it holds. The first six take an octet at a
 call, the other six what they are given; of each six the first three fail once, the others from that call on."""
-from der import bits, sequence, tlv
+from der import NULL, bits, sequence, tlv
 from programs import run
 from vectors import (
     CONSTRAINTS, COMMON_NAME, ECDSA_SIGNATURE, KEY, KEY_IDENTIFIER, NAME, P256_KEY, RSA_KEY, RSA_SIGNATURE, SHA256,
     SHA256_IDENTIFIER, SIGNED, SUBJECT, VALIDITY,
 )
 
-NULL = bytes.fromhex("0500")
 RSYNC = b"rSync://hOst/module/"
 HTTPS = b"hTtps://h"
 BITS = bits(b"\xAA", 1)

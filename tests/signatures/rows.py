@@ -10,31 +10,38 @@ import sys
 import tempfile
 
 sys.dont_write_bytecode = True
+sys.path.append(os.path.join(os.path.dirname(os.path.abspath(__file__)), "..", "python"))
 
-from rsa_signatures import PREFIX, Signer, answer, bits_of, encoded, openssl_says
+from judges.signatures import answer
+from makers.rsa import PREFIX, Key, bits_of, encoded, openssl_says
+from programs import TOP
 
-TOP = os.path.dirname(os.path.dirname(os.path.dirname(os.path.abspath(__file__))))
 MESSAGE = b"abc"
 SHA_1 = bytes.fromhex("3021300906052b0e03021a05000414")
+
+
+def key_in(folder, bits=2048, exponent=65537):
+    """The key of the folder with so many bits and this exponent."""
+    return Key(os.path.join(folder, f"{bits}-{exponent}.pem"), bits, exponent)
 
 
 def good(folder):
     """Good signatures: of several messages, sizes and exponents."""
     for name, message in (("abc", MESSAGE), ("nothing", b""), ("1,000 octets", b"a" * 1000)):
-        key = Signer(folder, 2048)
-        yield f"message {name}", key.octets, key.exponent, message, key.sign(message)
+        key = key_in(folder)
+        yield f"message {name}", key.octets, key.exponent, message, key.signed_by_openssl(message)
     for bits in (2041, 2047, 2049, 2056, 2112, 3072, 4095, 4096):
-        key = Signer(folder, bits)
-        yield f"{bits} bits", key.octets, key.exponent, MESSAGE, key.sign(MESSAGE)
+        key = key_in(folder, bits)
+        yield f"{bits} bits", key.octets, key.exponent, MESSAGE, key.signed_by_openssl(MESSAGE)
     for exponent in (3, 5, 17, 257, 65539, 2**32 + 15, 2**63 + 29, 2**64 - 59):
-        key = Signer(folder, 2048, made_for=exponent, exponent=exponent)
-        yield f"exponent {exponent}", key.octets, exponent, MESSAGE, key.sign(MESSAGE)
+        key = key_in(folder, exponent=exponent)
+        yield f"exponent {exponent}", key.octets, exponent, MESSAGE, key.signed_by_openssl(MESSAGE)
 
 
 def changed(folder):
     """A signature that is changed, or another number."""
-    key = Signer(folder, 2048)
-    signature = key.sign(MESSAGE)
+    key = key_in(folder)
+    signature = key.signed_by_openssl(MESSAGE)
     number = int.from_bytes(signature, "big")
     for at in (0, 1, 100, 254, 255):
         for bit in (1, 128):
@@ -62,7 +69,7 @@ def changed(folder):
 
 def other_encodings(folder):
     """Signatures of other encodings than the one (RFC 8017 8.2.2, step 3)."""
-    key = Signer(folder, 2048)
+    key = key_in(folder)
     ones = b"\xff" * 202
     without_null = bytes.fromhex("302f300b06096086480165030402010420")
     long_lengths = bytes.fromhex("30813230810d060960864801650304020105000420")
@@ -93,7 +100,7 @@ def cube_root(number):
 
 def forged(folder):
     """Forgeries under the exponent 3 (Bleichenbacher 2006), with padding and without."""
-    key = Signer(folder, 2048, exponent=3, made_for=3)
+    key = key_in(folder, exponent=3)
     for name, padding in (("eight octets of padding", b"\xff" * 8), ("no padding", b"")):
         octets = encoded(256, MESSAGE, padding=padding, behind=bytes(202 - len(padding)))
         root = cube_root(int.from_bytes(octets, "big"))
@@ -102,8 +109,8 @@ def forged(folder):
 
 def other_keys(folder):
     """Keys that are rejected, or odd."""
-    key = Signer(folder, 2048)
-    signature = key.sign(MESSAGE)
+    key = key_in(folder)
+    signature = key.signed_by_openssl(MESSAGE)
     for exponent in (0, 1, 2, 3, 65536, 2**64, 2**64 + 1):
         yield f"key: exponent {exponent}", key.octets, exponent, MESSAGE, signature
     numbers = {"even": key.modulus - 1, "a bit less": key.modulus >> 1 | 1, "of 255 octets": key.modulus >> 8 | 1,

@@ -1,6 +1,6 @@
 //! Revocation lists, read by [Crl], compared with rows that tests/linked/lists/rows.py writes: those that
 //! tests/linked/samples.py picks of them for rows/lists.txt, and all, where the variable `RPKI_LIST_ROWS` names their
-//! file; and the list below, of tests/hostile/lists.py.
+//! file; and the list below, of tests/python/makers/lists.py.
 
 use rpki_proved::crypto::RpkiSignatureAlgorithm;
 use rpki_proved::repository::crl::{Crl, CrlEntry, CrlError, CrlStore};

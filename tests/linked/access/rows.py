@@ -1,6 +1,6 @@
 """Writes the rows of access descriptions, general names and CRL distribution points that the test in C reads: each form
 that a general name has (RFC 5280 4.2.1.6), what is near to one, and octets that were changed. Statuses and places are
-found here from the left, without the library.
+found by tests/python/judges/access.py.
 
 usage: rows.py > FILE
 
@@ -11,141 +11,21 @@ import os
 import random
 import sys
 
-HERE = os.path.dirname(os.path.abspath(__file__))
-sys.path[:0] = [os.path.join(HERE, "..", "resources"), os.path.join(HERE, "..", "..", "hostile")]
+sys.dont_write_bytecode = True
+sys.path.append(os.path.join(os.path.dirname(os.path.abspath(__file__)), "..", "..", "python"))
 
-import leftmost
 from changes import changed
 from der import sequence, tlv
-from leftmost import CONTENT, TRUNCATED, Octets, need
-
-# The methods by what follows id-pkix, 1.3.6.1.5.5.7.48 (RFC 5280 4.2.2, RFC 6487 4.8.8, RFC 8182 3.2).
-METHODS = {2: 1, 5: 2, 10: 3, 11: 4, 13: 5}
-ARC = bytes.fromhex("2b0601050507") + b"\x30"
-
-
-# ---- what the octets are
-
-def header(octets):
-    """The tag and the contents of a value at the front, which is moved past."""
-    tag, length = octets.tag(), octets.length()
-    need(length <= len(octets.octets) - octets.place, TRUNCATED)
-    octets.place += length
-    return tag, octets.octets[octets.place - length:octets.place]
-
-
-def are_values(contents):
-    """Whether the contents are values, with everything nested in them."""
-    octets = Octets(contents)
-    try:
-        while not octets.is_empty():
-            tag, inner = header(octets)
-            if tag[1] and not are_values(inner):
-                return False
-    except leftmost.Wrong:
-        return False
-    return True
-
-
-def is_identifier(contents):
-    """Arcs in their shortest form (X.690 8.19.2)."""
-    starts = [at for at in range(len(contents)) if at == 0 or contents[at - 1] < 0x80]
-    return contents != b"" and contents[-1] < 0x80 and all(contents[at] != 0x80 for at in starts)
-
-
-def attribute(octets):
-    parts = octets.take(0x30)
-    need(is_identifier(parts.take(6).octets), CONTENT)
-    need(not parts.is_empty(), CONTENT)
-    start = parts.place
-    header(parts)
-    need(are_values(parts.octets[start:parts.place]) and parts.is_empty(), CONTENT)
-
-
-def is_directory_name(contents):
-    """A Name (RFC 5280 4.1.2.4): relative names, of attributes, one at least of each."""
-    octets = Octets(contents)
-    try:
-        names = octets.take(0x30)
-        need(not names.is_empty() and octets.is_empty(), CONTENT)
-        while not names.is_empty():
-            relative = names.take(0x31)
-            need(not relative.is_empty(), CONTENT)
-            while not relative.is_empty():
-                attribute(relative)
-    except leftmost.Wrong:
-        return False
-    return True
-
-
-FORMS = {
-    (0, True): are_values, (3, True): are_values, (5, True): are_values, (4, True): is_directory_name,
-    (1, False): bytes.isascii, (2, False): bytes.isascii, (7, False): lambda octets: len(octets) in (4, 16),
-    (8, False): is_identifier,
-}
-
-
-def general_name(octets):
-    """The place of the URI at the front, if it is one, as its start and length; the cursor is moved past it."""
-    if octets.octets[octets.place:octets.place + 1] in (b"\x86", b"\xa6"):
-        text = octets.take(0x86).octets
-        need(text.isascii(), CONTENT)
-        return octets.place - len(text), len(text)
-    (kind, constructed, number), contents = header(octets)
-    need(kind == 2 and FORMS.get((number, constructed), lambda octets: False)(contents), CONTENT)
-    return None
-
-
-def told(uri):
-    return f"{uri[0]} {uri[1]}" if uri else "0 0"
-
-
-def name(octets):
-    found = Octets(octets)
-    uri = general_name(found)
-    return f"{told(uri)} {found.place} {int(uri is not None)}"
-
-
-def access(octets):
-    found = Octets(octets)
-    parts = found.take(0x30)
-    start = found.place - len(parts.octets)
-    method = parts.take(6).octets
-    need(is_identifier(method), CONTENT)
-    place = start + parts.place - len(method)
-    uri = general_name(parts)
-    parts.end()
-    number = METHODS.get(method[-1], 0) if method[:-1] == ARC else 0
-    uri_there = uri and (uri[0] + start, uri[1])
-    return f"{place} {len(method)} {told(uri_there)} {found.place} {number} {int(uri is not None)}"
-
-
-def point(octets):
-    found = Octets(octets)
-    around = [found]
-    for first in (0x30, 0x30, 0xA0, 0xA0):
-        around.append(around[-1].take(first))
-    for each in reversed(around[:-1]):
-        each.end()
-    names = around[-1].octets
-    return f"{len(octets) - len(names)} {len(names)}"
-
-
-def row(kind, octets):
-    try:
-        said = f"0 {READERS[kind](octets)}"
-    except leftmost.Wrong as wrong:
-        said = str(wrong.args[0])
-    return f"{kind} {octets.hex() or '-'} {said}"
-
+from judges.access import ARC, METHODS, access, name, point
+from makers.x509 import uri
+from strict import status_of
 
 READERS = {"access": access, "name": name, "point": point}
 
 
-# ---- octets
-
-def uri(text):
-    return tlv(0x86, text)
+def row(kind, octets):
+    status, found = status_of(READERS[kind], octets)
+    return " ".join(map(str, [kind, octets.hex() or "-", status, *(found or [])]))
 
 
 def method(last):

@@ -1,7 +1,7 @@
 """Writes the rows of manifests, route origin attestations and attestations of providers that the tests in C and in Rust
 read: contents of openssl, variants that use or break one rule each, and contents with octets changed, each with its
-status: the malformed part by RFC 9286, RFC 9582 or the profile of ASPA, found here from the left, without the
-library. Where that is 0 there is what the content says, and where its parts are.
+status: the malformed part by RFC 9286, RFC 9582 or the profile of ASPA, which tests/python/judges/contents.py finds.
+Where that is 0 there is what the content says, and where its parts are.
 
 usage: rows.py > FILE
 
@@ -13,213 +13,20 @@ A row begins with one of these words, the octets in hexadecimal digits or `-`, a
   aspa       the customer, the place of the providers and their count; then each number and the size of its entry
   file, address4, address6, provider     one entry at the front of the octets, in the same words
   names      a manifest: how many files it has, and 1 where no two have the same name, else 0"""
-import datetime
 import os
 import random
-import re
-import subprocess
 import sys
 import tempfile
 
-HERE = os.path.dirname(os.path.abspath(__file__))
-sys.path[:0] = [os.path.join(HERE, "..", "resources"), os.path.join(HERE, "..", "..", "hostile")]
+sys.dont_write_bytecode = True
+sys.path.append(os.path.join(os.path.dirname(os.path.abspath(__file__)), "..", "..", "python"))
 
-import leftmost
 from changes import changed
 from der import bits, sequence, tlv, unsigned
-from values import Wrong, need
-
-(MANIFEST, NUMBER, THIS_UPDATE, NEXT_UPDATE, HASH_ALGORITHM, FILE_LIST, ORDER, ROA, AS_ID, BLOCKS, ASPA, VERSION,
- CUSTOMER, PROVIDERS) = range(138, 152)
-SHA256 = bytes.fromhex("608648016503040201")
-CYCLE = 146097 * 86400  # 400 years
-
-
-def whole(octets):
-    parts = leftmost.Octets(octets)
-    parts.start = 0
-    return parts
-
-
-def take(parts, first):
-    """The contents of a value, which know where they start in all octets."""
-    inner = parts.take(first)
-    inner.start = parts.start + parts.place - len(inner.octets)
-    return inner
-
-
-def only(parts, first):
-    """The same of a value that nothing follows."""
-    inner = take(parts, first)
-    parts.end()
-    return inner
-
-
-def part_of(number, call, *words):
-    """What the call returns; where it can't, this part is wrong."""
-    try:
-        return call(*words)
-    except leftmost.Wrong:
-        raise Wrong(number) from None
-
-
-def place(parts):
-    return [parts.start, len(parts.octets)]
-
-
-def each(parts, call):
-    """The entries that are all of the octets: for each the words of the call."""
-    found = []
-    while not parts.is_empty():
-        found.append(call(parts))
-    return found
-
-
-# ---- manifests (RFC 9286 4.2)
-
-
-def serial(parts):
-    """A number of at most twenty octets, that is not negative, in its shortest form (X.690 8.3)."""
-    octets = take(parts, 2).octets
-    leftmost.need(1 <= len(octets) <= 20 and octets[0] < 0x80, leftmost.CONTENT)
-    leftmost.need(len(octets) == 1 or octets[0] or octets[1] >= 0x80, leftmost.CONTENT)
-    return octets.rjust(20, b"\0")
-
-
-def moment(parts):
-    """The seconds of a generalized time, of the form YYYYMMDDHHMMSSZ (RFC 5280 4.1.2.5.2), since 1970."""
-    text = take(parts, 0x18).octets
-    leftmost.need(re.fullmatch(rb"[0-9]{14}Z", text), leftmost.CONTENT)
-    year, *others = int(text[:4]), *(int(text[at:at + 2]) for at in range(4, 14, 2))
-    try:
-        # Python's calendar begins with the year 1.
-        found = datetime.datetime(year or 400, *others, tzinfo=datetime.timezone.utc)
-    except ValueError:
-        raise leftmost.Wrong(leftmost.CONTENT) from None
-    return int(found.timestamp()) - (0 if year else CYCLE)
-
-
-def algorithm(parts):
-    leftmost.need(take(parts, 6).octets == SHA256, leftmost.CONTENT)
-
-
-def file(parts):
-    """The place of the name in the entry, the size of the entry, and the digest."""
-    first = parts.place
-    inside = take(parts, 0x30)
-    name = take(inside, 0x16)
-    leftmost.need(re.fullmatch(rb"[-_A-Za-z0-9]+\.[a-z]{3}", name.octets), leftmost.CONTENT)
-    digest = take(inside, 3).octets
-    leftmost.need(len(digest) == 33 and digest[0] == 0, leftmost.CONTENT)
-    inside.end()
-    return [name.start - parts.start - first, len(name.octets), parts.place - first, digest[1:].hex()]
-
-
-def files(parts):
-    listed = only(parts, 0x30)
-    return listed, each(listed, file)
-
-
-def manifest(octets):
-    parts = part_of(MANIFEST, only, whole(octets), 0x30)
-    number = part_of(NUMBER, serial, parts)
-    this, following = part_of(THIS_UPDATE, moment, parts), part_of(NEXT_UPDATE, moment, parts)
-    part_of(HASH_ALGORITHM, algorithm, parts)
-    listed, found = part_of(FILE_LIST, files, parts)
-    need(this < following, ORDER)
-    return [*place(listed), len(found), this, following, number.hex(), *sum(found, [])]
-
-
-def names(octets):
-    start, _, count, _, _, _, *found = manifest(octets)
-    told = set()
-    for at in range(0, len(found), 4):
-        told.add(octets[start + found[at]:start + found[at] + found[at + 1]])
-        start += found[at + 2]
-    return [count, int(len(told) == count)]
-
-
-# ---- route origin attestations (RFC 9582 4)
-
-
-def address(parts, width):
-    """The address, the length, the maximum length, whether it is there, and the size of the entry."""
-    first = parts.place
-    inside = take(parts, 0x30)
-    number, length = leftmost.address(inside, width)
-    most = None
-    if inside.begins_with(2):
-        octets = take(inside, 2).octets
-        leftmost.need(octets and octets[0] < 0x80 and (len(octets) == 1 or octets[0] or octets[1] >= 0x80),
-                      leftmost.CONTENT)
-        most = int.from_bytes(octets, "big")
-        leftmost.need(most < 256, leftmost.CONTENT)
-    inside.end()
-    leftmost.need(most is None or length <= most <= width, leftmost.CONTENT)
-    low = (number << width - length).to_bytes(width // 8, "big").ljust(16, b"\0")
-    return [low.hex(), length, length if most is None else most, int(most is not None), parts.place - first]
-
-
-def family(parts):
-    inside = take(parts, 0x30)
-    name = take(inside, 4).octets
-    leftmost.need(name in (b"\0\1", b"\0\2"), leftmost.CONTENT)
-    width = 32 if name == b"\0\1" else 128
-    listed = only(inside, 0x30)
-    leftmost.need(not listed.is_empty(), leftmost.CONTENT)
-    return width, listed, each(listed, lambda entry: address(entry, width))
-
-
-def families(parts, strict):
-    found = each(only(parts, 0x30), family)
-    widths = [width for width, *_ in found]
-    leftmost.need(sorted(widths) in ([32], [128], [32, 128]), leftmost.CONTENT)
-    leftmost.need(not strict or widths == sorted(widths), leftmost.CONTENT)
-    return {width: (listed, prefixes) for width, listed, prefixes in found}
-
-
-def roa(octets, strict):
-    parts = part_of(ROA, only, whole(octets), 0x30)
-    number = part_of(AS_ID, leftmost.as_number, parts)
-    found = part_of(BLOCKS, families, parts, strict)
-    words, entries = [number], []
-    for width in (32, 128):
-        listed, prefixes = found.get(width, (None, []))
-        # Where a family isn't there its place is empty, wherever it is.
-        words += [*(place(listed) if listed else ["-", 0]), len(prefixes)]
-        entries += sum(prefixes, [])
-    return words + entries
-
-
-# ---- attestations of providers (draft-ietf-sidrops-aspa-profile)
-
-
-def version(parts):
-    leftmost.need(only(take(parts, 0xa0), 2).octets == b"\1", leftmost.CONTENT)
-
-
-def provider(parts):
-    first = parts.place
-    return [leftmost.as_number(parts), parts.place - first]
-
-
-def providers(parts, customer):
-    listed = only(parts, 0x30)
-    found = each(listed, provider)
-    numbers = [number for number, _ in found]
-    leftmost.need(numbers and numbers == sorted(set(numbers)) and customer not in numbers, leftmost.CONTENT)
-    return listed, found
-
-
-def aspa(octets):
-    parts = part_of(ASPA, only, whole(octets), 0x30)
-    part_of(VERSION, version, parts)
-    customer = part_of(CUSTOMER, leftmost.as_number, parts)
-    listed, found = part_of(PROVIDERS, providers, parts, customer)
-    return [customer, *place(listed), len(found), *sum(found, [])]
-
-
-# ---- contents
+from judges.contents import SHA256, address, aspa, file, manifest, names, provider, roa
+from openssl import openssl
+from programs import octets_of, write
+from strict import Octets, Wrong
 
 
 def name(text=b"a.cer"):
@@ -405,12 +212,9 @@ c = INTEGER:4200000000
 def of_openssl(kind):
     """The content that openssl makes of a description."""
     with tempfile.TemporaryDirectory() as folder:
-        source, made = os.path.join(folder, "description"), os.path.join(folder, "content")
-        with open(source, "w", encoding="ascii") as out:
-            out.write(DESCRIPTIONS[kind])
-        subprocess.run(["openssl", "asn1parse", "-genconf", source, "-noout", "-out", made], check=True)
-        with open(made, "rb") as read:
-            return read.read()
+        source, made = write(folder, "description", DESCRIPTIONS[kind].encode()), os.path.join(folder, "content")
+        openssl("asn1parse", "-genconf", source, "-noout", "-out", made)
+        return octets_of(made)
 
 
 def variants(octets, source, count):
@@ -427,8 +231,8 @@ def row(word, octets, call, *words):
     """A row: the status, and what the content says."""
     try:
         told = [0, *call(*words)]
-    except (Wrong, leftmost.Wrong) as wrong:
-        told = wrong.args[:1]
+    except Wrong as wrong:
+        told = [wrong.status]
     print(word, octets.hex() or "-", *told)
     return told[0]
 
@@ -438,10 +242,10 @@ READERS = {
     "manifest": [("manifest", manifest)],
     "roa": [("roa0", lambda octets: roa(octets, False)), ("roa1", lambda octets: roa(octets, True))],
     "aspa": [("aspa", aspa)],
-    "file": [("file", lambda octets: file(whole(octets)))],
-    "address": [("address4", lambda octets: address(whole(octets), 32)),
-                ("address6", lambda octets: address(whole(octets), 128))],
-    "provider": [("provider", lambda octets: provider(whole(octets)))],
+    "file": [("file", lambda octets: file(Octets(octets)))],
+    "address": [("address4", lambda octets: address(Octets(octets), 32)),
+                ("address6", lambda octets: address(Octets(octets), 128))],
+    "provider": [("provider", lambda octets: provider(Octets(octets)))],
     "names": [("names", names)],
 }
 

@@ -29,79 +29,60 @@ import re
 import sys
 import tempfile
 
-HERE = os.path.dirname(os.path.abspath(__file__))
-sys.path[:0] = [os.path.join(HERE, "..", "..", folder) for folder in ("hostile", "certificates")]
+sys.dont_write_bytecode = True
+sys.path.append(os.path.join(os.path.dirname(os.path.abspath(__file__)), "..", "..", "python"))
 
-import lists
-import objects
-import payloads
-import contents as resources
-from certificate import oid
-from der import bits, sequence, tlv, unsigned
-from lists import authority, extension, name, time
-from signing import ASPA, CHECKLIST, MANIFEST, ROA, numbers_of, openssl, signature_of
+from der import TRUE, bits, oid, sequence, set_of, tlv, unsigned
+from makers import lists, objects, payloads, resources, x509
+from makers.lists import authority
+from makers.objects import ASPA, CHECKLIST, MANIFEST, ROA
+from makers.rsa import Key
+from makers.x509 import extension, name, time
+from openssl import openssl
+from programs import TOP
 
 (TOO_SMALL, NO_ANSWER, TOO_NEW, TOO_OLD, NO_KEY, BAD_SIGNATURE, DIGEST, TYPE, SIGNER, KEY, RESOURCES,
  INHERITED, OTHER_ANCHOR, OTHER_KINDS) = 9, 10, *range(50, 62)
 PART_CERTIFICATE, PART_OBJECT, PART_ROA, PART_ASPA, PART_EXTENSIONS = 64, 123, 145, 148, 76
 WRONG_SUBJECT_KEY, WRONG_POLICIES, NO_POLICIES, BLOCKS = 81, 84, 108, 116
 NO_ISSUER, OTHER_ISSUER, OTHER_AUTHORITY = 152, 153, 154
-POLICY, POLICY_V2 = oid("1.3.6.1.5.5.7.14.2"), oid("1.3.6.1.5.5.7.14.3")
-TRUE = tlv(1, b"\xff")
 FROM, UNTIL = "260101000000Z", "270101000000Z"
-NOW = lists.seconds("260601000000Z")
+NOW = x509.seconds("260601000000Z")
 
 
-class Key:
-    """A key of RSA, its octets, and what identifies it (RFC 6487 4.8.2)."""
+class Authority(Key):
+    """A key, in octets as certificates have it, and what it signs."""
 
-    def __init__(self, folder, number, size=2048):
-        path = os.path.join(folder, f"{number}.key")
-        openssl("genpkey", "-algorithm", "RSA", "-pkeyopt", f"rsa_keygen_bits:{size}", "-out", path)
-        self.numbers = numbers_of(path)
-        self.octets = openssl("pkey", "-in", path, "-pubout", "-outform", "DER")
-        own = sequence(unsigned(self.numbers[0]), unsigned(65537))
-        assert self.octets.endswith(own)
-        self.identifier = hashlib.sha1(own).digest()
-
-    def sign(self, message):
-        return signature_of(self.numbers, message)
+    def __init__(self, folder, number, size):
+        super().__init__(os.path.join(folder, f"{number}.key"), size)
+        self.public = openssl("pkey", "-in", self.path, "-pubout", "-outform", "DER")
+        assert self.public.endswith(self.bits)
 
     def signed(self, data):
-        return lists.signed(data, signature=bits(self.sign(data)))
-
-
-def of(identifier, value, critical=b""):
-    return extension(tlv(6, oid(identifier)), value, critical)
-
-
-def policies(policy):
-    return of("2.5.29.32", sequence(sequence(tlv(6, policy))), TRUE)
+        return x509.signed(data, signature=bits(self.sign(data)))
 
 
 def addresses(value, version=1, critical=TRUE):
-    return of("1.3.6.1.5.5.7.1.7" if version == 1 else "1.3.6.1.5.5.7.1.28", value, critical)
+    return extension(x509.ADDRESSES if version == 1 else x509.ADDRESSES_V2, value, critical)
 
 
 def numbers(value, version=1, critical=TRUE):
-    return of("1.3.6.1.5.5.7.1.8" if version == 1 else "1.3.6.1.5.5.7.1.29", value, critical)
+    return extension(x509.NUMBERS if version == 1 else x509.NUMBERS_V2, value, critical)
 
 
 def subject_key(octets):
-    return of("2.5.29.14", tlv(4, octets))
+    return extension(x509.SUBJECT_KEY, tlv(4, octets))
 
 
-def certificate(key, by, *more, subject="B", issuer="A", identifier=None, authority_key=None, policy=POLICY):
+def certificate(key, by, *more, subject="B", issuer="A", identifier=None, authority_key=None, policy=x509.POLICY):
     """A certificate of this key, by the issuer's; with `identifier` or `authority_key` of b"" without one."""
     identifier = key.identifier if identifier is None else identifier
     authority_key = by.identifier if authority_key is None else authority_key
     listed = [subject_key(identifier)] if identifier else []
     listed += [authority(authority_key)] if authority_key else []
-    listed += [policies(policy)] if policy else []
-    data = sequence(tlv(0xA0, unsigned(2)), unsigned(9), lists.SHA256_WITH_RSA, name(issuer),
-                    sequence(time(FROM), time(UNTIL)), name(subject), key.octets,
-                    tlv(0xA3, sequence(*listed, *more)))
-    return by.signed(data)
+    listed += [extension(x509.POLICIES, sequence(x509.policy(policy)), TRUE)] if policy else []
+    return by.signed(x509.certificate(key.public, name(subject), name(issuer), unsigned(9), x509.validity(FROM, UNTIL),
+                                      [*listed, *more]))
 
 
 def row(*words):
@@ -119,19 +100,19 @@ def certificates(top, own, other, small):
     """Certificates, and who may have issued them."""
     anchor = certificate(top, top, subject="A")
     right = certificate(own, top)
-    row("anchor", anchor, top.octets, 0)
-    row("anchor", certificate(top, top, subject="A", authority_key=b""), top.octets, 0)
-    row("anchor", changed(anchor), top.octets, BAD_SIGNATURE)
-    row("anchor", certificate(top, other, subject="A"), top.octets, BAD_SIGNATURE)
-    row("anchor", anchor, own.octets, OTHER_ANCHOR)
-    row("anchor", anchor, top.octets + b"\0", OTHER_ANCHOR)
+    row("anchor", anchor, top.public, 0)
+    row("anchor", certificate(top, top, subject="A", authority_key=b""), top.public, 0)
+    row("anchor", changed(anchor), top.public, BAD_SIGNATURE)
+    row("anchor", certificate(top, other, subject="A"), top.public, BAD_SIGNATURE)
+    row("anchor", anchor, own.public, OTHER_ANCHOR)
+    row("anchor", anchor, top.public + b"\0", OTHER_ANCHOR)
     row("anchor", anchor, b"", OTHER_ANCHOR)
-    row("anchor", certificate(top, top, subject="A", identifier=b""), own.octets, OTHER_ANCHOR)
-    row("anchor", certificate(top, top, subject="A", identifier=own.identifier), top.octets, KEY)
-    row("anchor", certificate(top, top, subject="A", identifier=b""), top.octets, KEY)
-    row("anchor", certificate(top, top, subject="A", identifier=bytes(19)), top.octets, WRONG_SUBJECT_KEY)
-    row("anchor", b"", top.octets, PART_CERTIFICATE)
-    row("anchor", certificate(small, small, subject="A"), small.octets, NO_KEY)
+    row("anchor", certificate(top, top, subject="A", identifier=b""), own.public, OTHER_ANCHOR)
+    row("anchor", certificate(top, top, subject="A", identifier=own.identifier), top.public, KEY)
+    row("anchor", certificate(top, top, subject="A", identifier=b""), top.public, KEY)
+    row("anchor", certificate(top, top, subject="A", identifier=bytes(19)), top.public, WRONG_SUBJECT_KEY)
+    row("anchor", b"", top.public, PART_CERTIFICATE)
+    row("anchor", certificate(small, small, subject="A"), small.public, NO_KEY)
     row("signed", right, anchor, 0)
     row("signed", anchor, anchor, 0)
     row("signed", changed(right), anchor, BAD_SIGNATURE)
@@ -158,7 +139,7 @@ def revocation_lists(top, other, small, anchor):
         identifier = by.identifier if identifier is None else identifier
         return by.signed(lists.fields(extensions=lists.extensions([authority(identifier), lists.number()]), **more))
 
-    this, until = lists.seconds(lists.THIS), lists.seconds(lists.NEXT)
+    this, until = x509.seconds(lists.THIS), x509.seconds(lists.NEXT)
     right = listed()
     for moment, status in [(this, 0), (this + 1, 0), (until, 0), (this - 1, TOO_NEW), (until + 1, TOO_OLD),
                            (-62167219201, 5)]:
@@ -180,12 +161,9 @@ def signed_objects(top, own, other, small):
              **of_certificate):
         digest = hashlib.sha256(content).digest() if digest is None else digest
         members = [objects.of_type(signed_kind), objects.of_time(), objects.of_digest(digest), *more]
-        signature = (by or key).sign(tlv(0x31, b"".join(members)))
-        cert = certificate(key, top, **of_certificate)
-        signer = objects.signer_fields(identifier=tlv(0x80, key.identifier if identifier is None else identifier),
-                                       attributes=objects.attributes(members), signature=tlv(4, signature))
-        fields = objects.content_fields(type=tlv(6, kind), content=tlv(0xA0, tlv(4, content)))
-        return objects.made(content=fields, certificates=tlv(0xA0, cert), signers=tlv(0x31, signer))
+        return objects.signed_object(kind, content, certificate(key, top, **of_certificate),
+                                     key.identifier if identifier is None else identifier, members,
+                                     (by or key).sign(set_of(*members)))
 
     row("object", made(), True, 0)
     row("object", made(content=b""), True, 0)
@@ -261,7 +239,7 @@ def settle_addresses(own, top, claim, held, trims=False, version=1):
     value = sequence(*(resources.family({4: 1, 6: 2}[family], *map(resources.prefix, texts or []))
                        for family, texts in sorted(claim.items())))
     listed = [addresses(value, version)] if claim else []
-    cert = certificate(own, top, *listed, policy=POLICY_V2 if trims else POLICY)
+    cert = certificate(own, top, *listed, policy=x509.POLICY_V2 if trims else x509.POLICY)
     held = [block(text) for text in held]
     found, status = [], 0
     for family in 4, 6:
@@ -279,7 +257,7 @@ def settle_addresses(own, top, claim, held, trims=False, version=1):
 def settle_numbers(own, top, claim, held, trims=False, version=1):
     """A claim is a list of numbers and pairs, or "inherit", or None where it is left out."""
     listed = [] if claim is None else [numbers(resources.numbers(*([] if claim == "inherit" else claim)), version)]
-    cert = certificate(own, top, *listed, policy=POLICY_V2 if trims else POLICY)
+    cert = certificate(own, top, *listed, policy=x509.POLICY_V2 if trims else x509.POLICY)
     claimed = [] if claim is None else None if claim == "inherit" else [
         each if isinstance(each, tuple) else (each, each) for each in claim]
     found = settled(claimed, held, trims)
@@ -321,7 +299,7 @@ def settling(own, top):
         row(call, b"", PART_CERTIFICATE, "-", "/")
         row(call, certificate(own, top, identifier=bytes(19)), WRONG_SUBJECT_KEY, "-", "/")
         row(call, certificate(own, top, policy=None), NO_POLICIES, "-", "/")
-        row(call, certificate(own, top, policy=oid("2.5.29.32.0")), WRONG_POLICIES, "-", "/")
+        row(call, certificate(own, top, policy="2.5.29.32.0"), WRONG_POLICIES, "-", "/")
     row("ip", certificate(own, top, addresses(resources.addresses("10.0.0.0/8"), critical=b"")), BLOCKS, "-", ten, "/")
     row("as", certificate(own, top, numbers(resources.numbers(64496), critical=b"")), BLOCKS, "-", "1:2", "/")
     for _, octets in resources.MALFORMED_ADDRESSES:
@@ -423,7 +401,7 @@ def moments():
 
 def sections():
     """The sections of rules, as the texts of the crate `rpki_cert` begin with them, by the numbers of `rpki_c`."""
-    crates = os.path.join(HERE, "..", "..", "..", "crates")
+    crates = os.path.join(TOP, "crates")
     with open(os.path.join(crates, "rpki_cert", "src", "profile", "rule.rt"), encoding="utf-8") as file:
         texts = re.findall(r'((?:CertRule::\w+\s*\|?\s*)+)=>\s*\{?\s*"([^":]+): ', file.read())
     with open(os.path.join(crates, "rpki_c", "src", "certificate_inspection.rt"), encoding="utf-8") as file:
@@ -436,7 +414,7 @@ def sections():
 
 def main():
     with tempfile.TemporaryDirectory() as folder:
-        top, own, other, small = (Key(folder, number, size) for number, size in enumerate((2048, 2048, 3072, 1024)))
+        top, own, other, small = (Authority(folder, *key) for key in enumerate((2048, 2048, 3072, 1024)))
     anchor = certificates(top, own, other, small)
     revocation_lists(top, other, small, anchor)
     signed_objects(top, own, other, small)

@@ -1,6 +1,6 @@
 """Writes the rows of small names, which the tests in C and of the package read: all names of up to two attributes, each
 with the status of its first broken rule, of those of certificates of the RPKI and of those of routers. They are found
-without the library.
+by tests/python/variants/names.py.
 
 usage: rows.py > FILE
 
@@ -8,14 +8,14 @@ A row is the octets in hexadecimal digits, and the two statuses."""
 import os
 import sys
 
-HERE = os.path.dirname(os.path.abspath(__file__))
-sys.path.insert(0, os.path.join(HERE, "..", "..", "hostile"))
+sys.dont_write_bytecode = True
+sys.path.append(os.path.join(os.path.dirname(os.path.abspath(__file__)), "..", "..", "python"))
 
-import strict_names
+from variants.names import names
 
 
 def main():
-    for octets, due in strict_names.names():
+    for octets, due in names():
         print(octets.hex(), *due)
 
 

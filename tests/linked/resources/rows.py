@@ -2,7 +2,7 @@
 and the entries of rpki_ip_blocks or rpki_as_blocks, and the texts of these; pairs of contents, with the answer of
 rpki_ip_blocks_encompass or rpki_as_blocks_encompass; and texts of blocks that no contents have. Contents are those of
 the RFC's appendices, of single rules, of random sets, and random changes of these, all found without the library: which
-octets are contents by rfc3779.py, which error is leftmost by leftmost.py, and texts by Python's `ipaddress`.
+error is leftmost by tests/python/judges/resources.py, and texts by Python's `ipaddress`.
 
 usage: rows.py > FILE
 
@@ -18,17 +18,17 @@ import os
 import random
 import sys
 
-TOP = os.path.join(os.path.dirname(os.path.abspath(__file__)), "..", "..", "..")
-sys.path[1:1] = [os.path.join(TOP, "tests", "hostile"), os.path.join(TOP, "tests", "linked", "certificate")]
+sys.dont_write_bytecode = True
+sys.path.append(os.path.join(os.path.dirname(os.path.abspath(__file__)), "..", "..", "python"))
 
-import leftmost
-import rfc3779
-from der import sequence, tlv, unsigned
-from resources import ADDRESSES, SIZE, STARTS, WIDTHS, block, blocks_of, is_prefix, random_set
+from der import NULL, sequence, tlv, unsigned
+from judges.resources import as_resources, ip_resources
+from makers.blocks import ADDRESSES, SIZE, STARTS, WIDTHS, block, blocks_of, is_prefix, random_set
+from strict import CONTENT, status_of
 
 SEED, PAIRS, CHANGES, SETS = 3779, 1000, 4000, 300
 NAMES = {b"\0\1": 4, b"\0\2": 6}
-SECOND, NO_ANSWER, CONTENT = 16, 10, 5
+SECOND, NO_ANSWER = 16, 10
 
 # RFC 3779, appendices B and C, whole, and without what RFC 6487 4.8.10 and 4.8.11 forbid: the SAFI, routing domains.
 EXAMPLES_IP = [
@@ -45,7 +45,7 @@ EXAMPLES_AS = [
 
 def named(family, *listed, inherit=False):
     """A family, with blocks as they are spelled."""
-    return sequence(tlv(4, bytes([0, 1 if family == 4 else 2])), tlv(5, b"") if inherit else sequence(*listed))
+    return sequence(tlv(4, bytes([0, 1 if family == 4 else 2])), NULL if inherit else sequence(*listed))
 
 
 def ranged(family, low, high):
@@ -109,11 +109,11 @@ def single_as():
     yield sequence()
     yield sequence(tlv(0xa0, b""))
     yield listed()
-    yield sequence(tlv(0xa0, tlv(5, b"")))
-    yield sequence(tlv(0xa1, tlv(5, b"")))
-    yield sequence(tlv(0xa0, tlv(5, b"")), tlv(0xa1, tlv(5, b"")))
-    yield sequence(tlv(0xa0, tlv(5, b"") + tlv(5, b"")))
-    yield sequence(tlv(0x80, tlv(5, b"")))
+    yield sequence(tlv(0xa0, NULL))
+    yield sequence(tlv(0xa1, NULL))
+    yield sequence(tlv(0xa0, NULL), tlv(0xa1, NULL))
+    yield sequence(tlv(0xa0, NULL + NULL))
+    yield sequence(tlv(0x80, NULL))
     for number in numbers:
         yield listed(unsigned(number))
         yield listed(unsigned(number), unsigned(number + 1))
@@ -130,11 +130,24 @@ def single_as():
         yield listed(tlv(2, contents))
 
 
-def as_contents(numbers):
-    """AS numbers, as the contents of the extension."""
-    return sequence(tlv(0xa0, sequence(*[
-        unsigned(low) if low == high else sequence(unsigned(low), unsigned(high))
-        for low, high in blocks_of(numbers)])))
+def as_contents(blocks):
+    """Blocks of AS numbers, or None for those of the issuer, as the contents of the extension."""
+    listed = [unsigned(low) if low == high else sequence(unsigned(low), unsigned(high)) for low, high in blocks or []]
+    return sequence(tlv(0xa0, NULL if blocks is None else sequence(*listed)))
+
+
+def ip_contents(found):
+    """The same of addresses, by their families."""
+    return sequence(*[
+        named(family, *[block(low, high, WIDTHS[family]) for low, high in blocks or []], inherit=blocks is None)
+        for family, blocks in found.items()])
+
+
+def contents_of(kind, found):
+    """The only contents in DER of these resources, as a judge finds them."""
+    if kind == "as":
+        return as_contents(found[None])
+    return ip_contents({NAMES[name]: blocks for name, blocks in found.items()})
 
 
 AS_STARTS = [0, 64496, 2**31 - SIZE // 2, 2**32 - SIZE]
@@ -143,23 +156,27 @@ AS_STARTS = [0, 64496, 2**31 - SIZE // 2, 2**32 - SIZE]
 def random_ip(source):
     """Contents of random sets of addresses; at times a family has those of the issuer, or is whole."""
     while True:
-        parts = []
+        found = {}
         for family, places in STARTS.items():
             kind = source.random()
             numbers = random_set(source, source.choice(places))
             if kind < 0.1:
-                parts.append(named(family, inherit=True))
+                found[family] = None
             elif kind < 0.15:
-                parts.append(named(family, tlv(3, b"\0")))
+                found[family] = [(0, (1 << WIDTHS[family]) - 1)]
             elif numbers:
-                parts.append(named(family, *[block(low, high, WIDTHS[family]) for low, high in blocks_of(numbers)]))
-        if parts:
-            return sequence(*parts)
+                found[family] = blocks_of(numbers)
+        if found:
+            octets = ip_contents(found)
+            assert {NAMES[name]: blocks for name, blocks in ip_resources(octets).items()} == found, octets.hex()
+            return octets
 
 
 def random_as(source):
     numbers = random_set(source, source.choice(AS_STARTS))
-    return as_contents(numbers) if numbers else sequence(tlv(0xa0, tlv(5, b"")))
+    octets = as_contents(blocks_of(numbers) if numbers else None)
+    assert as_resources(octets)[None] == (blocks_of(numbers) or None), octets.hex()
+    return octets
 
 
 def changed(source, octets):
@@ -174,14 +191,7 @@ def changed(source, octets):
     ])
 
 
-def both(octets, kind):
-    """The status and the resources, which two readers agree on."""
-    reader = "ip_resources" if kind == "ip" else "as_resources"
-    status, found = leftmost.read(getattr(leftmost, reader), octets)
-    apart = rfc3779.read(getattr(rfc3779, reader), octets)
-    if (status == 0) != (apart is not None) or status == 0 and found != apart:
-        sys.exit(f"{octets.hex()}: {status} {found}, and {apart}")
-    return status, found
+READERS = {"ip": ip_resources, "as": as_resources}
 
 
 def address_octets(family, number):
@@ -222,7 +232,8 @@ def entries(kind, found):
 
 
 def row(kind, octets):
-    status, found = both(octets, kind)
+    status, found = status_of(READERS[kind], octets)
+    assert status or contents_of(kind, found) == octets, octets.hex()
     return " ".join([kind, octets.hex() or "-", str(status), *(entries(kind, found) if status == 0 else [])])
 
 
@@ -234,10 +245,10 @@ def within(inner, outer):
 
 def answered(kind, outer, inner):
     """The status, and whether the second is within the first."""
-    status, whole = both(outer, kind)
+    status, whole = status_of(READERS[kind], outer)
     if status:
         return status, "-"
-    status, part = both(inner, kind)
+    status, part = status_of(READERS[kind], inner)
     if status:
         return status + SECOND, "-"
     lists = {name: blocks for name, blocks in part.items() if blocks is not None}
@@ -266,26 +277,16 @@ def pairs(source):
 
 def part_of(source, kind, octets):
     """Contents with a random part of the numbers of each block, so that most pairs are no chance."""
-    _, found = both(octets, kind)
-    parts = []
+    found = READERS[kind](octets)
     for name, blocks in found.items():
-        family = NAMES.get(name)
-        if blocks is None:
-            parts.append(named(family, inherit=True) if family else None)
-            continue
-        numbers = set()
-        for low, high in blocks:
-            start = source.randrange(low, high + 1)
-            numbers.update(range(start, min(high, start + source.randrange(8)) + source.choice([1, 1, 1, 2])))
-        most = (1 << WIDTHS[family] if family else 1 << 32) - 1
-        numbers = {number for number in numbers if number <= most}
-        if family:
-            parts.append(named(family, *[block(low, high, WIDTHS[family]) for low, high in blocks_of(numbers)]))
-        else:
-            parts.append(as_contents(numbers))
-    if kind == "as":
-        return parts[0] or octets
-    return sequence(*parts)
+        if blocks is not None:
+            numbers = set()
+            for low, high in blocks:
+                start = source.randrange(low, high + 1)
+                numbers.update(range(start, min(high, start + source.randrange(8)) + source.choice([1, 1, 1, 2])))
+            most = (1 << (32 if name is None else WIDTHS[NAMES[name]])) - 1
+            found[name] = blocks_of(number for number in numbers if number <= most)
+    return contents_of(kind, found)
 
 
 def texts(source):

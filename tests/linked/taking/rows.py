@@ -1,6 +1,6 @@
 """Writes the rows of values that are taken off a part of octets, which the test in C reads: real certificates and lists
 of values, walked from the left, with the identifier that is there and another one, and octets that were changed.
-Statuses and places are found here by X.690, without the library.
+Statuses and places are found by tests/python/strict.py.
 
 usage: rows.py > FILE
 
@@ -11,11 +11,12 @@ import os
 import random
 import sys
 
-HERE = os.path.dirname(os.path.abspath(__file__))
-TOP = os.path.join(HERE, "..", "..", "..")
-sys.path.insert(0, os.path.join(HERE, "..", "resources"))
+sys.dont_write_bytecode = True
+sys.path.append(os.path.join(os.path.dirname(os.path.abspath(__file__)), "..", "..", "python"))
 
-import leftmost
+from der import tlv
+from makers.certificate import CERTIFICATE
+from strict import BAD_TAG, Octets, status_of
 
 TAGS = [0x01, 0x02, 0x03, 0x04, 0x05, 0x06, 0x0C, 0x13, 0x16, 0x17, 0x18, 0x1F, 0x20, 0x24, 0x30, 0x31, 0x3F, 0x40,
         0x7F, 0x80, 0x85, 0x9F, 0xA0, 0xA3, 0xBF, 0xC0, 0xFF, 0x00]
@@ -24,14 +25,10 @@ TAGS = [0x01, 0x02, 0x03, 0x04, 0x05, 0x06, 0x0C, 0x13, 0x16, 0x17, 0x18, 0x1F, 
 def taken(octets, identifier, start, length):
     """The status, and the two places."""
     if identifier & 0xDF == 0:
-        return leftmost.BAD_TAG, ()
-    part = leftmost.Octets(octets[start:start + length])
-    try:
-        contents = part.take(identifier)
-    except leftmost.Wrong as wrong:
-        return wrong.args[0], ()
-    size = len(contents.octets)
-    return 0, (start + part.place, length - part.place, start + part.place - size, size)
+        return BAD_TAG, ()
+    part = Octets(octets[start:start + length], start)
+    status, contents = status_of(part.take, identifier)
+    return status, (part.at(), length - part.place, *contents.span()) if contents else ()
 
 
 def has_tag(octets, identifier):
@@ -63,16 +60,12 @@ def walk(octets, start, length, depth):
 
 def main():
     random.seed(20261126)
-    with open(os.path.join(TOP, "examples", "certificate.der"), "rb") as file:
-        certificate = file.read()
-    walk(certificate, 0, len(certificate), 3)
+    walk(CERTIFICATE, 0, len(CERTIFICATE), 3)
     for identifier in range(256):
         for octets in (bytes([identifier, 0]), bytes([identifier, 2, 5, 0, 7]), bytes([identifier | 31, 31, 1, 9])):
             row(octets, identifier, 0, len(octets))
     for size in (0, 1, 127, 128, 255, 256, 65535, 65536):
-        digits = size.to_bytes(max(1, (size.bit_length() + 7) // 8), "big")
-        length = digits if size < 128 else bytes([0x80 | len(digits)]) + digits
-        value = b"\x04" + length + bytes(size)
+        value = tlv(4, bytes(size))
         for before, behind in ((0, 0), (3, 0), (0, 3), (3, 5)):
             octets = bytes([9] * before) + value + bytes([8] * behind)
             for less in (0, behind, behind + 1):
@@ -80,7 +73,7 @@ def main():
     for start, length in ((0, 3), (0, 4), (1, 3), (2, 2), (3, 1), (4, 0)):
         row(b"\x30\x02\x05\x00", 0x30, start, length)
     for _ in range(4000):
-        octets = bytearray(certificate[random.randrange(200):][:random.randrange(1, 300)])
+        octets = bytearray(CERTIFICATE[random.randrange(200):][:random.randrange(1, 300)])
         for _ in range(random.randrange(4)):
             telling = [0, 1, 0x1F, 0x30, 0x7F, 0x80, 0x81, 0x82, 0x85, 0xFF]
             octets[random.randrange(len(octets))] = random.choice(telling)

@@ -1,63 +1,19 @@
 """A certificate that can be changed: examples/certificate.der, which openssl made, its values, and changes of them by
 the sections of RFC 5280, RFC 6487, RFC 8209 and RFC 3779."""
 import hashlib
-import os
 
-import contents
-from der import sequence, tlv
-from programs import TOP
+from der import oid, sequence, tlv
+from lax import Value, values_of
+from makers import resources
+from makers.x509 import (
+    ADDRESSES, ADDRESSES_V2, AUTHORITY_ACCESS, AUTHORITY_KEY, CONSTRAINTS, NUMBERS, NUMBERS_V2, OBJECT, POLICIES,
+    POLICY_V2, PURPOSES, REVOCATION, ROUTER, SUBJECT_ACCESS, SUBJECT_KEY, USAGE, accesses, name, names, of_names,
+    policies, policy, uri,
+)
+from programs import TOP, octets_of
 
-with open(os.path.join(TOP, "examples", "certificate.der"), "rb") as file:
-    CERTIFICATE = file.read()
-
-
-class Value:
-    """A value of DER that can be changed: its identifier octet, and its contents or its members."""
-
-    def __init__(self, first, inside):
-        self.first, self.inside = first, inside
-
-    def octets(self):
-        inside = self.inside if isinstance(self.inside, bytes) else b"".join(value.octets() for value in self.inside)
-        return tlv(self.first, inside)
-
-
-def values_of(octets):
-    """The values that octets are: tags of one octet."""
-    found, place = [], 0
-    while place < len(octets):
-        count = octets[place + 1] - 0x80 if octets[place + 1] >= 0x80 else 0
-        head = place + 2 + count
-        length = int.from_bytes(octets[place + 2:head], "big") if count else octets[place + 1]
-        inside = octets[head:head + length]
-        found.append(Value(octets[place], values_of(inside) if octets[place] & 0x20 else inside))
-        place = head + length
-    return found
-
-
-def oid(text):
-    """The contents of an object identifier."""
-    first, second, *others = map(int, text.split("."))
-    octets = b""
-    for arc in [40 * first + second, *others]:
-        digits = [arc % 128]
-        while arc >= 128:
-            arc //= 128
-            digits.insert(0, 128 + arc % 128)
-        octets += bytes(digits)
-    return octets
-
-
-CONSTRAINTS, SUBJECT_KEY, AUTHORITY_KEY, USAGE = "2.5.29.19", "2.5.29.14", "2.5.29.35", "2.5.29.15"
-REVOCATION, POLICIES, PURPOSES = "2.5.29.31", "2.5.29.32", "2.5.29.37"
-AUTHORITY_ACCESS, SUBJECT_ACCESS = "1.3.6.1.5.5.7.1.1", "1.3.6.1.5.5.7.1.11"
-ADDRESSES, NUMBERS, UNKNOWN = "1.3.6.1.5.5.7.1.7", "1.3.6.1.5.5.7.1.8", "1.3.6.1.4.1.99999.1"
-ADDRESSES_V2, NUMBERS_V2 = "1.3.6.1.5.5.7.1.28", "1.3.6.1.5.5.7.1.29"
-CA_ISSUERS, OCSP, REPOSITORY = "1.3.6.1.5.5.7.48.2", "1.3.6.1.5.5.7.48.1", "1.3.6.1.5.5.7.48.5"
-MANIFEST, OBJECT, NOTIFY = "1.3.6.1.5.5.7.48.10", "1.3.6.1.5.5.7.48.11", "1.3.6.1.5.5.7.48.13"
-POLICY, POLICY_V2 = "1.3.6.1.5.5.7.14.2", "1.3.6.1.5.5.7.14.3"
-ROUTER, SERVER = "1.3.6.1.5.5.7.3.30", "1.3.6.1.5.5.7.3.1"
-END_ENTITY_USAGE = bytes.fromhex("03020780")
+CERTIFICATE = octets_of(TOP, "examples", "certificate.der")
+IS_CA, CA_USAGE, END_ENTITY_USAGE = map(bytes.fromhex, ("30030101ff", "03020106", "03020780"))
 POINT, SECURE = b"rsync://example.net/m/a.crl", b"https://example.net/a.crl"
 
 
@@ -104,37 +60,9 @@ class Certificate:
         return self.octets()
 
 
-def names(*identifiers):
-    return sequence(*(tlv(6, oid(identifier)) for identifier in identifiers))
-
-
-def policies(*members):
-    return sequence(*members)
-
-
-def policy(identifier, *qualifiers):
-    return sequence(tlv(6, oid(identifier)), *([sequence(*qualifiers)] if qualifiers else []))
-
-
-STATEMENT = sequence(tlv(6, oid("1.3.6.1.5.5.7.2.1")), tlv(22, b"https://example.net/cps"))
-NOTICE = sequence(tlv(6, oid("1.3.6.1.5.5.7.2.2")), sequence())
-
-
-def point(*general_names, more=b""):
-    return sequence(tlv(0xa0, tlv(0xa0, b"".join(general_names))) + more)
-
-
-def uri(text):
-    return tlv(0x86, text)
-
-
-def accesses(*pairs):
-    return sequence(*(sequence(tlv(6, oid(method)), name) for method, name in pairs))
-
-
 def named(text):
     """A name of one common name."""
-    return Value(0x30, [Value(0x31, [Value(0x30, [Value(6, oid("2.5.4.3")), Value(0x13, text.encode())])])])
+    return values_of(name(text))[0]
 
 
 def version(octet):
@@ -212,11 +140,16 @@ def anchor(it):
     it.put(AUTHORITY_KEY, sequence(tlv(0x80, values_of(it.extension(SUBJECT_KEY).inside[-1].inside)[0].inside)))
 
 
+def both(first, second):
+    """The one change, and then the other."""
+    def change(it):
+        first(it)
+        second(it)
+    return change
+
+
 def anchor_with(change):
-    def both(it):
-        anchor(it)
-        change(it)
-    return both
+    return both(anchor, change)
 
 
 def own_issuer_without_identifier(it):
@@ -237,19 +170,12 @@ def key_bits(octets, unused=0):
     return change
 
 
-def rsa_numbers(modulus, exponent):
-    return sequence(tlv(2, modulus), tlv(2, exponent))
-
-
 EXPONENT = bytes.fromhex("010001")
 MODULUS = b"\0" + b"\x80" + bytes(254) + b"\x01"
 
 
 def router_bits(octets, unused=0):
-    def change(it):
-        router(it)
-        it.key.inside[1].inside = bytes([unused]) + octets
-    return change
+    return both(router, key_bits(octets, unused))
 
 
 def of_version_2(*extensions, policy_too=True):
@@ -282,7 +208,7 @@ def router(it):
 
 def router_with_addresses(it):
     router(it)
-    it.add(ADDRESSES, contents.addresses("192.0.2.0/24"), critical=True)
+    it.add(ADDRESSES, resources.addresses("192.0.2.0/24"), critical=True)
 
 
 def many(count):
@@ -291,14 +217,6 @@ def many(count):
         for number in range(count - len(it.list.inside)):
             it.add(f"1.3.6.1.4.1.99999.{number}", b"")
     return change
-
-
-def of_names(*attributes):
-    """The octets of a name of these attributes, each an identifier, a tag and octets."""
-    return sequence(*(tlv(0x31, sequence(tlv(6, oid(kind)), tlv(tag, text))) for kind, tag, text in attributes))
-
-
-COMMON, SERIAL, ORGANIZATION, PRINTABLE, UTF8 = "2.5.4.3", "2.5.4.5", "2.5.4.10", 0x13, 0x0c
 
 
 def subject(*attributes):

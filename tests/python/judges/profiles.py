@@ -1,17 +1,25 @@
 """Which rule of a profile a certificate breaks first (RFC 6487 4, RFC 8209 3.1, RFC 9323 2), as the statuses of
 rpki_certificate_inspect, found without the library. The certificates are well-formed but for what extensions hold, and
 what begins as a URI is one."""
-import certificates
-import rfc3779
+from typing import List
 
-RSA = certificates.oid("1.2.840.113549.1.1.1")
-NAMES = {"constraints": "2.5.29.19", "subject key": "2.5.29.14", "authority key": "2.5.29.35", "usage": "2.5.29.15",
-         "purposes": "2.5.29.37", "points": "2.5.29.31", "issuer access": "1.3.6.1.5.5.7.1.1",
-         "subject access": "1.3.6.1.5.5.7.1.11", "policies": "2.5.29.32", "addresses": "1.3.6.1.5.5.7.1.7",
-         "addresses v2": "1.3.6.1.5.5.7.1.28", "numbers": "1.3.6.1.5.5.7.1.8", "numbers v2": "1.3.6.1.5.5.7.1.29"}
-KNOWN = {certificates.oid(text): name for name, text in NAMES.items()}
-COMMON_NAME, SERIAL_NUMBER, ORGANIZATION = map(certificates.oid, ("2.5.4.3", "2.5.4.5", "2.5.4.10"))
-PRINTABLE, UTF8 = 0x13, 0x0c
+from der import oid
+from judges import resources
+from judges.names import is_general_name
+from lax import values_of
+from makers import x509
+from makers.certificate import Certificate
+from strict import status_of
+
+RSA = oid("1.2.840.113549.1.1.1")
+NAMES = {"constraints": x509.CONSTRAINTS, "subject key": x509.SUBJECT_KEY, "authority key": x509.AUTHORITY_KEY,
+         "usage": x509.USAGE, "purposes": x509.PURPOSES, "points": x509.REVOCATION,
+         "issuer access": x509.AUTHORITY_ACCESS, "subject access": x509.SUBJECT_ACCESS, "policies": x509.POLICIES,
+         "addresses": x509.ADDRESSES, "addresses v2": x509.ADDRESSES_V2, "numbers": x509.NUMBERS,
+         "numbers v2": x509.NUMBERS_V2}
+KNOWN = {oid(text): name for name, text in NAMES.items()}
+COMMON_NAME, SERIAL_NUMBER, ORGANIZATION = map(oid, (x509.COMMON, x509.SERIAL, x509.ORGANIZATION))
+PRINTABLE, UTF8 = x509.PRINTABLE, x509.UTF8
 
 # Of each profile its rules, in the order of crates/rpki_cert/specs/Rule.antt.
 BASIC = [85, 86, 87, 156, 112, 94, 108, 109, 115, 116]
@@ -56,44 +64,21 @@ class Extensions:
     def accesses(self, name):
         """The descriptions of an access extension, each a method and a general name; else None."""
         pairs = [each.inside for each in self.value(name, False) or []]
-        good = pairs and all(len(pair) == 2 and pair[0].first == 6 and is_general(pair[1]) for pair in pairs)
-        return pairs if good else None
+        return pairs if pairs and all(map(is_description, pairs)) else None
 
 
 def nested(octets):
     """The values that octets are, with everything nested in them; None where they are none."""
     try:
-        values = certificates.values_of(octets)
+        values = values_of(octets)
     except IndexError:
         return None
     return values if octets == b"".join(value.octets() for value in values) else None
 
 
-def is_directory(values):
-    """One name: a SEQUENCE of SETs of pairs of an identifier and a value (RFC 5280 4.1.2.4)."""
-    if len(values) != 1 or values[0].first != 0x30 or not values[0].inside:
-        return False
-    relatives = values[0].inside
-    pairs = [pair for relative in relatives for pair in relative.inside]
-    return (all(relative.first == 0x31 and relative.inside for relative in relatives)
-            and all(pair.first == 0x30 and len(pair.inside) == 2 and pair.inside[0].first == 6 for pair in pairs))
-
-
-def is_identifier(octets):
-    """Subidentifiers, none of which begins with 80 (X.690 8.19.2)."""
-    ends = [0, *(place + 1 for place, octet in enumerate(octets) if octet < 0x80)]
-    return len(ends) > 1 and ends[-1] == len(octets) and all(octets[place] != 0x80 for place in ends[:-1])
-
-
-def is_general(name):
-    """A general name (RFC 5280 4.2.1.6)."""
-    if name.first in (0x81, 0x82, 0x86):
-        return name.inside.isascii()
-    if name.first == 0x87:
-        return len(name.inside) in (4, 16)
-    if name.first == 0x88:
-        return is_identifier(name.inside)
-    return name.first in (0xa0, 0xa3, 0xa5) or name.first == 0xa4 and is_directory(name.inside)
+def is_description(pair):
+    """A method and a general name (RFC 5280 4.2.2.1)."""
+    return len(pair) == 2 and pair[0].first == 6 and is_general_name(pair[1].octets())
 
 
 def is_name(name, strings):
@@ -127,9 +112,9 @@ def is_policy(values):
     if not values or len(values) != 1:
         return False
     policy, *qualifiers = values[0].inside
-    names = [certificates.oid(certificates.POLICY), certificates.oid(certificates.POLICY_V2)]
+    names = [oid(x509.POLICY), oid(x509.POLICY_V2)]
     pointers = [each.octets() for more in qualifiers for each in more.inside]
-    return policy.inside in names and (not qualifiers or pointers == [certificates.STATEMENT])
+    return policy.inside in names and (not qualifiers or pointers == [x509.STATEMENT])
 
 
 def is_rsync(name):
@@ -138,7 +123,7 @@ def is_rsync(name):
 
 def first_access(pairs, method):
     """The first rsync URI of this method (RFC 6487 4.8.7, 4.8.8)."""
-    wanted = certificates.oid(method)
+    wanted = oid(method)
     return next((name.inside for kind, name in pairs or [] if kind.inside == wanted and is_rsync(name)), None)
 
 
@@ -154,7 +139,7 @@ def place_of(uri):
 
 def is_manifest_below(pairs):
     """The URI of the manifest is below that of the repository (RFC 6487 4.8.8.1)."""
-    found = [first_access(pairs, method) for method in (certificates.REPOSITORY, certificates.MANIFEST)]
+    found = [first_access(pairs, method) for method in (x509.REPOSITORY, x509.MANIFEST)]
     if None in found:
         return False
     base, text = map(place_of, found)
@@ -163,14 +148,14 @@ def is_manifest_below(pairs):
 
 def are_notified(pairs):
     """Descriptions are there, and those of notifications have https URIs (RFC 8182 3.2)."""
-    names = [name for kind, name in pairs or [] if kind.inside == certificates.oid(certificates.NOTIFY)]
+    names = [name for kind, name in pairs or [] if kind.inside == oid(x509.NOTIFY)]
     return bool(pairs) and all(name.first == 0x86 and name.inside.startswith(b"https://") for name in names)
 
 
 def has_only(pairs, *methods):
     """Each description has one of these methods (RFC 6487 4.8.8.2, RFC 8182 3.2)."""
     kinds = {kind.inside for kind, name in pairs or []}
-    return bool(kinds) and kinds <= {certificates.oid(method) for method in methods}
+    return bool(kinds) and kinds <= {oid(method) for method in methods}
 
 
 def has_point(values):
@@ -214,18 +199,18 @@ def is_one_version(found):
     policies_ = found.value("policies", True)
     if not policies_:
         return False
-    new = policies_[0].inside[0].inside == certificates.oid(certificates.POLICY_V2)
+    new = policies_[0].inside[0].inside == oid(x509.POLICY_V2)
     return not (found.has("addresses", "numbers") if new else found.has("addresses v2", "numbers v2"))
 
 
 def said_resources(found):
     """What the first extension of each kind says of resources; None where one is malformed or not critical."""
     said = []
-    for names, reader in ((("addresses", "addresses v2"), rfc3779.ip_resources),
-                          (("numbers", "numbers v2"), rfc3779.as_resources)):
+    for names, reader in ((("addresses", "addresses v2"), resources.ip_resources),
+                          (("numbers", "numbers v2"), resources.as_resources)):
         name = next((name for name in names if found.has(name)), None)
         if name:
-            said.append(rfc3779.read(reader, found.content(name, True)))
+            said.append(status_of(reader, found.content(name, True))[1])
     return said
 
 
@@ -253,19 +238,19 @@ def is_broken(it, found, strict):
         97: usage == bytes.fromhex("03020780"),
         98: not found.has("purposes"),
         99: bool(purposes) and all(each.first == 6 for each in purposes)
-            and any(each.inside == certificates.oid(certificates.ROUTER) for each in purposes),
+            and any(each.inside == oid(x509.ROUTER) for each in purposes),
         100: has_point(found.value("points", False)),
         101: not found.has("points"),
-        102: has_access(found.accesses("issuer access"), certificates.CA_ISSUERS),
+        102: has_access(found.accesses("issuer access"), x509.CA_ISSUERS),
         103: not found.has("issuer access"),
-        104: has_access(found.accesses("subject access"), certificates.REPOSITORY),
-        105: has_access(found.accesses("subject access"), certificates.MANIFEST),
-        106: has_access(found.accesses("subject access"), certificates.OBJECT),
+        104: has_access(found.accesses("subject access"), x509.REPOSITORY),
+        105: has_access(found.accesses("subject access"), x509.MANIFEST),
+        106: has_access(found.accesses("subject access"), x509.OBJECT),
         107: not found.has("subject access"),
         108: is_policy(found.value("policies", True)),
         109: found.has(*names) and all(found.critical.get(name, True) for name in names),
         110: found.has("numbers", "numbers v2") and not found.has("addresses", "addresses v2"),
-        111: has_only(found.accesses("subject access"), certificates.OBJECT, certificates.NOTIFY),
+        111: has_only(found.accesses("subject access"), x509.OBJECT, x509.NOTIFY),
         112: time_of(it.validity.inside[0]) <= time_of(it.validity.inside[1]),
         113: is_own_authority(found),
         114: it.tbs.inside[3].octets() == it.tbs.inside[5].octets(),
@@ -283,9 +268,10 @@ def is_broken(it, found, strict):
 
 def statuses(octets):
     """The statuses of the profiles in order, strict; then the same not strict; then of the last, strict and not."""
-    it = certificates.Certificate(octets)
+    it = Certificate(octets)
     found = Extensions(it.list.inside)
-    told, last = [], []
+    told: List[int] = []
+    last: List[int] = []
     for strict in (True, False):
         broken = is_broken(it, found, strict)
         firsts = [next((status for status in rules if broken[status]), 0) for rules in (*PROFILES, DETACHED)]
@@ -294,6 +280,6 @@ def statuses(octets):
 
 
 def agrees(told, expected):
-    """What certificates.py expects of an inspection by each profile is what is told here."""
+    """What variants/certificates.py expects of an inspection by each profile is what is told here."""
     words = {"inspect_ta": 0, "inspect_ca": 1, "inspect_ee": 2, "inspect_router": 3, "inspect_detached_ee": 8}
     return all((told[words[word]] == 0) == (text == "ok") for word, text in expected.items() if word in words)

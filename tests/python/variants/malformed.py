@@ -1,12 +1,12 @@
 """Variants of certificates whose extension is there and malformed, with one kind of fault each: the error of a rule on
 what the extension says is that of its octets (RFC 6487 4.8.5 to 4.8.8, X.690)."""
-from certificate import (
-    AUTHORITY_ACCESS, CA_ISSUERS, MANIFEST, POINT, PURPOSES, REPOSITORY, REVOCATION, ROUTER, SECURE, SIGNED,
-    SUBJECT_ACCESS, accesses, end_entity, names, oid, point, put, router, uri,
+from der import NULL, oid, sequence, tlv
+from makers.certificate import POINT, SECURE, SIGNED, end_entity, put, router
+from makers.x509 import (
+    AUTHORITY_ACCESS, CA_ISSUERS, MANIFEST, PURPOSES, REPOSITORY, REVOCATION, ROUTER, SUBJECT_ACCESS, accesses, names,
+    point, uri,
 )
-from der import sequence, tlv
 
-NULL = tlv(5, b"")
 ISSUER = accesses((CA_ISSUERS, uri(b"rsync://example.net/m/b.cer")))
 PUBLISHED = accesses((REPOSITORY, uri(b"rsync://example.net/m/")), (MANIFEST, uri(b"rsync://example.net/m/m.mft")))
 

@@ -1,9 +1,10 @@
 """Octets that are changed at random, for rows of what is refused."""
+import random
 
 
-def changed(octets, source):
+def changed(before: bytes, source: random.Random) -> bytes:
     """The octets with one to three of them changed, left out or doubled, but never all left out."""
-    octets = bytearray(octets)
+    octets = bytearray(before)
     for _ in range(source.randint(1, 3)):
         at = source.randrange(len(octets))
         way = source.randrange(8)

@@ -1,9 +1,7 @@
 """Contents of the extensions of resources (RFC 3779 2.2.3, 3.2.3), by Python's `ipaddress`."""
 import ipaddress
 
-from der import bits, sequence, tlv, unsigned
-
-NULL = b"\x05\x00"
+from der import NULL, bits, sequence, tlv, unsigned
 
 
 def prefix(text):

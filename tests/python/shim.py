@@ -1,16 +1,16 @@
-"""Runs under `refuse.c`, which counts allocations, and refuses some."""
+"""Runs under `tests/hostile/refuse.c`, which counts allocations, and refuses some."""
 import os
 import subprocess
 import tempfile
-from typing import NamedTuple
+from typing import Iterator, NamedTuple, Sequence, Tuple
 
-from programs import run_refused
+from programs import TOP, Seen, Word, octets_of, run_refused
 
 
-def compiled(source, folder):
-    """A library of this source beside this file, to be put before the C library."""
+def compiled(source: str, folder: str) -> str:
+    """A library of this source of tests/hostile, to be put before the C library."""
     library = os.path.join(folder, source[:-2] + ".so")
-    source = os.path.join(os.path.dirname(os.path.abspath(__file__)), source)
+    source = os.path.join(TOP, "tests", "hostile", source)
     subprocess.run([os.environ.get("CC", "cc"), "-O2", "-shared", "-fPIC", "-o", library, source], check=True)
     return library
 
@@ -25,16 +25,16 @@ class Allocations(NamedTuple):
 class Shim:
     """`refuse.c`, built, and runs under it. It is used in a `with`."""
 
-    def __enter__(self):
+    def __enter__(self) -> "Shim":
         self.folder = tempfile.TemporaryDirectory()
         self.library = compiled("refuse.c", self.folder.name)
         self.count = os.path.join(self.folder.name, "count")
         return self
 
-    def __exit__(self, *_):
+    def __exit__(self, *_: object) -> None:
         self.folder.cleanup()
 
-    def run(self, program, words, octets, **refused):
+    def run(self, program: str, words: Sequence[Word], octets: bytes, **refused: str) -> Tuple[Seen, Allocations]:
         """A run that refuses what REFUSE or REFUSE_FROM says, and its allocations. A run that does not come to its end,
         or is not under the shim, met none."""
         if os.path.exists(self.count):
@@ -43,11 +43,10 @@ class Shim:
         seen = run_refused(program, words, octets, env=environment)
         allocations = Allocations(0, 0)
         if os.path.exists(self.count):
-            with open(self.count, encoding="ascii") as count:
-                allocations = Allocations(*map(int, count.read().split()))
+            allocations = Allocations(*map(int, octets_of(self.count).split()))
         return seen.after(allocations.refused), allocations
 
-    def runs(self, program, words, octets, alone):
+    def runs(self, program: str, words: Sequence[Word], octets: bytes, alone: bool) -> Iterator[Tuple[int, bool, Seen]]:
         """Runs with each allocation refused in turn, alone or with all later ones, until a run meets none: the number
         of the allocation, whether one was refused, and what is seen."""
         allocation, refused = 0, True

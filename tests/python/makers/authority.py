@@ -1,7 +1,8 @@
 """Certificates that openssl makes: a trust anchor, a certification authority, an end entity, one without subject
 information access, and a BGPsec router."""
 import os
-import subprocess
+
+from openssl import openssl
 
 # The extensions of each (RFC 6487 4.8, RFC 9323 2, RFC 8209 3.1.3), as openssl writes them.
 COMMON = """subjectKeyIdentifier = hash
@@ -39,11 +40,6 @@ CERTIFICATES = [
 ]
 
 
-def openssl(*words, **options):
-    """What openssl prints."""
-    return subprocess.run(["openssl", *words], check=True, capture_output=True, **options).stdout
-
-
 def make(folder):
     """Makes NAME.der and NAME.pem of each certificate in the folder."""
     for name, subject, issuer, key, serial, extensions in CERTIFICATES:
@@ -60,6 +56,11 @@ def make(folder):
         openssl("x509", "-req", "-in", path(".csr"), *signer, "-set_serial", serial, "-days", "365", "-sha256",
                 "-extfile", path(".cnf"), "-extensions", "extensions", "-out", path(".pem"))
         openssl("x509", "-in", path(".pem"), "-outform", "DER", "-out", path(".der"))
+    return paths(folder)
+
+
+def paths(folder):
+    """Where these are, by their names, without the endings."""
     return {name: os.path.join(folder, name) for name, *_ in CERTIFICATES}
 
 

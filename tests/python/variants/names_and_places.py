@@ -1,11 +1,12 @@
 """Variants of a certificate in its names and places: general names, URIs, where objects lie, and names of issuers and
 subjects (RFC 5280 4.2.1.6 and A.1, RFC 6487 4.4 and 4.8.6 to 4.8.8, RFC 8182 3.2, RFC 8209 3.1.1)."""
-from certificate import (
-    AUTHORITY_ACCESS, CA_ISSUERS, COMMON, MANIFEST, NOTIFY, OBJECT, ORGANIZATION, POINT, PRINTABLE, REPOSITORY,
-    REVOCATION, SECURE, SERIAL, SIGNED, SUBJECT_ACCESS, UNKNOWN, UTF8, accesses, end_entity, of_names, oid, point, put,
-    router, subject, uri, values_of,
+from der import oid, sequence, tlv
+from lax import values_of
+from makers.certificate import POINT, SECURE, SIGNED, both, end_entity, put, router, subject
+from makers.x509 import (
+    AUTHORITY_ACCESS, CA_ISSUERS, COMMON, MANIFEST, NOTIFY, OBJECT, ORGANIZATION, PRINTABLE, REPOSITORY, REVOCATION,
+    SERIAL, SUBJECT_ACCESS, UNKNOWN, UTF8, accesses, of_names, point, uri,
 )
-from der import sequence, tlv
 
 NO_NAME = "malformed general name"
 NO_IA5 = "malformed IA5String"
@@ -18,10 +19,7 @@ ROUTER_NUMBER = "RFC 8209 3.1.1: serial number of the subject is no PrintableStr
 
 
 def router_of(*attributes):
-    def change(it):
-        router(it)
-        subject(*attributes)(it)
-    return change
+    return both(router, subject(*attributes))
 
 
 def issuer(*attributes):
@@ -97,6 +95,7 @@ def long_uris(it):
 
 def long_object(it):
     end_entity((OBJECT, uri(LONG)))(it)
+
 
 # A name, the change, and the lines that are expected.
 VARIANTS = [
