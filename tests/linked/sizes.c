@@ -6,6 +6,7 @@
 #include "memory.h"
 #include "parts.h"
 #include "stores.h"
+#include "values.h"
 
 #include <stdio.h>
 #include <stdlib.h>
@@ -13,47 +14,7 @@
 
 #define LENGTH(table) (sizeof(table) / sizeof(table)[0])
 
-/* ---- Values, made from their end ---- */
-
-struct growing {
-    uint8_t *at;
-    size_t start, size;
-};
-
-static struct growing room_for(size_t size) {
-    struct growing made = {malloc(size), size, size};
-    if (!made.at) abort();
-    return made;
-}
-
-static void put(struct growing *made, const void *octets, size_t size) {
-    if (made->start < size) abort();
-    made->start -= size;
-    if (size) memcpy(made->at + made->start, octets, size);
-}
-
-static void fill(struct growing *made, uint8_t octet, size_t count) {
-    if (made->start < count) abort();
-    made->start -= count;
-    memset(made->at + made->start, octet, count);
-}
-
-/* A header before what was put since the end was here (X.690 8.1.3). */
-static void head(struct growing *made, uint8_t tag, size_t end) {
-    size_t length = end - made->start, rest, count = 0;
-    for (rest = length; length > 127 && rest > 0; rest >>= 8, count++) fill(made, (uint8_t)rest, 1);
-    fill(made, (uint8_t)(length > 127 ? 0x80 + count : length), 1);
-    fill(made, tag, 1);
-}
-
-/* What was made, in memory of its own. */
-static struct octets made_of(struct growing *made) {
-    struct octets octets = new_octets(made->at + made->start, made->size - made->start, 0);
-    free(made->at);
-    return octets;
-}
-
-/* A SEQUENCE of so many octets of empty SEQUENCEs, an OCTET STRING of as many, and as many levels of SEQUENCEs. */
+/* A SEQUENCE of so many octets of empty SEQUENCEs, and an OCTET STRING of as many. */
 static struct octets list(size_t count) {
     struct growing made = room_for(count + 8);
     size_t place;
@@ -66,13 +27,6 @@ static struct octets string(size_t count) {
     struct growing made = room_for(count + 8);
     fill(&made, 0xA5, count);
     head(&made, 0x04, made.size);
-    return made_of(&made);
-}
-
-static struct octets levels(size_t count) {
-    struct growing made = room_for(6 * count);
-    size_t level;
-    for (level = 0; level < count; level++) head(&made, 0x30, made.size);
     return made_of(&made);
 }
 
@@ -284,7 +238,7 @@ static bool base64(size_t groups) {
 
 /* So many levels of which the innermost lacks its one octet, and the same without their last octet. */
 static bool fault_of(size_t count) {
-    struct octets value = levels(count);
+    struct octets value = levels(count, 0);
     size_t at = NOTHING;
     bool well, all_freed;
     value.at[value.size - 1] = 1;
@@ -314,7 +268,7 @@ bool sizes(void) {
     }
     for (row = 0; row < LENGTH(MODULI); row++) well = keys(MODULI[row]) && well;
     for (row = 0; row < LENGTH(LEVELS); row++) {
-        well = signed_of(levels(LEVELS[row]), LEVELS[row], 256) && fault_of(LEVELS[row]) && well;
+        well = signed_of(levels(LEVELS[row], 0), LEVELS[row], 256) && fault_of(LEVELS[row]) && well;
     }
     return well;
 }
