@@ -1,7 +1,7 @@
 #!/usr/bin/env python3
 """Writes certificates of certification authorities of the RPKI (RFC 6487), each another, in one file: of each its size
 in 4 octets, the last first, and its octets. The octets of keys, identifiers and signatures are random, of a fixed seed;
-so nothing verifies them, and all else is as the profile has it.
+so nothing verifies them, and all else is as the profile has it. Needs Python 3.9.
 
 usage: bench/certificates.py COUNT FILE"""
 import os

@@ -8,12 +8,12 @@
  */
 #include <stdio.h>
 #include <string.h>
-#include <time.h>
 
 #include "plain.h"
 #include "rpki.h"
+#include "timing.h"
 
-enum { ROUNDS = 31, MOST_OCTETS = 1 << 20, CALLS = 12 };
+enum { MOST_OCTETS = 1 << 20, CALLS = 12 };
 
 static uint8_t contents[3][MOST_OCTETS];
 static size_t sizes[3];
@@ -256,12 +256,6 @@ static const struct {
                   {"", plain_reads_aspa},
                   {"and each provider", reads_providers},
                   {"", plain_reads_providers}};
-
-static double now(void) {
-    struct timespec at;
-    clock_gettime(CLOCK_PROCESS_CPUTIME_ID, &at);
-    return (double)at.tv_sec * 1e9 + (double)at.tv_nsec;
-}
 
 static bool times(unsigned entries) {
     double least[CALLS];

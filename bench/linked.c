@@ -13,7 +13,6 @@
 #include <stdio.h>
 #include <stdlib.h>
 #include <string.h>
-#include <time.h>
 
 #ifdef WITH_LIBCRYPTO
 #include <openssl/asn1.h>
@@ -26,8 +25,9 @@
 
 #include "plain.h"
 #include "rpki.h"
+#include "timing.h"
 
-enum { ROUNDS = 31, SMALL = 1 << 20, LEVELS = 1000000, NULLS = 10 << 20, ROOM = 21 << 20, CONTENDERS = 6 };
+enum { SMALL = 1 << 20, LEVELS = 1000000, NULLS = 10 << 20, ROOM = 21 << 20, CONTENDERS = 6 };
 
 /* Octets, and what a call on them has to find: a number of headers, or 1. */
 struct input {
@@ -450,12 +450,6 @@ struct contender {
     size_t (*call)(const struct input *input);
 };
 
-static double now(void) {
-    struct timespec time;
-    clock_gettime(CLOCK_PROCESS_CPUTIME_ID, &time);
-    return (double)time.tv_sec + 1e-9 * (double)time.tv_nsec;
-}
-
 static double once(const struct input *input, const struct contender *contender) {
     size_t repeat;
     double start = now();
@@ -477,8 +471,8 @@ static void measure(const struct input *input, const struct contender *contender
         }
     }
     for (place = 0; place < CONTENDERS && contenders[place].name; place++) {
-        printf("%-34s%14.1f%12.2f%14.2f\n", contenders[place].name, 1e9 * best[place],
-               1e9 * best[place] / (double)input->found, best[place] / best[0]);
+        printf("%-34s%14.1f%12.2f%14.2f\n", contenders[place].name, best[place], best[place] / (double)input->found,
+               best[place] / best[0]);
     }
 }
 

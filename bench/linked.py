@@ -3,7 +3,7 @@
 serial numbers and base 64 as texts) beside plain C with the same checks (bench/plain.c, bench/plain_certificate.c) and,
 where their headers are there, libcrypto and mbedtls (Debian's libssl-dev, libmbedtls-dev); and walks and signed data
 from Rust (bench/peers) beside the crates bcder and asn1, where Debian's packages of them (librust-bcder-dev,
-librust-asn1-dev) are there.
+librust-asn1-dev) are there. Needs a C compiler.
 
 usage: bench/linked.py            (after bindings/archive)"""
 import base64

@@ -9,22 +9,16 @@
 #include <openssl/x509.h>
 #include <stdio.h>
 #include <stdlib.h>
-#include <time.h>
 
 #include "plain.h"
 #include "rpki.h"
+#include "timing.h"
 
-enum { ROUNDS = 31, MOST_OCTETS = 1 << 24, CALLS = 4 };
+enum { MOST_OCTETS = 1 << 24, CALLS = 4 };
 
 static uint8_t octets[MOST_OCTETS];
 static size_t size;
 static struct rpki_crl_parts parts;
-
-static double now(void) {
-    struct timespec at;
-    clock_gettime(CLOCK_PROCESS_CPUTIME_ID, &at);
-    return (double)at.tv_sec * 1e9 + (double)at.tv_nsec;
-}
 
 static bool reads(void) { return rpki_crl(octets, size, &parts) == RPKI_OK; }
 
@@ -46,13 +40,10 @@ static bool reads_by_openssl(void) {
     return list != NULL;
 }
 
-static const struct {
-    const char *name;
-    bool (*call)(void);
-} calls[CALLS] = {{"rpki_crl", reads},
-                  {"rpki_crl_contains", searches},
-                  {"plain C", reads_plainly},
-                  {"d2i_X509_CRL", reads_by_openssl}};
+static const struct timed calls[CALLS] = {{"rpki_crl", reads},
+                                          {"rpki_crl_contains", searches},
+                                          {"plain C", reads_plainly},
+                                          {"d2i_X509_CRL", reads_by_openssl}};
 
 static size_t entries(void) {
     struct rpki_revoked_certificate entry;
@@ -63,20 +54,13 @@ static size_t entries(void) {
 }
 
 int main(int count, char **words) {
-    double least[CALLS] = {1e18, 1e18, 1e18, 1e18};
+    double least[CALLS];
     FILE *file = count == 2 ? fopen(words[1], "rb") : NULL;
-    int round, call;
+    int call;
     if (!file) return 2;
     size = fread(octets, 1, sizeof octets, file);
     fclose(file);
-    for (round = 0; round < ROUNDS; round++) {
-        for (call = 0; call < CALLS; call++) {
-            double begun = now();
-            if (!calls[call].call()) return 1;
-            begun = now() - begun;
-            if (begun < least[call]) least[call] = begun;
-        }
-    }
+    if (!time_each(calls, CALLS, 1, least)) return 1;
     for (call = 0; call < CALLS; call++) {
         printf("%s: %.1f ns an entry, %.2f of plain C, %.2f of d2i_X509_CRL\n", calls[call].name,
                least[call] / (double)entries(), least[call] / least[CALLS - 2], least[call] / least[CALLS - 1]);

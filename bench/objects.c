@@ -10,22 +10,16 @@
 #include <openssl/cms.h>
 #include <stdio.h>
 #include <stdlib.h>
-#include <time.h>
 
 #include "plain.h"
 #include "rpki.h"
+#include "timing.h"
 
-enum { ROUNDS = 31, MOST_OCTETS = 1 << 24, CALLS = 4 };
+enum { MOST_OCTETS = 1 << 24, CALLS = 4 };
 
 static uint8_t octets[MOST_OCTETS];
 static size_t size;
 static struct rpki_signed_object_parts parts;
-
-static double now(void) {
-    struct timespec at;
-    clock_gettime(CLOCK_PROCESS_CPUTIME_ID, &at);
-    return (double)at.tv_sec * 1e9 + (double)at.tv_nsec;
-}
 
 static bool reads(void) { return rpki_signed_object(octets, size, false, &parts) == RPKI_OK; }
 
@@ -50,34 +44,20 @@ static bool reads_by_openssl(void) {
     return object != NULL;
 }
 
-static const struct {
-    const char *name;
-    bool (*call)(void);
-} calls[CALLS] = {{"rpki_signed_object", reads},
-                  {"what it contains", reads_content},
-                  {"plain C", reads_plainly},
-                  {"d2i_CMS_ContentInfo", reads_by_openssl}};
-
-/* A thousand calls of an object of few octets, one of a large one. */
-static int times(void) { return size < 10000 ? 1000 : 10; }
+static const struct timed calls[CALLS] = {{"rpki_signed_object", reads},
+                                          {"what it contains", reads_content},
+                                          {"plain C", reads_plainly},
+                                          {"d2i_CMS_ContentInfo", reads_by_openssl}};
 
 int main(int count, char **words) {
-    double least[CALLS] = {1e18, 1e18, 1e18, 1e18};
+    double least[CALLS];
     FILE *file = count == 2 ? fopen(words[1], "rb") : NULL;
-    int round, call, time;
+    int call;
     if (!file) return 2;
     size = fread(octets, 1, sizeof octets, file);
     fclose(file);
-    for (round = 0; round < ROUNDS; round++) {
-        for (call = 0; call < CALLS; call++) {
-            double begun = now();
-            for (time = 0; time < times(); time++) {
-                if (!calls[call].call()) return 1;
-            }
-            begun = (now() - begun) / times();
-            if (begun < least[call]) least[call] = begun;
-        }
-    }
+    /* A thousand calls of an object of few octets, ten of a large one. */
+    if (!time_each(calls, CALLS, size < 10000 ? 1000 : 10, least)) return 1;
     for (call = 0; call < CALLS; call++) {
         printf("%s: %.0f ns, %.2f ns an octet, %.2f of plain C, %.2f of d2i_CMS_ContentInfo\n", calls[call].name,
                least[call], least[call] / (double)size, least[call] / least[CALLS - 2], least[call] / least[CALLS - 1]);

@@ -9,11 +9,11 @@
 #include <stdio.h>
 #include <stdlib.h>
 #include <string.h>
-#include <time.h>
 
 #include "rpki.h"
+#include "timing.h"
 
-enum { ROUNDS = 31, MOST = 10000, ROOM = 64 * MOST };
+enum { MOST = 10000, ROOM = 64 * MOST };
 
 typedef unsigned __int128 number;
 
@@ -205,48 +205,24 @@ static struct rpki_ip_block entries[MOST];
 static uint8_t octets[ROOM];
 static size_t size, count;
 
-static void stop(const char *why) {
-    fprintf(stderr, "resources: %s\n", why);
-    exit(1);
-}
+static bool read_plainly(void) { return plain_ip_blocks(octets, size, entries, MOST) == count; }
 
-static void read_plainly(void) {
-    if (plain_ip_blocks(octets, size, entries, MOST) != count) stop("plain C reads another count");
-}
-
-static void read_proved(void) {
+static bool read_proved(void) {
     size_t found = 0;
-    if (rpki_ip_blocks(octets, size, entries, MOST, &found) != RPKI_OK || found != count) stop("another count");
+    return rpki_ip_blocks(octets, size, entries, MOST, &found) == RPKI_OK && found == count;
 }
 
-static void compare_plainly(void) {
-    if (plain_encompass(octets, size, octets, size) != 1) stop("plain C has another answer");
-}
+static bool compare_plainly(void) { return plain_encompass(octets, size, octets, size) == 1; }
 
-static void compare_proved(void) {
+static bool compare_proved(void) {
     bool answer = false;
-    if (rpki_ip_blocks_encompass(octets, size, octets, size, &answer) != RPKI_OK || !answer) stop("another answer");
+    return rpki_ip_blocks_encompass(octets, size, octets, size, &answer) == RPKI_OK && answer;
 }
 
-static double once(void (*call)(void), size_t repeats) {
-    struct timespec from, to;
-    size_t time;
-    clock_gettime(CLOCK_PROCESS_CPUTIME_ID, &from);
-    for (time = 0; time < repeats; time++) call();
-    clock_gettime(CLOCK_PROCESS_CPUTIME_ID, &to);
-    return ((double)(to.tv_sec - from.tv_sec) * 1e9 + (double)(to.tv_nsec - from.tv_nsec)) / (double)repeats;
-}
-
-static void beside(const char *name, void (*proved)(void), void (*plain)(void), size_t repeats) {
-    double best[2] = {1e18, 1e18};
-    int round;
-    for (round = 0; round < ROUNDS; round++) {
-        double times[2];
-        times[0] = once(proved, repeats);
-        times[1] = once(plain, repeats);
-        if (times[0] < best[0]) best[0] = times[0];
-        if (times[1] < best[1]) best[1] = times[1];
-    }
+static void beside(const char *name, bool (*proved)(void), bool (*plain)(void), size_t repeats) {
+    const struct timed both[] = {{"the library", proved}, {"plain C", plain}};
+    double best[2];
+    if (!time_each(both, 2, repeats, best)) exit(1);
     printf("%-12s %6zu blocks %12.1f ns %12.1f ns in plain C, %5.2f times\n", name, count, best[0], best[1],
            best[0] / best[1]);
 }

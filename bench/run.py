@@ -3,7 +3,7 @@
 
 Makes its inputs in a folder of its own, checks that both programs write the same octets, and prints for each input and
 both programs the processor time, nanoseconds a header, megabytes a second and the peak memory, and the ratios. Each
-figure is the smallest of five runs, taken in turn.
+figure is the smallest of five runs, taken in turn. Needs rustc.
 
 usage: bench/run.py            (after `rt run` has built crates/rpkibasic)"""
 import os

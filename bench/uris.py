@@ -2,7 +2,7 @@
 """Measures five calls on rsync URIs beside the same in plain Rust on `&str`, on URIs of 1 segment and of 200.
 
 Checks that both programs print the same, and prints the nanoseconds of a call of each and their ratio. Each figure is
-the smallest of five runs, taken in turn.
+the smallest of five runs, taken in turn. Needs rustc.
 
 usage: bench/uris.py     (after `rt run -- repeat join 1 1` in crates/hostile_calls has built the program)"""
 import os

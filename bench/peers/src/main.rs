@@ -5,10 +5,13 @@
 //!        peers --recursion      (walks the deepest input by recursion, to see whether the stack is large enough)
 
 mod certificates;
+#[path = "../../clock.rs"]
+mod clock;
 mod inputs;
 mod readers;
 
 use certificates::CERTIFICATES;
+use clock::now;
 use inputs::Input;
 use readers::{Reader, RECURSION, SIGNED, WALKS};
 use std::error::Error;
@@ -17,26 +20,7 @@ use std::process::{Command, Stdio};
 
 const ROUNDS: usize = 9;
 
-#[repr(C)]
-struct Timespec {
-    seconds: i64,
-    nanoseconds: i64,
-}
-
-extern "C" {
-    fn clock_gettime(clock: i32, time: *mut Timespec) -> i32;
-}
-
-/// The processor time of this process, in seconds.
-fn now() -> f64 {
-    const CLOCK_PROCESS_CPUTIME_ID: i32 = 2;
-    let mut time = Timespec { seconds: 0, nanoseconds: 0 };
-    // SAFETY: the place is valid for writes, and has the layout of the C library's type on 64-bit Linux.
-    unsafe { clock_gettime(CLOCK_PROCESS_CPUTIME_ID, &mut time) };
-    time.seconds as f64 + 1e-9 * time.nanoseconds as f64
-}
-
-/// The seconds that a call takes.
+/// The nanoseconds that a call takes.
 fn once(input: &Input, reader: &Reader) -> Result<f64, String> {
     let start = now();
     for _ in 0..input.repeats {
@@ -47,7 +31,7 @@ fn once(input: &Input, reader: &Reader) -> Result<f64, String> {
     Ok((now() - start) / f64::from(input.repeats))
 }
 
-/// The smallest seconds of each reader. The first round warms up.
+/// The smallest nanoseconds of each reader. The first round warms up.
 fn smallest(input: &Input, readers: &[&Reader]) -> Result<Vec<f64>, String> {
     let mut best = vec![f64::INFINITY; readers.len()];
     for round in 0..=ROUNDS {
@@ -80,7 +64,7 @@ fn measure(input: &Input, walks: &[Reader], signed: &[Reader]) -> Result<(), Str
 
 fn print_rows(input: &Input, readers: &[Reader], best: &[f64]) {
     for (reader, took) in readers.iter().zip(best) {
-        let (micros, a_header, ratio) = (1e6 * took, 1e9 * took / input.headers as f64, took / best[0]);
+        let (micros, a_header, ratio) = (1e-3 * took, took / input.headers as f64, took / best[0]);
         println!("{:<28}{micros:>14.3}{a_header:>12.2}{ratio:>14.2}", reader.name);
     }
 }
