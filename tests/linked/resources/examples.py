@@ -1,14 +1,19 @@
 """Makes the examples of RFC 3779, appendices B and C, by openssl from the addresses and numbers that the RFC tells, and
-compares the octets with those that rows.py has.
+compares the octets with those that rows.py has. Needs openssl.
 
 usage: examples.py"""
 import os
 import re
-import subprocess
 import sys
 import tempfile
 
+sys.dont_write_bytecode = True
+sys.path.append(os.path.join(os.path.dirname(os.path.abspath(__file__)), "..", "..", "python"))
+
 import rows
+from counting import end, same
+from openssl import openssl
+from programs import write
 
 # Each example of rows.EXAMPLES_IP, and of rows.EXAMPLES_AS: lines of openssl's sections.
 IP = [
@@ -36,33 +41,24 @@ x509_extensions = extensions
 
 def contents(folder, extension, lines):
     """The contents of the extension, as openssl writes it into a certificate."""
-    file = os.path.join(folder, "configuration")
-    with open(file, "w", encoding="utf-8") as out:
-        out.write(CONFIGURATION.format(extension=extension) + "\n".join(lines) + "\n")
-    words = ["openssl", "req", "-x509", "-config", file, "-newkey", "rsa:1024", "-nodes", "-subj", "/CN=a"]
-    key = os.path.join(folder, "key")
-    made = subprocess.run([*words, "-keyout", key, "-outform", "DER"], capture_output=True, check=True).stdout
-    words = ["openssl", "asn1parse", "-inform", "DER"]
-    shown = subprocess.run(words, input=made, capture_output=True, check=True).stdout
+    text = CONFIGURATION.format(extension=extension) + "\n".join(lines) + "\n"
+    words = ["-x509", "-config", write(folder, "configuration", text.encode()), "-newkey", "rsa:1024", "-nodes"]
+    words += ["-subj", "/CN=a", "-keyout", os.path.join(folder, "key"), "-outform", "DER"]
+    shown = openssl("asn1parse", "-inform", "DER", input=openssl("req", *words))
     found = re.search(extension.encode() + rb"\n.*OCTET STRING +\[HEX DUMP\]:([0-9A-F]+)", shown)
     return found[1].decode().lower() if found else "no extension"
 
 
 def main():
     told = [("sbgp-ipAddrBlock", IP, rows.EXAMPLES_IP), ("sbgp-autonomousSysNum", AS, rows.EXAMPLES_AS)]
-    failed = 0
     with tempfile.TemporaryDirectory() as folder:
         for extension, examples, wanted in told:
             if len(examples) != len(wanted):
                 sys.exit(f"{extension}: {len(wanted)} examples")
             for lines, octets in zip(examples, wanted):
-                made = contents(folder, extension, lines)
-                if made != octets:
-                    failed += 1
-                    print(f"{lines}\n{made} by openssl\n{octets} in rows.py")
-    print(f"{len(IP) + len(AS) - failed} passed, {failed} failed")
-    return failed > 0
+                same(str(lines), contents(folder, extension, lines), octets)
+    end()
 
 
 if __name__ == "__main__":
-    sys.exit(main())
+    main()

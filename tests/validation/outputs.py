@@ -1,0 +1,159 @@
+"""The forms of what is printed, names of locators, ends of payloads, numbers for monitoring, and other payloads."""
+import json
+import os
+import shutil
+import subprocess
+
+from alterations import removed
+from compared import compared
+from counting import holds
+from exceptions import slurm
+from programs import octets_of
+from repositories import AT, AUTHORITIES, ORIGINS, TITLES, below, edit, payloads, router_key, url_safe
+
+
+def forms(program, maker):
+    """The texts of the same payloads in other forms, of one locator and of two."""
+    folder, lines = maker.repository(), [line.split(",") for line in payloads(below(0)[1:])]
+    again = os.path.join(maker.room, "again.tal")
+    shutil.copyfile(os.path.join(folder, "example.tal"), again)
+    for words, names in ((), ["example"]), (("--tal", again), ["example", "again"]):
+        csv = [TITLES, *(",".join([*line[:3], name]) for name in names for line in lines)]
+        made = json.dumps({"roas": [{"asn": line[0], "prefix": line[1], "maxLength": int(line[2]), "ta": name}
+                                    for name in names for line in lines], "routerKeys": [], "aspas": []})
+        openbgpd = [f"    {line[1]} maxlen {line[2]} source-as {line[0][2:]}" for line in lines]
+        wanted = {"csv": csv, "openbgpd": ["roa-set {", *openbgpd, "}"],
+                  "bird": [f"route {line[1]} max {line[2]} as {line[0][2:]};" for line in lines]}
+        for form, text in wanted.items():
+            status, output, _ = program.run(folder, "--form", form, *words)
+            holds(f"{form} of {len(names)}", status == 0 and output.split("\n") == [*text, ""], output[:300])
+        status, output, _ = program.run(folder, "--form", "json", *words)
+        holds(f"json of {len(names)}", status == 0 and json.dumps(json.loads(output)) == made, output[:300])
+
+
+def names(program, maker):
+    """The name of a locator is a field of csv (RFC 4180), which is in quotation marks only where it has to be."""
+    folder, lines = maker.repository(), [line.rsplit(",", 1)[0] for line in payloads(below(0)[1:])]
+    for name, field in (("a b; c", "a b; c"), ("a, b", '"a, b"'), ('a "b" c', '"a ""b"" c"'), ('"', '""""'),
+                        ("a\nb", '"a\nb"'), ("a\rb", '"a\rb"')):
+        locator = os.path.join(maker.room, f"{name}.tal")
+        shutil.copyfile(os.path.join(folder, "example.tal"), locator)
+        run = [program.path, "--tal", locator, "--cache", folder, "--at", AT]
+        for form, titles, end in ("csv", TITLES, ""), ("rpki-client", f"{TITLES},Expires", f",{FOREVER}"):
+            seen = subprocess.run([*run, "--form", form], capture_output=True, check=False).stdout.decode()
+            wanted = "\n".join([titles, *(f"{line},{field}{end}" for line in lines), ""])
+            holds(f"{form} of the name {name!r}", seen == wanted, seen[:200])
+            compared(program, f"{form} of the name {name!r}", folder, seen, [])
+
+
+# The last second in which each is valid: that of 2036-01-01; and one in which a list ends before.
+FOREVER, SOON = 2082758400, 1796083200
+
+
+def timed(lines, end_of):
+    """The lines of rpki-client's csv: those of csv, each with its end."""
+    return [f"{TITLES},Expires", *(f"{line},{end_of(line)}" for line in lines), ""]
+
+
+def ends(program, maker):
+    """Until when payloads are valid: the first end of a certificate or a list on the path, never that of a manifest."""
+    lines = payloads(below(0)[1:])
+    for name, variant, soon in (
+            ("no end before", {}, []),
+            ("a list of one authority", {"LISTUNTIL": "261201000000Z", "LISTOF": "1"}, below(1)),
+            ("a list of another", {"LISTUNTIL": "261201000000Z", "LISTOF": "4"}, below(4)),
+            ("the list of the trust anchor", {"LISTUNTIL": "261201000000Z", "LISTOF": "0"}, below(0)),
+            ("a manifest", {"MANIFESTUNTIL": "20261201000000Z"}, [])):
+        first = payloads(it for it in soon if it)
+        wanted = timed(lines, lambda line: SOON if line in first else FOREVER)
+        status, output, _ = program.run(maker.repository(**variant), "--form", "rpki-client")
+        holds(f"ends: {name}", status == 0 and output.split("\n") == wanted, output[:300])
+
+
+def twice(program, maker):
+    """Of two locators each payload is there twice; what local exceptions add has no end."""
+    folder, lines = maker.repository(), payloads(below(0)[1:])
+    again, added = os.path.join(maker.room, "again.tal"), os.path.join(maker.room, "added.json")
+    shutil.copyfile(os.path.join(folder, "example.tal"), again)
+    exceptions_of = slurm([{"asn": 64512 + 16}], assertions=[{"asn": 64496, "prefix": "192.0.2.0/24"}])
+    edit(added, json.dumps(exceptions_of).encode())
+    both = lines + [line.replace("example", "again") for line in lines]
+    status, output, _ = program.run(folder, "--form", "rpki-client", "--tal", again)
+    holds("ends of two locators", status == 0 and output.split("\n") == timed(both, lambda line: FOREVER), output[:300])
+    left = [line for line in lines if not line.startswith("AS64528,")] + ["AS64496,192.0.2.0/24,24,added"]
+    status, output, _ = program.run(folder, "--form", "rpki-client", "--exceptions", added)
+    wanted = timed(left, lambda line: 253402300799 if "added" in line else FOREVER)
+    holds("ends with exceptions", status == 0 and output.split("\n") == wanted, output[-300:])
+
+
+def families(name, anchor, counts, rejected, end=FOREVER):
+    """The metrics of one locator: its trust anchor, payloads by kind, points and objects that are rejected, and the
+    first end, where there are route origins."""
+    kinds = zip(("origin", "provider", "router_key"), counts)
+    parts = zip(("point", "object"), rejected)
+    return "\n".join([
+        "# TYPE rpkivalid_trust_anchor gauge",
+        "# HELP rpkivalid_trust_anchor Whether the locator has a trust anchor.",
+        f'rpkivalid_trust_anchor{{ta="{name}"}} {anchor}',
+        "# TYPE rpkivalid_payloads gauge", "# HELP rpkivalid_payloads How many payloads are written.",
+        *(f'rpkivalid_payloads{{ta="{name}",type="{kind}"}} {count}' for kind, count in kinds),
+        "# TYPE rpkivalid_rejected gauge",
+        "# HELP rpkivalid_rejected How many points and objects are rejected.",
+        *(f'rpkivalid_rejected{{ta="{name}",type="{part}"}} {count}' for part, count in parts),
+        "# TYPE rpkivalid_first_end_seconds gauge", "# UNIT rpkivalid_first_end_seconds seconds",
+        "# HELP rpkivalid_first_end_seconds When the first route origin ends, since 1970.",
+        *([f'rpkivalid_first_end_seconds{{ta="{name}"}} {end}'] if counts[0] else []), "# EOF", ""])
+
+
+def metrics(program, maker):
+    """What is counted: payloads, and what a change lets be rejected."""
+    file, odd = os.path.join(maker.room, "metrics"), 'a "name" \\'
+    origins = AUTHORITIES * ORIGINS
+    for name, change, variant, status, wanted in (
+            ("nothing is changed", None, {}, 0, (1, (origins, 0, 0), (0, 0))),
+            ("providers and routers", None, {"ASPA": "1", "ROUTER": "1"}, 0,
+             (1, (origins, 2 * AUTHORITIES, AUTHORITIES), (0, 0))),
+            ("a route origin is missing", removed(AUTHORITIES, "r0.roa"), {}, 0,
+             (1, (origins - ORIGINS, 0, 0), (1, 0))),
+            ("malformed objects", None, {"BADROA": "1"}, 0, (1, (origins, 0, 0), (0, AUTHORITIES))),
+            ("an early end", None, {"LISTUNTIL": "261201000000Z", "LISTOF": "4"}, 0,
+             (1, (origins, 0, 0), (0, 0), SOON)),
+            ("no trust anchor", removed(0, "ca0.cer"), {}, 1, (0, (0, 0, 0), (0, 0)))):
+        folder = maker.changed(change, **variant)
+        ended, output, _ = program.run(folder, "--metrics", file)
+        seen = octets_of(file).decode()
+        holds(f"metrics: {name}", ended == status and seen == families("example", *wanted), (ended, seen))
+        holds(f"payloads beside metrics: {name}", len(output.split("\n")) == wanted[1][0] + 2, output[:99])
+    folder = maker.changed(None)
+    locator = os.path.join(folder, f"{odd}.tal")
+    shutil.move(os.path.join(folder, "example.tal"), locator)
+    words = [program.path, "--tal", locator, "--cache", folder, "--at", AT, "--metrics", file]
+    subprocess.run(words, stdout=subprocess.DEVNULL, stderr=subprocess.DEVNULL, check=True)
+    wanted = families('a \\"name\\" \\\\', 1, (origins, 0, 0), (0, 0))
+    holds("metrics: a name that is escaped", octets_of(file).decode() == wanted, octets_of(file)[:300])
+    os.remove(file)
+    ended, output, faults = program.run(maker.repository(), "--metrics", os.path.join(maker.room, "none", "it"))
+    holds("metrics: no such folder", ended == 2 and not output and "cannot be written" in faults, (ended, faults))
+    ended, output, _ = program.run(maker.repository(), "--metrics", file, "--form", "none")
+    left = [it for it in (file, file + ".new") if os.path.exists(it)]
+    holds("metrics: a wrong usage", ended == 2 and not left, (ended, left))
+
+
+def others(program, maker):
+    """Providers and keys of routers: those of each authority, each once."""
+    folder, all_of = maker.repository(ASPA="1", ROUTER="1"), below(0)[1:]
+    info, identifier = router_key(folder)
+    again = os.path.join(maker.room, "again.tal")
+    shutil.copyfile(os.path.join(folder, "example.tal"), again)
+    aspas = [{"customer": f"AS{it}", "providers": ["AS64496", "AS64500"]} for it in all_of]
+    for words, names in ((), ["example"]), (("--tal", again), ["example", "again"]):
+        keys = [{"asn": f"AS{it}", "SKI": identifier.hex().upper(), "routerPublicKey": url_safe(info), "ta": name}
+                for name in names for it in all_of]
+        status, output, _ = program.run(folder, "--form", "json", *words)
+        made = json.loads(output)
+        holds(f"router keys of {len(names)}", status == 0 and made["routerKeys"] == keys, made["routerKeys"][:2])
+        holds(f"customers of {len(names)}", made["aspas"] == aspas, made["aspas"][:2])
+        status, output, _ = program.run(folder, "--form", "openbgpd", *words)
+        wanted = ["aspa-set {", *(f"    customer-as {it} provider-as {{ 64496, 64500 }}" for it in all_of), "}", ""]
+        holds(f"openbgpd's customers of {len(names)}", status == 0 and output.split("\n")[-len(wanted):] == wanted)
+        holds(f"one set of {len(names)}", output.startswith("roa-set {") and output.count("aspa-set") == 1)
