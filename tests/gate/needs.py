@@ -35,7 +35,7 @@ NEEDS = [
     Need("objdump", "binutils", ("c", "package")),
     Need("cargo", "cargo", ("c", "package", "documents")),
     Need("rustc", "rustc", ("c", "package", "documents")),
-    Need("openssl", "openssl", ("certificates",)),
+    Need("openssl", "openssl", ("hostile", "certificates", "c")),
     Need("/usr/include/openssl/evp.h", "libssl-dev", ("certificates",)),
     *(Need(f"the crate {crate}", f"librust-{crate.replace('_', '-')}-dev", ("c", "package", "documents"))
       for crate in ("bytes", "chrono", "openssl", "serde", "serde_json")),
@@ -52,6 +52,7 @@ NEEDS = [
     Need("shellcheck", "shellcheck", ()),
     Need("pyflakes3", "pyflakes3", ()),
     Need("pycodestyle", "pycodestyle", ()),
+    Need("mypy", "mypy", ()),
     Need("rpki-client", "rpki-client", ()),
 ]
 

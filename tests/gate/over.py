@@ -2,7 +2,7 @@
 """Checks a crate before all of those below it are proved. A library that was built of the same files, in this tree or
 in another that is named, is taken as it is; the sources of each other one are read, and of its functions those are
 proved that the crate's call. What is checked is kept in crates/CRATE/out/over, so that a later check is quick. Its last
-line is no verdict of the crate: that is of `rt check`.
+line is no verdict of the crate: that is of `rt check`. Needs the toolchain.
 
 usage: tests/gate/over.py [--libraries TREE].. CRATE [WORD..]   the words are those of `rattle check`, as --only NAME"""
 import os

@@ -3,6 +3,7 @@
 for tests of its calls before it is proved. The toolchain builds no static library without its proof. But it builds a
 program; so one is made of the crate's sources, whose `main` names each call, and of its object file each call is kept
 under the name that it has in C. An allocator is no parameter of it, and a slice is two, as in the library. A minute.
+Needs the toolchain.
 
 usage: tests/gate/unproved_library.py FOLDER"""
 import os

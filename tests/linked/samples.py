@@ -1,6 +1,6 @@
 #!/usr/bin/env python3
 """Picks a few of the rows that the scripts rows.py beside this one write, for bindings/rust/tests/rows, so that the
-package tests itself where nothing else of the repository is: the shortest row of each outcome.
+package tests itself where nothing else of the repository is: the shortest row of each outcome. Needs Python alone.
 
 usage: samples.py KIND < ROWS > SAMPLE      KIND: objects, contents, certificates or lists"""
 import sys

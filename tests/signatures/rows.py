@@ -2,6 +2,7 @@
 """Makes the rows of RSA signatures: crates/rsa_rows/stdin, a row the bits of a key, a message and a signature in
 hexadecimal digits, crates/rsa_rows/stdout, what the definition says of each by Python's numbers, and
 tests/signatures/names.txt. Keys are new, by openssl, which is asked the same of each key that is accepted.
+Needs openssl.
 
 usage: tests/signatures/rows.py"""
 import hashlib

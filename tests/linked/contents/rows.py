@@ -1,7 +1,7 @@
 """Writes the rows of manifests, route origin attestations and attestations of providers that the tests in C and in Rust
 read: contents of openssl, variants that use or break one rule each, and contents with octets changed, each with its
 status: the malformed part by RFC 9286, RFC 9582 or the profile of ASPA, which tests/python/judges/contents.py finds.
-Where that is 0 there is what the content says, and where its parts are.
+Where that is 0 there is what the content says, and where its parts are. Needs openssl.
 
 usage: rows.py > FILE
 

@@ -1,7 +1,7 @@
 """Writes the rows of the calls that decide, which deciding.c makes: certificates, lists and signed objects by X.690
 alone, of keys that openssl makes, with signatures as RFC 8017 8.2.1 has them, and one thing changed in each; resources
 beside those of an issuer; contents beside resources; files; moments. What is expected of each is found without the
-library: resources are sets of Python's numbers, and the statuses are those of include/rpki.h.
+library: resources are sets of Python's numbers, and the statuses are those of include/rpki.h. Needs openssl.
 
 usage: rows.py > FILE
 

@@ -2,6 +2,7 @@
 tests/python/variants/objects.py, an object with each octet changed, objects with several octets changed, and objects
 of openssl, each with the status of rpki_signed_object: the malformed part by RFC 5652 and RFC 6488, which
 tests/python/judges/objects.py finds. Where that is 0 there is what the object says, and where its parts are.
+Needs openssl.
 
 usage: rows.py > FILE
 
