@@ -9,7 +9,7 @@ import re
 import forms
 from fields import lines_of
 from lax import arcs, values
-from openssl import openssl
+from openssl import certify, openssl
 from programs import ran
 
 ROOTS = "/etc/ssl/certs/*.pem"
@@ -164,14 +164,10 @@ def make(folder, number, key, issuer, digest, serial):
     openssl("req", "-new", "-key", path + ".key", "-subj", "/C=NZ/ST=Otago/O=A, \\#b/CN= x ", "-out", path + ".csr")
     with open(path + ".cnf", "w", encoding="utf-8") as file:
         file.write("[extensions]\n" + TEXT)
-    words = ["-signkey", path + ".key"]
     if issuer:
         openssl("genpkey", *issuer, "-out", path + ".ca.key")
         openssl("req", "-new", "-x509", "-key", path + ".ca.key", "-subj", "/CN=issuer", "-out", path + ".ca.pem")
-        words = ["-CA", path + ".ca.pem", "-CAkey", path + ".ca.key"]
-    openssl("x509", "-req", "-in", path + ".csr", *words, "-set_serial", serial, "-days", "9000",
-            *([digest] if digest else []), "-extfile", path + ".cnf", "-extensions", "extensions",
-            "-out", path + ".pem")
+    certify(path, path + ".ca" if issuer else None, serial, "-out", path + ".pem", days="9000", digest=digest or "")
     return path + ".pem"
 
 

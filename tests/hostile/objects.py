@@ -18,7 +18,7 @@ from makers.objects import (
 from makers.x509 import SUBJECT_KEY, UNKNOWN
 from openssl import openssl_in, signing_time
 from programs import run, write
-from shim import Shim
+from shim import refused_in_turn
 from strict import Wrong
 from variants.objects import ACCEPTED, CUT, OTHERS, REFUSED, lines, of_lines
 
@@ -171,15 +171,11 @@ def changed_signatures(programs):
 
 def refused_objects(programs):
     """With an allocation refused an object says what it says with memory, or that memory ran out."""
-    full = run(programs.calls, ["object", "read"], made()).output
-    with Shim() as shim:
-        refused = 0
-        for alone in (True, False):
-            for allocation, met, told in shim.runs(programs.calls, ["object", "read"], made(), alone):
-                refused += met
-                nothing = (told.status, told.output) in [(0, b"out of memory\n"), (1, b"")]
-                yield f"allocation {allocation}, {alone}", told.output == full or (met and nothing), True
-        return f"{refused} refused allocations"
+    refused = 0
+    for name, well, met in refused_in_turn(programs.calls, ["object", "read"], made()):
+        refused += met
+        yield name, well, True
+    return f"{refused} refused allocations"
 
 
 def objects_of_openssl(programs):

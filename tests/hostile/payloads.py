@@ -6,7 +6,7 @@ from der import tlv
 from makers.payloads import NEXT, THIS, aspa, family, file, manifest, roa
 from makers.x509 import seconds
 from programs import run
-from shim import Shim
+from shim import refused_in_turn
 from variants.lists import rejected
 
 
@@ -87,14 +87,10 @@ def sizes_of_contents(programs):
 def refused_contents(programs):
     """With an allocation refused a content says what it says with memory, or that memory ran out."""
     refused = 0
-    with Shim() as shim:
-        for call, (octets, _) in USUAL.items():
-            full = run(programs.calls, ["content", call], octets).output
-            for alone in (True, False):
-                for allocation, met, told in shim.runs(programs.calls, ["content", call], octets, alone):
-                    refused += met
-                    nothing = (told.status, told.output) in [(0, b"out of memory\n"), (1, b"")]
-                    yield f"{call}, allocation {allocation}, {alone}", told.output == full or (met and nothing), True
+    for call, (octets, _) in USUAL.items():
+        for name, well, met in refused_in_turn(programs.calls, ["content", call], octets):
+            refused += met
+            yield f"{call}, {name}", well, True
     return f"{refused} refused allocations"
 
 

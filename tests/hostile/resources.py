@@ -5,8 +5,7 @@ both. Python's sets have each address, and its `ipaddress` makes the texts.
 import os
 import random
 
-from der import sequence, tlv
-from makers.blocks import STARTS, WIDTHS, block, blocks_of, random_set, text
+from makers.blocks import STARTS, blocks_of, ip_contents, random_set, text
 from programs import run
 
 PAIRS = int(os.environ.get("PAIRS", "2000"))
@@ -15,13 +14,8 @@ SEED = 3779
 
 
 def resources(sets):
-    """The extension's contents: the families that list something (RFC 3779 2.2.3)."""
-    families = []
-    for family, numbers in sets.items():
-        if numbers:
-            listed = [block(low, high, WIDTHS[family]) for low, high in blocks_of(numbers)]
-            families.append(sequence(tlv(0x04, bytes([0, 1 if family == 4 else 2])), sequence(*listed)))
-    return sequence(*families)
+    """The extension's contents: the families that list something."""
+    return ip_contents({family: blocks_of(numbers) for family, numbers in sets.items() if numbers})
 
 
 def told(family, one, other):

@@ -2,12 +2,12 @@
 import sys
 from typing import NoReturn
 
-told = {True: 0, False: 0}
+counts = {True: 0, False: 0}
 
 
 def holds(name: str, is_so: object, seen: object = "") -> None:
     """Counts a row, and says which failed."""
-    told[bool(is_so)] += 1
+    counts[bool(is_so)] += 1
     if not is_so:
         print(f"failed: {name}: {seen}")
 
@@ -19,5 +19,5 @@ def same(name: str, seen: object, wanted: object) -> None:
 
 def end() -> NoReturn:
     """Ends the script: with 1 where a row failed, or where there is none."""
-    print(f"{told[True]} passed, {told[False]} failed")
-    sys.exit(1 if told[False] or not told[True] else 0)
+    print(f"{counts[True]} passed, {counts[False]} failed")
+    sys.exit(1 if counts[False] or not counts[True] else 0)

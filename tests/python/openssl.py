@@ -1,7 +1,7 @@
 """The command openssl, and what it says of files."""
 import datetime
 import subprocess
-from typing import Any
+from typing import Any, Optional
 
 
 def openssl(*words: str, **options: Any) -> bytes:
@@ -12,6 +12,15 @@ def openssl(*words: str, **options: Any) -> bytes:
 def openssl_in(folder: str, *words: str) -> str:
     """What openssl prints in a folder, as a text."""
     return openssl(*words, cwd=folder).decode()
+
+
+def certify(request: str, issuer: Optional[str], serial: str, *words: str, config: str = "", days: str = "365",
+            digest: str = "-sha256") -> None:
+    """Makes a certificate of REQUEST.csr by ISSUER.pem and ISSUER.key, or by its own key, with the section `extensions`
+    of REQUEST.cnf, or of another file."""
+    signer = ["-CA", issuer + ".pem", "-CAkey", issuer + ".key"] if issuer else ["-signkey", request + ".key"]
+    openssl("x509", "-req", "-in", request + ".csr", *signer, "-set_serial", serial, "-days", days,
+            *([digest] if digest else []), "-extfile", config or request + ".cnf", "-extensions", "extensions", *words)
 
 
 def said_of(path: str, *words: str, kind: str = "x509") -> str:

@@ -56,3 +56,14 @@ class Shim:
             seen, allocations = self.run(program, words, octets, **refusing)
             refused = allocations.refused > 0
             yield allocation, refused, seen
+
+
+def refused_in_turn(program: str, words: Sequence[Word], octets: bytes) -> Iterator[Tuple[str, bool, int]]:
+    """Runs with each allocation refused in turn, alone and with all later ones: of each a name, whether it says what it
+    says with memory, or that memory ran out, and how many were refused."""
+    full = run_refused(program, words, octets).output
+    with Shim() as shim:
+        for alone in (True, False):
+            for allocation, met, seen in shim.runs(program, words, octets, alone):
+                nothing = (seen.status, seen.output) in [(0, b"out of memory\n"), (1, b"")]
+                yield f"allocation {allocation}, {alone}", seen.output == full or (met and nothing), int(met)

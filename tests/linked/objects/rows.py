@@ -6,8 +6,8 @@ Needs openssl.
 
 usage: rows.py > FILE
 
-A row is the octets in hexadecimal digits or `-`, whether RFC 9589 is asked for, and the status of what is in front
-of the certificate, 0 if that is well; then the place of the certificate, as START LENGTH, and the status of what
+A row is the octets in hexadecimal digits or `-`, whether RFC 9589 is asked for, and the status of what precedes
+the certificate, 0 if that is well; then the place of the certificate, as START LENGTH, and the status of what
 follows it, which is that of the object where rpki_certificate accepts the certificate. Where that is 0 too: the places
 of the content's type, the content, the signed attributes and the signature; the digest and the key identifier; the
 seconds of the signing time and of the binary one, each `-` where it isn't there; whether the type is the one that is
@@ -28,7 +28,7 @@ from strict import status_of
 from variants.objects import ACCEPTED, OTHERS, REFUSED
 
 
-def words_behind(before, strict):
+def words_after(before, strict):
     """The words of what follows the certificate."""
     status, found = status_of(signer, before.following, strict)
     if not found:
@@ -40,14 +40,14 @@ def words_behind(before, strict):
     return words + [int(said.kind == before.kind.octets), int(found.has_parameters)]
 
 
-def told(octets, strict):
-    """The words of a row, from the status of what is in front of the certificate on."""
+def words_of(octets, strict):
+    """The words of a row, from the status of what precedes the certificate on."""
     status, before = status_of(front, octets)
-    return [0, *before.certificates.span(), *words_behind(before, strict)] if before else [status]
+    return [0, *before.certificates.span(), *words_after(before, strict)] if before else [status]
 
 
 def row(octets, strict):
-    return " ".join(map(str, [octets.hex() or "-", int(strict), *told(octets, strict)]))
+    return " ".join(map(str, [octets.hex() or "-", int(strict), *words_of(octets, strict)]))
 
 
 def of_openssl():
@@ -73,10 +73,10 @@ def every():
 
 def main():
     for title, octets, _, strictly in ACCEPTED:
-        assert told(octets, False)[3] == 0, title
-        assert (told(octets, True)[3] == 0) == (strictly != OTHERS), title
+        assert words_of(octets, False)[3] == 0, title
+        assert (words_of(octets, True)[3] == 0) == (strictly != OTHERS), title
     for title, octets, _ in REFUSED:
-        words = told(octets, False)
+        words = words_of(octets, False)
         assert words[0] or words[3] or "certificate" in title, title
     for octets in every():
         for strict in (False, True):

@@ -23,11 +23,13 @@ sys.path.append(os.path.join(os.path.dirname(os.path.abspath(__file__)), "..", "
 
 from der import NULL, sequence, tlv, unsigned
 from judges.resources import as_resources, ip_resources
-from makers.blocks import ADDRESSES, SIZE, STARTS, WIDTHS, block, blocks_of, is_prefix, random_set
+from makers.blocks import (
+    NAMES, SIZE, STARTS, WIDTHS, as_contents, block, blocks_of, ip_contents, named, random_set, text,
+)
 from strict import CONTENT, status_of
 
 SEED, PAIRS, CHANGES, SETS = 3779, 1000, 4000, 300
-NAMES = {b"\0\1": 4, b"\0\2": 6}
+FAMILIES = {name: family for family, name in NAMES.items()}
 SECOND, NO_ANSWER = 16, 10
 
 # RFC 3779, appendices B and C, whole, and without what RFC 6487 4.8.10 and 4.8.11 forbid: the SAFI, routing domains.
@@ -41,11 +43,6 @@ EXAMPLES_AS = [
     "301aa014301202020087300802020bb802020f9f02021389a1020500",
     "3016a014301202020087300802020bb802020f9f02021389",
 ]
-
-
-def named(family, *listed, inherit=False):
-    """A family, with blocks as they are spelled."""
-    return sequence(tlv(4, bytes([0, 1 if family == 4 else 2])), NULL if inherit else sequence(*listed))
 
 
 def ranged(family, low, high):
@@ -130,24 +127,11 @@ def single_as():
         yield listed(tlv(2, contents))
 
 
-def as_contents(blocks):
-    """Blocks of AS numbers, or None for those of the issuer, as the contents of the extension."""
-    listed = [unsigned(low) if low == high else sequence(unsigned(low), unsigned(high)) for low, high in blocks or []]
-    return sequence(tlv(0xa0, NULL if blocks is None else sequence(*listed)))
-
-
-def ip_contents(found):
-    """The same of addresses, by their families."""
-    return sequence(*[
-        named(family, *[block(low, high, WIDTHS[family]) for low, high in blocks or []], inherit=blocks is None)
-        for family, blocks in found.items()])
-
-
 def contents_of(kind, found):
     """The only contents in DER of these resources, as a judge finds them."""
     if kind == "as":
         return as_contents(found[None])
-    return ip_contents({NAMES[name]: blocks for name, blocks in found.items()})
+    return ip_contents({FAMILIES[name]: blocks for name, blocks in found.items()})
 
 
 AS_STARTS = [0, 64496, 2**31 - SIZE // 2, 2**32 - SIZE]
@@ -168,7 +152,7 @@ def random_ip(source):
                 found[family] = blocks_of(numbers)
         if found:
             octets = ip_contents(found)
-            assert {NAMES[name]: blocks for name, blocks in ip_resources(octets).items()} == found, octets.hex()
+            assert {FAMILIES[name]: blocks for name, blocks in ip_resources(octets).items()} == found, octets.hex()
             return octets
 
 
@@ -198,19 +182,6 @@ def address_octets(family, number):
     return number.to_bytes(WIDTHS[family] // 8, "big").ljust(16, b"\0").hex()
 
 
-def address_text(family, number):
-    """An address by `ipaddress`; one that is made of an address of IPv4 ends with that (RFC 5952 5)."""
-    address = ADDRESSES[family](number)
-    mapped = address.ipv4_mapped if family == 6 else None
-    return f"::ffff:{mapped}" if mapped else str(address)
-
-
-def text(family, low, high):
-    if is_prefix(low, high):
-        return f"{address_text(family, low)}/{WIDTHS[family] - (high - low).bit_length()}"
-    return f"{address_text(family, low)}-{address_text(family, high)}"
-
-
 def as_text(low, high):
     return f"AS{low}" if low == high else f"AS{low}-AS{high}"
 
@@ -218,7 +189,7 @@ def as_text(low, high):
 def entries(kind, found):
     for name, blocks in found.items():
         if kind == "ip":
-            family = NAMES[name]
+            family = FAMILIES[name]
             if blocks is None:
                 yield f"{family}:{'00' * 16}:{'00' * 16}:1:inherit"
             for low, high in blocks or []:
@@ -284,7 +255,7 @@ def part_of(source, kind, octets):
             for low, high in blocks:
                 start = source.randrange(low, high + 1)
                 numbers.update(range(start, min(high, start + source.randrange(8)) + source.choice([1, 1, 1, 2])))
-            most = (1 << (32 if name is None else WIDTHS[NAMES[name]])) - 1
+            most = (1 << (32 if name is None else WIDTHS[FAMILIES[name]])) - 1
             found[name] = blocks_of(number for number in numbers if number <= most)
     return contents_of(kind, found)
 

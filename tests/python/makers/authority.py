@@ -2,7 +2,8 @@
 information access, and a BGPsec router."""
 import os
 
-from openssl import openssl
+from openssl import certify, openssl
+from programs import write
 
 # The extensions of each (RFC 6487 4.8, RFC 9323 2, RFC 8209 3.1.3), as openssl writes them.
 COMMON = """subjectKeyIdentifier = hash
@@ -42,21 +43,17 @@ CERTIFICATES = [
 
 def make(folder):
     """Makes NAME.der and NAME.pem of each certificate in the folder."""
+    made = paths(folder)
     for name, subject, issuer, key, serial, extensions in CERTIFICATES:
-        def path(ending, of=name):
-            return os.path.join(folder, of + ending)
-        with open(path(".cnf"), "w") as file:
+        path = made[name]
+        with open(path + ".cnf", "w", encoding="ascii") as file:
             file.write("[req]\nprompt = no\nstring_mask = pkix\ndistinguished_name = name\n[name]\n[extensions]\n")
             file.write(extensions.format(name=name, issuer=issuer))
         kind = ["-algorithm", "EC", "-pkeyopt", "ec_paramgen_curve:P-256"] if key == "EC" else ["-algorithm", "RSA"]
-        openssl("genpkey", *kind, "-out", path(".key"))
-        openssl("req", "-new", "-config", path(".cnf"), "-key", path(".key"), "-subj", subject, "-out", path(".csr"))
-        signer = ["-signkey", path(".key")] if issuer == name else \
-            ["-CA", path(".pem", issuer), "-CAkey", path(".key", issuer)]
-        openssl("x509", "-req", "-in", path(".csr"), *signer, "-set_serial", serial, "-days", "365", "-sha256",
-                "-extfile", path(".cnf"), "-extensions", "extensions", "-out", path(".pem"))
-        openssl("x509", "-in", path(".pem"), "-outform", "DER", "-out", path(".der"))
-    return paths(folder)
+        openssl("genpkey", *kind, "-out", path + ".key")
+        openssl("req", "-new", "-config", path + ".cnf", "-key", path + ".key", "-subj", subject, "-out", path + ".csr")
+        certify(path, made[issuer] if issuer != name else None, serial, "-out", path + ".pem")
+        openssl("x509", "-in", path + ".pem", "-outform", "DER", "-out", path + ".der")
 
 
 def paths(folder):
@@ -67,13 +64,9 @@ def paths(folder):
 def with_extensions(folder, lines):
     """A certificate of an authority, by the anchor that [make] made, with these lines for its resources, or in place of
     those of the same extensions."""
-    config, path = os.path.join(folder, "resources.cnf"), os.path.join(folder, "resources.der")
-    with open(config, "w") as file:
-        others = [line for line in (COMMON + AUTHORITY + ISSUED).splitlines() if not line.startswith("sbgp-")]
-        text = "\n".join(others).format(name="ca", issuer="ta")
-        file.write("[extensions]\n" + "\n".join([text, *lines]) + "\n")
-    anchor = os.path.join(folder, "ta")
-    openssl("x509", "-req", "-in", os.path.join(folder, "ca.csr"), "-CA", anchor + ".pem", "-CAkey", anchor + ".key",
-            "-set_serial", "2", "-days", "365", "-sha256", "-extfile", config, "-extensions", "extensions",
-            "-outform", "DER", "-out", path)
+    others = [line for line in (COMMON + AUTHORITY + ISSUED).splitlines() if not line.startswith("sbgp-")]
+    text = "\n".join(others).format(name="ca", issuer="ta")
+    config = write(folder, "resources.cnf", ("[extensions]\n" + "\n".join([text, *lines]) + "\n").encode())
+    path = os.path.join(folder, "resources.der")
+    certify(os.path.join(folder, "ca"), os.path.join(folder, "ta"), "2", "-outform", "DER", "-out", path, config=config)
     return path

@@ -1,8 +1,8 @@
-"""Blocks of addresses (RFC 3779 2.2.3.7 to 2.2.3.9) of Python's sets, and their texts by its `ipaddress`."""
+"""Blocks of addresses and of AS numbers (RFC 3779), of Python's sets, and texts of addresses by its `ipaddress`."""
 import ipaddress
 from typing import List, Set
 
-from der import bits, sequence
+from der import NULL, bits, sequence, tlv, unsigned
 
 # A window of so many addresses, at the ends of a family and at a border inside, where carries are long.
 SIZE = 40
@@ -11,6 +11,7 @@ STARTS = {
     6: [0, 2**128 - SIZE, 2**127 - SIZE // 2, 0x20010DB8 << 96],
 }
 WIDTHS = {4: 32, 6: 128}
+NAMES = {4: b"\0\1", 6: b"\0\2"}
 ADDRESSES = {4: ipaddress.IPv4Address, 6: ipaddress.IPv6Address}
 
 
@@ -45,10 +46,35 @@ def block(low, high, width):
     return sequence(address(low, width - zeros, width), address(high >> ones << ones, width - ones, width))
 
 
+def named(family, *listed, inherit=False):
+    """A family, with blocks as they are spelled."""
+    return sequence(tlv(4, NAMES[family]), NULL if inherit else sequence(*listed))
+
+
+def ip_contents(found):
+    """Blocks of each family, or None for those of the issuer, as the contents of the extension (RFC 3779 2.2.3)."""
+    return sequence(*[
+        named(family, *[block(low, high, WIDTHS[family]) for low, high in blocks or []], inherit=blocks is None)
+        for family, blocks in found.items()])
+
+
+def as_contents(blocks):
+    """The same of AS numbers (RFC 3779 3.2.3)."""
+    listed = [unsigned(low) if low == high else sequence(unsigned(low), unsigned(high)) for low, high in blocks or []]
+    return sequence(tlv(0xa0, NULL if blocks is None else sequence(*listed)))
+
+
+def address_text(family, number):
+    """An address; one that is made of an address of IPv4 ends with that (RFC 5952 5)."""
+    address = ADDRESSES[family](number)
+    mapped = getattr(address, "ipv4_mapped", None)
+    return f"::ffff:{mapped}" if mapped else str(address)
+
+
 def text(family, low, high):
     if is_prefix(low, high):
-        return f"{ADDRESSES[family](low)}/{WIDTHS[family] - (high - low).bit_length()}"
-    return f"{ADDRESSES[family](low)}-{ADDRESSES[family](high)}"
+        return f"{address_text(family, low)}/{WIDTHS[family] - (high - low).bit_length()}"
+    return f"{address_text(family, low)}-{address_text(family, high)}"
 
 
 def random_set(random, start):

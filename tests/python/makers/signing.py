@@ -8,7 +8,7 @@ from makers import objects
 from makers.authority import COMMON, ISSUED
 from makers.objects import ASPA, ROA
 from makers.rsa import Key
-from openssl import key_identifier, openssl
+from openssl import certify, key_identifier, openssl
 from programs import octets_of
 
 USAGE = "keyUsage = critical, digitalSignature\n"
@@ -33,9 +33,7 @@ class Signer:
         self.key = Key(path + ".key")
         openssl("req", "-new", "-config", path + ".cnf", "-key", path + ".key", "-subj", "/CN=signer", "-out",
                 path + ".csr")
-        openssl("x509", "-req", "-in", path + ".csr", "-CA", issuer + ".pem", "-CAkey", issuer + ".key", "-set_serial",
-                "9", "-days", "365", "-sha256", "-extfile", path + ".cnf", "-extensions", "extensions", "-outform",
-                "DER", "-out", path + ".cer")
+        certify(path, issuer, "9", "-outform", "DER", "-out", path + ".cer")
         self.path, self.certificate = path + ".cer", octets_of(path + ".cer")
         self.identifier = bytes.fromhex(key_identifier(self.path).replace(":", ""))
 
