@@ -43,6 +43,7 @@ def alike(program, folder, rows):
             ("quotation marks", as_csv(marked)), ("numbers alone", as_csv(shorter)),
             ("another name", as_csv(rows).replace("example", '"a ""b"",\nc"')),
             ("another order", as_csv(rows[::-1])), ("each twice", as_csv(rows + rows)),
+            ("more fields in one row", as_csv(rows) + f"{rows[0]},example,1,2\n"),
             ("JSON of rpki-client", as_json(rows, lambda it: int(it[2:]), **client)),
             ("JSON of Routinator", as_json(rows, metadata={"generated": 1})), ("spaces", f" \r\n\t{as_json(rows)}\n"),
             ("numbers as texts", as_json(rows, lambda it: it[2:]))):
@@ -80,7 +81,7 @@ def no_lists(program, folder, rows):
             ("a length above", first + "AS1,10.0.0.0/8,33,example\n", "line 3: not a payload"),
             ("no length", first + "AS1,10.0.0.0/8,,example\n", "line 3: not a payload"),
             ("a row behind two lines", first + '"AS1",10.0.0.0/8,8,"a\nb"\nASX,10.0.0.0/8,8,c\n', "line 5: not a"),
-            ("a field more", first + "AS1,10.0.0.0/8,8,example,1\n", "line 3: not a payload"),
+            ("a field of no UTF-8", first.encode() + b"AS1,10.0.0.0/8,8,\xff\n", "line 3: not a payload"),
             ("two fields", "AS1,10.0.0.0/8\n", "line 1: not a payload"),
             ("a text", "payloads", "line 1: not a payload"),
             ("an array", "[]", "line 1: not a payload"), ("half of JSON", as_json(rows)[:-1], "not JSON"),
@@ -88,7 +89,7 @@ def no_lists(program, folder, rows):
             ("an element", as_json(rows).replace("AS645", "ASX", 2), "roas: not a payload: number 0"),
             ("the last element", as_json(rows)[:-2] + ', {"asn": 1}]}', f"roas: not a payload: number {len(rows)}"),
             ("a length as text", '{"roas": [{"asn": 1, "prefix": "10.0.0.0/8", "maxLength": "8"}]}', "number 0")):
-        edit(file, text.encode())
+        edit(file, text if isinstance(text, bytes) else text.encode())
         status, output, faults = program.run(folder, "--compare", file)
         told_so = f"rpkivalid: {file}: " in faults and said in faults
         holds(f"no list: {name}", status == 2 and not output and told_so, (status, output[:99], faults[:200]))
