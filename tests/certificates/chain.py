@@ -27,6 +27,7 @@ def texts(program, folder):
             status, output, faults = ran(program, "--json", path)
             pairs = json.loads(output, object_pairs_hook=list)
             named = forms.pairs([("File", path)] + fields) + [forms.resources(fields)]
+            named += forms.listed(paths[name] + ".der")
             yield f"{name}{ending} as JSON", (status, pairs, faults), (0, named, b"")
             yield f"{name}{ending} on a line", output.count(b"\n"), 1
 

@@ -4,6 +4,8 @@ import base64
 import hashlib
 from datetime import datetime, timezone
 
+from openssl import text_of
+
 TIMES = {"Valid Since", "Valid Until", "Cert Valid Since", "Cert Valid Until", "Signing Time", "Revocation Date"}
 NUMBERS = {"Version", "Public Key Bits"}
 
@@ -53,3 +55,34 @@ def resources(fields):
     blocks = [(label, text) for label, value in sorted(kinds, key=lambda field: field[0] != "AS")
               for text in value.split(", ") if not value.startswith("not of the RPKI's profile")]
     return "subordinate_resources", [[block(label, text)] for label, text in blocks]
+
+
+# The methods of access descriptions, as openssl has them.
+METHODS = {"CA Issuers": "caIssuers", "CA Repository": "caRepository", "RPKI Manifest": "rpkiManifest",
+           "Signed Object": "signedObject", "RPKI Notify": "rpkiNotify", "OCSP": "1.3.6.1.5.5.7.48.1"}
+ACCESSES = ("Authority Information Access", "Subject Information Access")
+
+
+def accesses(path):
+    """The access descriptions of a certificate, as openssl prints them: the label of each extension, and its items."""
+    found, label = {name: [] for name in ACCESSES}, None
+    for line in text_of(path).splitlines():
+        depth, text = len(line) - len(line.lstrip()), line.strip()
+        if depth <= 12:
+            label = text.partition(":")[0]
+        elif label in found and text:
+            method, _, location = text.partition(" - ")
+            form, _, value = location.partition(":")
+            place = ("URI", value) if form == "URI" else ("Location", "not a URI")
+            found[label].append([("Method", METHODS.get(method, method)), place])
+    return list(found.items())
+
+
+def listed(path):
+    """The same as members."""
+    return [(member(label), [pairs(item) for item in items]) for label, items in accesses(path)]
+
+
+def lines(path):
+    """The same as lines."""
+    return [(label, ", ".join(" ".join(field) for field in item)) for label, items in accesses(path) for item in items]

@@ -111,10 +111,11 @@ def repository(program, folder):
     rows = [of_list(place, name) for name in ("ta", "ca")] + [of_signed(place, name) for name in SIGNED]
     for path, fields, listing in rows:
         name = os.path.basename(path)
+        access = forms.listed(os.path.join(place, "work", SIGNED[name][2] + ".cer")) if name in SIGNED else []
         yield name, ran(program, path), (0, as_text(fields, listing), b"")
         status, output, faults = ran(program, "--json", path)
         pairs = json.loads(output, object_pairs_hook=list)
-        yield f"{name} as JSON", (status, pairs, faults), (0, as_pairs(fields, listing), b"")
+        yield f"{name} as JSON", (status, pairs, faults), (0, as_pairs(fields, listing) + access, b"")
         octets = octets_of(path)
         fields[0] = ("File", "-")
         yield f"{name} as input", ran(program, "-", octets=octets), (0, as_text(fields, listing), b"")

@@ -94,6 +94,42 @@ def resources(program, folder):
         yield f"resources: {text}, as JSON", (status, seen, faults), (0, named, b"")
 
 
+# Access descriptions as openssl is told them, and of which extensions lines have them, since fields don't show all.
+PLACES = "subjectInfoAccess = caRepository;URI:rsync://a/b/, 1.3.6.1.5.5.7.48.10;URI:rsync://a/b/m.mft"
+MANY_PLACES = ("subjectInfoAccess = caRepository;URI:rsync://a/b/, caRepository;URI:rsync://c/d/, "
+               "1.3.6.1.5.5.7.48.10;URI:rsync://a/b/m.mft, 1.3.6.1.5.5.7.48.13;URI:https://a/n.xml, "
+               "1.3.6.1.5.5.7.48.10;URI:rsync://c/d/m.mft, 1.2.3.4;URI:rsync://x/y")
+WAYS = "authorityInfoAccess = caIssuers;URI:rsync://a/b/i.cer"
+ISSUER, SUBJECT = forms.ACCESSES
+ACCESS = [
+    ("two of a method, and an unknown one", [MANY_PLACES], [SUBJECT]),
+    ("two ways to the issuer", [WAYS + ", caIssuers;URI:rsync://c/d/i.cer, OCSP;URI:http://o/"], [ISSUER]),
+    ("of each method one", [WAYS, PLACES], []),
+    ("a method and no URI", [PLACES + ", 1.2.3.5;DNS:example.net, caRepository;RID:1.2.3"], [SUBJECT]),
+    ("a URI of another scheme", ["subjectInfoAccess = caRepository;URI:https://a/b/"], [SUBJECT]),
+    ("a URI without a path", [WAYS.replace("/b/i.cer", "/i.cer")], [ISSUER]),
+    ("first a URI of another scheme", [WAYS.replace("rsync", "http") + ", caIssuers;URI:rsync://a/b/i.cer"], [ISSUER]),
+    ("not as critical as they have to be", [WAYS.replace("= ", "= critical, "), PLACES], [ISSUER]),
+]
+
+
+def access(program, folder):
+    """What is shown of access descriptions, as JSON all of them; as lines where fields don't show all."""
+    for text, asked, labels in ACCESS:
+        path = authority.with_extensions(folder, asked)
+        status, output, faults = ran(program, path)
+        seen = [(label, value) for label, value in lines_of(output) if label in forms.ACCESSES]
+        wanted = [(label, value) for label, value in forms.lines(path) if label in labels]
+        yield f"access: {text}", (status, seen, faults), (0, wanted, b"")
+        status, output, faults = ran(program, "--json", path)
+        pairs = json.loads(output, object_pairs_hook=list)[-2:]
+        yield f"access: {text}, as JSON", (status, pairs, faults), (0, forms.listed(path), b"")
+    invisible = x509.accesses((x509.REPOSITORY, x509.uri(b"rsync://a/\\\n\x7f ")))
+    path = changed(folder, made.put(x509.SUBJECT_ACCESS, invisible))
+    seen = dict(lines_of(ran(program, path)[1]))[SUBJECT]
+    yield "access: no visible characters", seen, "Method caRepository, URI rsync://a/\\5C\\0A\\7F\\20"
+
+
 # Extensions that openssl writes and that RFC 6487 doesn't give an authority, their fields and their sections.
 UNLIKE = [
     ("a length of paths", "basicConstraints = critical, CA:TRUE, pathlen:1", "Basic Constraints", "4.8.1"),
@@ -127,4 +163,4 @@ def unlike(program, folder):
         yield f"critical: {section}", (status, seen, faults), (0, [OTHER.format(section)] * len(labels), b"")
 
 
-TABLES = [subjects_and_keys, resources, unlike]
+TABLES = [subjects_and_keys, resources, access, unlike]

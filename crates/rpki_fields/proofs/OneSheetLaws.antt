@@ -1,8 +1,9 @@
 -- An object has one sheet.
-use Rattle.std.proofs.Common.{◌≡◌, ℕ, List, sym, ap, ◌∙◌}
+use Rattle.std.proofs.Common.{◌≡◌, ℕ, List, sym, ap, subst, ◌∙◌, inl, inr}
 use Rattle.rpki.specs.ExtensionValue.{ExtensionParts}
 use Rattle.rpki_cert.specs.Access.{SpellsRsyncAccess, ca_issuers, signed_object}
-use Rattle.rpki_cert.specs.Cert.{TbsParts}
+use Rattle.rpki_cert.specs.AccessDescription.{Description}
+use Rattle.rpki_cert.specs.Cert.{TbsParts, find}
 use Rattle.rpki_cert.specs.ExtensionContent.{SpellsAuthority}
 use Rattle.rpki_cert.specs.Known.{subject_key_identifier, authority_key_identifier, authority_info_access}
 use Rattle.rpki_cert.specs.Known.{subject_info_access}
@@ -13,16 +14,18 @@ use Rattle.rpki_contents.specs.Roa.{AttestationParts}
 use Rattle.rpki_objects.specs.Crl.{Entry, ListParts, listed}
 use Rattle.rpki_objects.specs.SignedObject.{ObjectParts}
 use Rattle.rpki_objects.specs.TypedObject.{TypedParts}
-use Rattle.std.specs.Prelude.{codes, false}
+use Rattle.std.specs.Prelude.{codes, false, Option, Some, None}
 use Rattle.rpki_fields.specs.declared.object.Object.{Object}
 use Rattle.rpki_fields.specs.declared.object.Object.TheVariants.{Certificate, RevocationList, FileList, RouteOrigins}
 use Rattle.rpki_fields.specs.declared.object.Object.TheVariants.{Providers, OtherContent, OtherCertificate}
+use Rattle.rpki_fields.specs.AccessText.{AreDescribed, access_listing, issuer_shown, signer_shown, subject_shown}
+use Rattle.rpki_fields.specs.AccessText.{HasListing, HasSubjectAccess, HasAccess}
 use Rattle.rpki_fields.specs.ContentText.{AreManifestFields, IsManifestSheet, IsOriginSheet, IsProviderSheet}
 use Rattle.rpki_fields.specs.ContentText.{IsOtherSheet}
 use Rattle.rpki_fields.specs.Field.{FieldParts}
 use Rattle.rpki_fields.specs.ListText.{AreListFields, IsEntryItem, IsListSheet}
-use Rattle.rpki_fields.specs.ObjectText.{IsCertSheet, IsSheet}
-use Rattle.rpki_fields.specs.Sheet.{SheetParts, plain_sheet}
+use Rattle.rpki_fields.specs.ObjectText.{IsCertSheet, WithAccess, IsSheet}
+use Rattle.rpki_fields.specs.Sheet.{SheetParts, plain_sheet, sheet_with}
 use Rattle.rpki_fields.specs.SignedText.{AreSignerKeys, AreSignerNames, AreSignerPlaces, AreSignedFields}
 use Rattle.rpki_fields.specs.SignedText.{SignedLabels, labels_of, manifest_labels}
 use Rattle.rpki_fields.specs.ValueText.{colon_digits}
@@ -111,14 +114,50 @@ one-cert-sheet octets t a b g h =
     let items = one-resource-items t.extensions g.1 h.1 g.3 h.3 in
     (rw (fields, items) at g.4) ∙ sym h.4
 
+-- ---- access descriptions
+
+one-described : (x : Option ExtensionParts) (a b : List Description) → AreDescribed x a → AreDescribed x b → a ≡ b
+one-described None a b g h = g ∙ sym h
+one-described (Some x) a b (inl g) (inl h) = h.1 a g.0
+one-described (Some x) a b (inl g) (inr h) = absurd (h.0 a g.0)
+one-described (Some x) a b (inr g) (inl h) = absurd (g.0 b h.0)
+one-described (Some x) a b (inr g) (inr h) = g.1 ∙ sym h.1
+
+one-listing : (label : List ℕ) (shown : List Description → ℕ) (x : Option ExtensionParts) (sheet a b : SheetParts)
+    → HasListing label shown x sheet a → HasListing label shown x sheet b → a ≡ b
+one-listing label shown x sheet a b g h =
+    let ds = one-described x g.0 h.0 g.1 h.1 in
+    g.2 ∙ ap (λ (w : List Description). sheet_with (access_listing label x (shown w) w) sheet) ds ∙ sym h.2
+
+one-access : (shown : List Description → ℕ) (xs : List ExtensionParts) (sheet a b : SheetParts)
+    → HasAccess shown xs sheet a → HasAccess shown xs sheet b → a ≡ b
+one-access shown xs sheet a b g h =
+    let between = one-listing (codes "Authority Information Access") issuer_shown (find authority_info_access xs) sheet
+    g.0 h.0 g.1 h.1 in
+    one-listing (codes "Subject Information Access") shown (find subject_info_access xs) h.0 a b
+    (subst (λ (w : SheetParts). HasSubjectAccess shown xs w a) between g.2) h.2
+
+with-access : (shown : List Description → ℕ) (t : TbsParts) (P : SheetParts → Type 0)
+    → ((a b : SheetParts) → P a → P b → a ≡ b)
+    → (a b : SheetParts) → WithAccess shown t P a → WithAccess shown t P b → a ≡ b
+with-access shown t P one a b g h =
+    let sheet = one g.0 h.0 g.1 h.1 in
+    one-access shown t.extensions h.0 a b
+    (subst (λ (w : SheetParts). HasAccess shown t.extensions w a) sheet g.2) h.2
+
 -- ---- objects
 
 pub one-sheet : (octets : List ℕ) (x : Object) (a b : SheetParts) → IsSheet octets x a → IsSheet octets x b → a ≡ b
-one-sheet octets (Certificate c) a b g h = one-cert-sheet octets c.tbs a b g h
+one-sheet octets (Certificate c) a b g h =
+    with-access subject_shown c.tbs (IsCertSheet octets c.tbs) (one-cert-sheet octets c.tbs) a b g h
 one-sheet octets (RevocationList l) a b g h = one-list-sheet l.list a b g h
-one-sheet octets (FileList m) a b g h = one-manifest-sheet m a b g h
-one-sheet octets (RouteOrigins r) a b g h = one-origin-sheet r a b g h
-one-sheet octets (Providers p) a b g h = one-provider-sheet p a b g h
-one-sheet octets (OtherContent o) a b g h = one-other-sheet o a b g h
+one-sheet octets (FileList m) a b g h =
+    with-access signer_shown m.object.cert.tbs (IsManifestSheet m) (one-manifest-sheet m) a b g h
+one-sheet octets (RouteOrigins r) a b g h =
+    with-access signer_shown r.object.cert.tbs (IsOriginSheet r) (one-origin-sheet r) a b g h
+one-sheet octets (Providers p) a b g h =
+    with-access signer_shown p.object.cert.tbs (IsProviderSheet p) (one-provider-sheet p) a b g h
+one-sheet octets (OtherContent o) a b g h =
+    with-access signer_shown o.cert.tbs (IsOtherSheet o) (one-other-sheet o) a b g h
 one-sheet octets (OtherCertificate c) a b g h = g.2
     ∙ ap (λ (fields : List FieldParts). plain_sheet fields) (one-other-fields octets c g.0 h.0 g.1 h.1) ∙ sym h.2

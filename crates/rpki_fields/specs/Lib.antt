@@ -18,6 +18,7 @@ pub mod SignedText
 pub mod ContentText
 pub mod Kind
 pub mod Object
+pub mod AccessText
 pub mod Place
 pub mod PlaceText
 pub mod ObjectText

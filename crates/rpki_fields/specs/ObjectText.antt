@@ -1,9 +1,11 @@
 -- What is shown of an object.
 use Rattle.std.specs.Prelude.{◌≡◌, ℕ, false, List, codes}
 use Rattle.rpki_cert.specs.Cert.{TbsParts}
+use Rattle.rpki_cert.specs.AccessDescription.{Description}
 use Rattle.rpki_fields.specs.declared.object.Object.{Object}
 use Rattle.rpki_fields.specs.declared.object.Object.TheVariants.{Certificate, RevocationList, FileList, RouteOrigins}
 use Rattle.rpki_fields.specs.declared.object.Object.TheVariants.{Providers, OtherContent, OtherCertificate}
+use Rattle.rpki_fields.specs.AccessText.{HasAccess, subject_shown, signer_shown}
 use Rattle.rpki_fields.specs.CertText.{AreFields}
 use Rattle.rpki_fields.specs.ContentText.{IsManifestSheet, IsOriginSheet, IsProviderSheet, IsOtherSheet}
 use Rattle.rpki_fields.specs.Field.{FieldParts}
@@ -19,13 +21,17 @@ IsCertSheet octets t s =
     × AreResourceItems t.extensions items
     × (s ≡ sheet_with (listing_parts (codes "Subordinate Resources") items false) (plain_sheet fields))
 
+-- the sheet that has P, with the access descriptions of the certificate at its end
+abbrev pub WithAccess : (List Description → ℕ) → TbsParts → (SheetParts → Type 0) → SheetParts → Type 0
+WithAccess shown t P s = (sheet : SheetParts) × P sheet × HasAccess shown t.extensions sheet s
+
 -- the sheet of the object that these octets are
 abbrev pub IsSheet : List ℕ → Object → SheetParts → Type 0
-IsSheet octets (Certificate c) s = IsCertSheet octets c.tbs s
+IsSheet octets (Certificate c) s = WithAccess subject_shown c.tbs (IsCertSheet octets c.tbs) s
 IsSheet octets (RevocationList l) s = IsListSheet l.list s
-IsSheet octets (FileList m) s = IsManifestSheet m s
-IsSheet octets (RouteOrigins r) s = IsOriginSheet r s
-IsSheet octets (Providers a) s = IsProviderSheet a s
-IsSheet octets (OtherContent o) s = IsOtherSheet o s
+IsSheet octets (FileList m) s = WithAccess signer_shown m.object.cert.tbs (IsManifestSheet m) s
+IsSheet octets (RouteOrigins r) s = WithAccess signer_shown r.object.cert.tbs (IsOriginSheet r) s
+IsSheet octets (Providers a) s = WithAccess signer_shown a.object.cert.tbs (IsProviderSheet a) s
+IsSheet octets (OtherContent o) s = WithAccess signer_shown o.cert.tbs (IsOtherSheet o) s
 IsSheet octets (OtherCertificate c) s =
     (fields : List FieldParts) × AreOtherFields octets c fields × (s ≡ plain_sheet fields)

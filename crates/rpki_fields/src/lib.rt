@@ -4,6 +4,7 @@
 //! makes a [Sheet] of it: fields, and the items that it lists. [Form::render] makes text or JSON of that.
 #![tactic(auto)]
 
+mod access_text;
 mod algorithm;
 mod algorithm_text;
 mod cert_text;

@@ -6,10 +6,12 @@ ghost use Rattle.rpki_der.specs.Prelude.{left, CanShare, Reads, Decodes, IsWhole
 ghost use Rattle.rpki_cert.specs.Cert.{SpellsCert};
 ghost use Rattle.rpki_cert.specs.CertFault.{IsCertFault};
 ghost use Rattle.rpki_fields.specs.declared.kind.Kind.TheVariants as K;
-ghost use Rattle.rpki_fields.specs.declared.object.Object.TheVariants.{Certificate, OtherCertificate};
+ghost use Rattle.rpki_fields.specs.declared.object.Object.TheVariants.{Certificate, FileList, RouteOrigins};
+ghost use Rattle.rpki_fields.specs.declared.object.Object.TheVariants.{Providers, OtherContent, OtherCertificate};
 ghost use Rattle.rpki_fields.specs.Object.{IsOf, IsNone, IsUnspelled, cert_of, objection_to};
-ghost use Rattle.rpki_fields.specs.ObjectText.{IsSheet};
+ghost use Rattle.rpki_fields.specs.ObjectText.{IsCertSheet, IsSheet};
 
+use crate::access_text::{cert_access, signer_access};
 use crate::cert_text::fields;
 use crate::kind::Kind;
 use crate::list_text::list_sheet;
@@ -149,14 +151,53 @@ fn other_content(alloc: Global, octets: Bytes) -> Result<Object, DecodeError>
     }
 }
 
+/// The sheet of the certificate that these octets are, without its access descriptions.
+fn own_sheet(alloc: Global, octets: &[u8], tbs: &TbsCert) -> Result<Sheet, AllocError>
+    ensures { IfOk result (λ s. IsCertSheet octets.now tbs.now s) }
+{
+    let fields = fields(alloc, octets, tbs)?;
+    let items = resource_items(alloc, tbs)?;
+    Sheet::plain(fields).with_listing(alloc, b"Subordinate Resources", items, false)
+}
+
 /// The sheet of the certificate that these octets are.
 fn cert_sheet(alloc: Global, octets: &[u8], cert: &Cert) -> Result<Sheet, AllocError>
     ensures { IfOk result (λ s. IsSheet octets.now (Certificate cert.now) s) }
 {
-    let tbs = cert.tbs();
-    let fields = fields(alloc, octets, tbs)?;
-    let items = resource_items(alloc, tbs)?;
-    Sheet::plain(fields).with_members(alloc, b"Subordinate Resources", items)
+    let sheet = own_sheet(alloc, octets, cert.tbs())?;
+    cert_access(alloc, sheet, cert.tbs())
+}
+
+/// The sheet of a manifest.
+fn file_sheet(alloc: Global, octets: &[u8], manifest: &Manifest) -> Result<Sheet, AllocError>
+    ensures { IfOk result (λ s. IsSheet octets.now (FileList manifest.now) s) }
+{
+    let sheet = manifest_sheet(alloc, manifest)?;
+    signer_access(alloc, sheet, manifest.object().cert().tbs())
+}
+
+/// The sheet of a route origin attestation.
+fn route_sheet(alloc: Global, octets: &[u8], origins: &Roa) -> Result<Sheet, AllocError>
+    ensures { IfOk result (λ s. IsSheet octets.now (RouteOrigins origins.now) s) }
+{
+    let sheet = origin_sheet(alloc, origins)?;
+    signer_access(alloc, sheet, origins.object().cert().tbs())
+}
+
+/// The sheet of an attestation of providers.
+fn aspa_sheet(alloc: Global, octets: &[u8], attestation: &Aspa) -> Result<Sheet, AllocError>
+    ensures { IfOk result (λ s. IsSheet octets.now (Providers attestation.now) s) }
+{
+    let sheet = provider_sheet(alloc, attestation)?;
+    signer_access(alloc, sheet, attestation.object().cert().tbs())
+}
+
+/// The sheet of a signed object of any other content.
+fn content_sheet(alloc: Global, octets: &[u8], object: &SignedObject) -> Result<Sheet, AllocError>
+    ensures { IfOk result (λ s. IsSheet octets.now (OtherContent object.now) s) }
+{
+    let sheet = other_sheet(alloc, object)?;
+    signer_access(alloc, sheet, object.cert().tbs())
 }
 
 /// The sheet of the certificate of other algorithms that these octets are.
@@ -238,10 +279,10 @@ impl Object {
         match self {
             Object::Certificate(cert) => cert_sheet(alloc, octets, cert),
             Object::RevocationList(list) => list_sheet(alloc, list),
-            Object::FileList(manifest) => manifest_sheet(alloc, manifest),
-            Object::RouteOrigins(origins) => origin_sheet(alloc, origins),
-            Object::Providers(attestation) => provider_sheet(alloc, attestation),
-            Object::OtherContent(object) => other_sheet(alloc, object),
+            Object::FileList(manifest) => file_sheet(alloc, octets, manifest),
+            Object::RouteOrigins(origins) => route_sheet(alloc, octets, origins),
+            Object::Providers(attestation) => aspa_sheet(alloc, octets, attestation),
+            Object::OtherContent(object) => content_sheet(alloc, octets, object),
             Object::OtherCertificate(cert) => other_cert_sheet(alloc, octets, cert),
         }
     }

@@ -123,16 +123,17 @@ impl Sheet {
         Ok(Sheet { fields, listings })
     }
 
-    /// The same with items at the end, under a label, which JSON alone has.
+    /// The same with items at the end, under a label, which lines have or JSON alone.
     ///
     /// Returns `AllocError` if allocation fails.
-    pub fn with_members(
+    pub fn with_listing(
         self,
         alloc: Global,
         label: &[u8],
         items: Vec<Item>,
+        in_lines: bool,
     ) -> Result<Sheet, AllocError>
-        ensures { IfOk result (λ s. s ≡ sheet_with (listing_parts label.now items.items false) self) }
+        ensures { IfOk result (λ s. s ≡ sheet_with (listing_parts label.now items.items in_lines) self) }
     {
         let Sheet {
             fields,
@@ -142,7 +143,7 @@ impl Sheet {
         listings.push(Listing {
             label,
             items,
-            in_lines: false,
+            in_lines,
         })?;
         Ok(Sheet { fields, listings })
     }

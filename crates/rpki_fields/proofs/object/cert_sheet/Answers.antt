@@ -3,10 +3,8 @@ use Rattle.rpki_fields.proofs.object.cert_sheet.Goals as goal
 
 pub returns : goal.returns
 returns c =
-    IfOk-weaker c.with_members.result _ _ (λ s e. (
-      c.in_ok-fields.fields.items,
-      c.in_ok-items.items.items,
-      rw c.tbs-tbs.ensures at c.in_ok-fields.ensures,
-      rw c.tbs-tbs.ensures at c.in_ok-items.ensures,
-      rw c.plain.ensures at e,
-    )) c.with_members.ensures
+    IfOk-weaker c.cert_access.result _ _ (λ s h. (
+      c.in_ok-sheet.sheet,
+      rw c.tbs.ensures at c.in_ok-sheet.ensures,
+      rw c.tbs-2.ensures at h,
+    )) c.cert_access.ensures
