@@ -2,6 +2,7 @@
 pub mod Words
 pub mod Arguments
 pub mod Request
+pub mod Denied
 pub mod Moment
 pub mod Paths
 pub mod Locators

@@ -1,5 +1,9 @@
 //! Why nothing is written.
 
+ghost use Rattle.std.specs.Prelude.{◌≡◌, IfOk, string_bytes};
+ghost use Rattle.rpkivalid.specs.Denied.{denial_text, exceptions_text, list_text, locator_text, name_at, name_in};
+ghost use Rattle.rpkivalid.specs.Denied.{name_of, names_of, unread_text};
+
 use crate::words::{NO_DEPTH, NO_MOMENT, NO_ROUTE, NO_URI, OUT_OF_MEMORY};
 use rpki_locator::LocatorError;
 use rpki_payloads::{ExceptionsError, ListError};
@@ -55,15 +59,15 @@ impl<T: Drop> From<AllocFailed<T>> for Denial {
 }
 
 /// Which line of a locator is wrong, and what is wrong with it.
-fn fault_of(alloc: Global, e: LocatorError) -> Result<String, AllocError> {
+fn fault_of(alloc: Global, e: LocatorError) -> Result<String, AllocError>
+    ensures { IfOk result (λ text. string_bytes text ≡ locator_text e) }
+{
     match e {
         LocatorError::OtherUri(line) => format!(in alloc;
             "line {line}: not a URI of a trust anchor"
         ),
         LocatorError::NoUri(line) => format!(in alloc; "line {line}: no URI"),
-        LocatorError::NoKey(line) => format!(in alloc;
-            "line {line}: no empty line in front of the key"
-        ),
+        LocatorError::NoKey(line) => format!(in alloc; "line {line}: no empty line before the key"),
         LocatorError::OtherText(line) => format!(in alloc; "line {line}: not base 64"),
         LocatorError::OtherKey(line, e) => format!(in alloc; "line {line}: not a public key: {e}"),
         LocatorError::OutOfMemory => Err(AllocError),
@@ -71,7 +75,9 @@ fn fault_of(alloc: Global, e: LocatorError) -> Result<String, AllocError> {
 }
 
 /// The name of the file of this number.
-fn file_at<'a>(files: &[&'a str], at: usize) -> &'a str {
+fn file_at<'a>(files: &[&'a str], at: usize) -> &'a str
+    ensures { result.now ≡ name_at (names_of files.now) at }
+{
     match files.get(at) {
         Some(file) => *file,
         None => "",
@@ -79,7 +85,9 @@ fn file_at<'a>(files: &[&'a str], at: usize) -> &'a str {
 }
 
 /// What is wrong with local exceptions.
-fn deviation_of(alloc: Global, e: ExceptionsError) -> Result<String, AllocError> {
+fn deviation_of(alloc: Global, e: ExceptionsError) -> Result<String, AllocError>
+    ensures { IfOk result (λ text. string_bytes text ≡ exceptions_text e) }
+{
     match e {
         ExceptionsError::Json => String::from_str(alloc, "not JSON"),
         ExceptionsError::Members => String::from_str(
@@ -99,7 +107,9 @@ fn deviation_of(alloc: Global, e: ExceptionsError) -> Result<String, AllocError>
 }
 
 /// What is wrong with a list of payloads.
-fn unlisted_of(alloc: Global, e: ListError) -> Result<String, AllocError> {
+fn unlisted_of(alloc: Global, e: ListError) -> Result<String, AllocError>
+    ensures { IfOk result (λ text. string_bytes text ≡ list_text e) }
+{
     match e {
         ListError::Json => String::from_str(alloc, "not JSON"),
         ListError::Roas => String::from_str(alloc, "no array roas"),
@@ -107,6 +117,24 @@ fn unlisted_of(alloc: Global, e: ListError) -> Result<String, AllocError> {
         ListError::Line(line) => format!(in alloc; "line {line}: not a payload"),
         ListError::OutOfMemory => Err(AllocError),
     }
+}
+
+/// The name of the file, if there is one.
+fn name_in<'a>(file: Option<&'a str>) -> &'a str
+    ensures { result.now ≡ name_in (name_of file.entry) }
+{
+    match file {
+        Some(name) => name,
+        None => "",
+    }
+}
+
+/// The line that says that the file can't be read.
+fn unread(alloc: Global, file: &str) -> Result<Vec<u8>, AllocError>
+    ensures { IfOk result (λ text. text.items ≡ unread_text file.now) }
+{
+    let text = format!(in alloc; "rpkivalid: {file}: cannot be read\n")?;
+    Ok(text.into_bytes())
 }
 
 impl Denial {
@@ -120,41 +148,32 @@ impl Denial {
         files: &[&str],
         exceptions: Option<&str>,
         compare: Option<&str>,
-    ) -> Result<Vec<u8>, AllocError> {
+    ) -> Result<Vec<u8>, AllocError>
+        ensures { IfOk result (λ text. text.items ≡ denial_text self (names_of files.now) (name_of exceptions.entry)
+            (name_of compare.entry)) }
+    {
         match self {
             Denial::NoMoment => Vec::from_slice(alloc, NO_MOMENT),
             Denial::NoDepth => Vec::from_slice(alloc, NO_DEPTH),
             Denial::NoUri => Vec::from_slice(alloc, NO_URI),
             Denial::NoRoute => Vec::from_slice(alloc, NO_ROUTE),
-            Denial::NoFile(at) => {
-                let file = file_at(files, at);
-                let text = format!(in alloc; "rpkivalid: {file}: cannot be read\n")?;
-                Ok(text.into_bytes())
-            }
+            Denial::NoFile(at) => unread(alloc, file_at(files, at)),
             Denial::NoLocator(at, e) => {
                 let file = file_at(files, at);
                 let fault = fault_of(alloc, e)?;
                 let text = format!(in alloc; "rpkivalid: {file}: RFC 8630 2.2: {fault}\n")?;
                 Ok(text.into_bytes())
             }
-            Denial::NoExceptions => {
-                let file = exceptions.unwrap_or("");
-                let text = format!(in alloc; "rpkivalid: {file}: cannot be read\n")?;
-                Ok(text.into_bytes())
-            }
+            Denial::NoExceptions => unread(alloc, name_in(exceptions)),
             Denial::OtherExceptions(e) => {
-                let file = exceptions.unwrap_or("");
+                let file = name_in(exceptions);
                 let fault = deviation_of(alloc, e)?;
                 let text = format!(in alloc; "rpkivalid: {file}: RFC 8416 3: {fault}\n")?;
                 Ok(text.into_bytes())
             }
-            Denial::NoList => {
-                let file = compare.unwrap_or("");
-                let text = format!(in alloc; "rpkivalid: {file}: cannot be read\n")?;
-                Ok(text.into_bytes())
-            }
+            Denial::NoList => unread(alloc, name_in(compare)),
             Denial::OtherList(e) => {
-                let file = compare.unwrap_or("");
+                let file = name_in(compare);
                 let fault = unlisted_of(alloc, e)?;
                 let text = format!(in alloc; "rpkivalid: {file}: {fault}\n")?;
                 Ok(text.into_bytes())

@@ -3,6 +3,7 @@
 ghost use Rattle.std.specs.Prelude.{◌≡◌, Some, None, IfOk, IfErr, IfSome, IfNone};
 ghost use Rattle.std.specs.Option.{option_map};
 ghost use Rattle.rpkivalid.specs.Arguments.{wordless_text};
+ghost use Rattle.rpkivalid.specs.Denied.{IsDenied, text_of};
 ghost use Rattle.rpkivalid.specs.Moment.{IsDepth, IsMomentOf, IsNoDepth};
 ghost use Rattle.rpkivalid.specs.Request.{help, version};
 ghost use Rattle.rpkivalid.specs.RequestView.{asked_of, wanted_by, Asks, AskHelp, AskVersion, AskRun, AskNothing};
@@ -260,13 +261,13 @@ pub fn give_up<F: Write>(err: &mut F) -> u8
 
 /// Writes to the faults why nothing is written to the output, and returns the exit status 2.
 fn deny<F: Write>(alloc: Global, denial: Denial, request: &Request<'_, '_>, err: &mut F) -> u8
-    ensures { result ≡ 2 }
+    ensures status { result ≡ 2 }
+    ensures faults { IsDenied (F.contents err.old) (F.contents err.new) (text_of denial (asked_of request.now)) result }
 {
-    let _ = match denial.text(alloc, request.locators, request.exceptions, request.compare) {
+    match denial.text(alloc, request.locators, request.exceptions, request.compare) {
         Ok(text) => print(text.as_slice(), err, 2),
         Err(_) => give_up(err),
-    };
-    2
+    }
 }
 
 /// Writes the report to the faults, then the metrics, and then the text to the output. Returns the exit status; 2 if

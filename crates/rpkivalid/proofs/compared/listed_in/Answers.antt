@@ -5,4 +5,4 @@ pub returns-in-Ok-clause-lists : goal.returns-in-Ok-clause-lists
 returns-in-Ok-clause-lists g c =
     listed-at (g.S.Sources.holds c.args.sources.now) c.args.file.now c.in-Some.octets c.read_large.result _
     c.in-Ok.vrps.items c.read_large.ensures c.in_ok-octets.was c.in-Some.is
-    (rw c.as_slice.ensures at c.in-Ok.ensures)
+    (rw c.as_slice.ensures at c.in-Ok.ensures.ok)

@@ -1,0 +1,83 @@
+-- What a person reads where nothing is written.
+use denote.Bor.{Bor}
+use Rattle.std.specs.Prelude.{◌⊎◌, ◌++◌, ℕ, List, [], Option, codes, decimal, map, option_map, slice_get}
+use Rattle.std.specs.Option.{unwrap_or}
+use Rattle.rpki_der.specs.Prelude.{error_text}
+use Rattle.rpki_locator.specs.declared.error.LocatorError.{LocatorError}
+use Rattle.rpki_locator.specs.declared.error.LocatorError.TheVariants as L
+use Rattle.rpki_payloads.specs.declared.exceptions_text.ExceptionsError.{ExceptionsError}
+use Rattle.rpki_payloads.specs.declared.exceptions_text.ExceptionsError.TheVariants as E
+use Rattle.rpki_payloads.specs.declared.listed.ListError.{ListError}
+use Rattle.rpki_payloads.specs.declared.listed.ListError.TheVariants as R
+use Rattle.rpki_payloads.specs.ExceptionsText.{member_name}
+use Rattle.rpkivalid.specs.declared.denial.Denial.{Denial}
+use Rattle.rpkivalid.specs.declared.denial.Denial.TheVariants as D
+use Rattle.rpkivalid.specs.Request.{Asked}
+use Rattle.rpkivalid.specs.Words.{Prints, memory_text}
+
+-- what is wrong with a locator, and on which line; where memory fails, no text is made
+abbrev pub locator_text : LocatorError → List ℕ
+locator_text (L.OtherUri n) = codes "line " ++ (decimal n ++ codes ": not a URI of a trust anchor")
+locator_text (L.NoUri n) = codes "line " ++ (decimal n ++ codes ": no URI")
+locator_text (L.NoKey n) = codes "line " ++ (decimal n ++ codes ": no empty line before the key")
+locator_text (L.OtherText n) = codes "line " ++ (decimal n ++ codes ": not base 64")
+locator_text (L.OtherKey n e) = codes "line " ++ (decimal n ++ (codes ": not a public key: " ++ error_text e))
+locator_text L.OutOfMemory = []
+
+-- with local exceptions
+abbrev pub exceptions_text : ExceptionsError → List ℕ
+exceptions_text E.Json = codes "not JSON"
+exceptions_text E.Members =
+    codes "not an object of slurmVersion, validationOutputFilters and locallyAddedAssertions"
+exceptions_text (E.Missing m) = codes "not such a member: " ++ member_name m
+exceptions_text (E.Element m i) = member_name m ++ (codes ": not such an element: number " ++ decimal i)
+exceptions_text E.OutOfMemory = []
+
+-- with a list of payloads
+abbrev pub list_text : ListError → List ℕ
+list_text R.Json = codes "not JSON"
+list_text R.Roas = codes "no array roas"
+list_text (R.Element i) = codes "roas: not a payload: number " ++ decimal i
+list_text (R.Line n) = codes "line " ++ (decimal n ++ codes ": not a payload")
+list_text R.OutOfMemory = []
+
+-- the file of this number among those of locators, and the file of exceptions or to be compared
+abbrev pub name_at : List (List ℕ) → ℕ → List ℕ
+name_at files i = unwrap_or (slice_get files i) []
+
+abbrev pub name_in : Option (List ℕ) → List ℕ
+name_in file = unwrap_or file []
+
+abbrev pub unread_text : List ℕ → List ℕ
+unread_text name = codes "rpkivalid: " ++ (name ++ codes ": cannot be read\n")
+
+abbrev pub denial_text : Denial → (files : List (List ℕ)) → (exceptions compare : Option (List ℕ)) → List ℕ
+denial_text D.NoMoment files exceptions compare = codes "rpkivalid: no such moment\n"
+denial_text D.NoDepth files exceptions compare = codes "rpkivalid: no such depth\n"
+denial_text D.NoUri files exceptions compare = codes "rpkivalid: not an rsync URI\n"
+denial_text D.NoRoute files exceptions compare = codes "rpkivalid: not a prefix and an AS number\n"
+denial_text (D.NoFile i) files exceptions compare = unread_text (name_at files i)
+denial_text (D.NoLocator i e) files exceptions compare =
+    codes "rpkivalid: " ++ (name_at files i ++ (codes ": RFC 8630 2.2: " ++ (locator_text e ++ codes "\n")))
+denial_text D.NoExceptions files exceptions compare = unread_text (name_in exceptions)
+denial_text (D.OtherExceptions e) files exceptions compare =
+    codes "rpkivalid: " ++ (name_in exceptions ++ (codes ": RFC 8416 3: " ++ (exceptions_text e ++ codes "\n")))
+denial_text D.NoList files exceptions compare = unread_text (name_in compare)
+denial_text (D.OtherList e) files exceptions compare =
+    codes "rpkivalid: " ++ (name_in compare ++ (codes ": " ++ (list_text e ++ codes "\n")))
+denial_text D.OutOfMemory files exceptions compare = memory_text
+
+-- what clauses see
+abbrev pub names_of : List (Bor (List ℕ)) → List (List ℕ)
+names_of files = map (λ file. file.now) files
+
+abbrev pub name_of : Option (Bor (List ℕ)) → Option (List ℕ)
+name_of file = option_map (λ name. name.now) file
+
+-- what is said of what was asked for
+abbrev pub text_of : Denial → Asked → List ℕ
+text_of d a = denial_text d a.locators a.exceptions a.compare
+
+-- that is written, or that memory fails; or a beginning of it, where the faults fail. The status is 2
+abbrev pub IsDenied : Option (List ℕ) → Option (List ℕ) → List ℕ → ℕ → Type 0
+IsDenied old new text status = Prints old new text 2 status ⊎ Prints old new memory_text 2 status
