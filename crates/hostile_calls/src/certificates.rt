@@ -135,7 +135,7 @@ fn tell_read(alloc: Global, report: Report, octets: Vec<u8>) -> Result<(), Failu
     Ok(())
 }
 
-/// The first of the certificates that are left.
+/// The first of the remaining certificates.
 fn next(alloc: Global, cursor: &mut Constructed<'_>) -> Result<Cert, Refusal> {
     match Cert::take_from(alloc, cursor) {
         Ok(cert) => Ok(cert),
@@ -182,7 +182,7 @@ fn tell_end(
     )
 }
 
-/// Whether each of the certificates that are left is issued by the authority before it, which is verified at this
+/// Whether each of the remaining certificates is issued by the authority before it, which is verified at this
 /// moment: as an authority, until one is not, as a router or as an end entity.
 fn tell_path(
     alloc: Global,

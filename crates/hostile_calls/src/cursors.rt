@@ -31,7 +31,7 @@ fn walk(alloc: Global, cursor: &mut Constructed<'_>, steps: &mut Steps) -> Outco
     walked(cursor.walk(alloc, steps))
 }
 
-/// The same of the octets that are left, without a cursor.
+/// The same of the remaining octets, without a cursor.
 fn walk_left(alloc: Global, octets: &[u8], steps: &mut Steps) -> Outcome {
     if steps.count().checked_add(octets.len() as u64).is_none() {
         return Err(Refusal::NoCall);
@@ -102,7 +102,7 @@ fn tell_header(report: Report, cursor: &mut Constructed<'_>, steps: &mut Steps) 
     }
 }
 
-/// Makes one call, and reports what it makes, how many headers were counted, what is left, and whether that is the end.
+/// Makes one call, and reports what it makes, how many headers were counted, the rest, and whether that is the end.
 fn tell_call<K: Keep>(
     keep: K,
     report: Report,

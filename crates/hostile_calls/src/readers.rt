@@ -26,7 +26,7 @@ pub fn octets<K: Keep>(keep: K, cursor: &mut Constructed<'_>) -> Result<Bytes, D
     cursor.take_primitive_bytes_if(keep, Tag::OCTET_STRING)
 }
 
-/// Reads numbers of an octet until nothing is left.
+/// Reads numbers of an octet until nothing remains.
 pub fn numbers(alloc: Global, cursor: &mut Constructed<'_>) -> Result<Vec<u8>, DecodeError> {
     cursor.take_each(alloc, |rest| rest.take_u8())
 }

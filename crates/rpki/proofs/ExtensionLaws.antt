@@ -90,7 +90,7 @@ first-part x c h = record { front = h.first; parts = h.parts; spelled = h.identi
 pub no-identifier : (c : List ℕ) → Refuses Identifier c → SpellsNothing IsExtensionContents c
 no-identifier c none x h = none x.identifier (h.second ++ h.third) (first-part x c h)
 
--- after the identifier stand the others
+-- after the identifier are the others
 others : (x : ExtensionParts) (c i m : List ℕ) → Accepts Identifier c i m → (h : IsExtensionContents x c)
     → h.second ++ h.third ≡ m
 others x c i m a h = (a.only x.identifier (h.second ++ h.third) (first-part x c h)).1
@@ -112,7 +112,7 @@ bad-flag c i m a has none x h = go h.critical
     go (inr (absent, nothing)) = no-flag m h.third x.content
         (sym (others x c i m a h) ∙ ap (λ (y : List ℕ). y ++ h.third) nothing) h.content has
 
--- what is left after the BOOLEAN, if there is one, is the OCTET STRING
+-- what remains after the BOOLEAN, if there is one, is the OCTET STRING
 left-octets : (x : ExtensionParts) (c i m r : List ℕ) (p : Option Bool) → Accepts Identifier c i m → AnswersFlag m r p
     → (h : IsExtensionContents x c) → h.third ≡ r
 left-octets x c i m r None a (none, same) h = go h.critical

@@ -34,7 +34,7 @@ Named o = SpellsLeaf oid false (IsOnly o)
 abbrev AnyName : List ℕ → List ℕ → Type 0
 AnyName = SpellsLeaf oid false IsOidOf
 
--- the name of what stands there
+-- the name of what is there
 this-name : (c x m o : List ℕ) → Accepts AnyName c x m → x ≡ o → Accepts (Named o) c tt m
 this-name c x m o a e = subst (λ (y : List ℕ). Accepts (Named y) c tt m) e (named c x m a)
 

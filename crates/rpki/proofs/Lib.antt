@@ -5,7 +5,7 @@
 -- Signed data: SigningLaws, SignedLaws, EqualLaws.
 -- Keys and key identifiers; the bits of RSA keys; errors of keys: PublicKeyLaws, KeyIdentifierLaws, RsaPublicKeyLaws,
 --   KeyFaultLaws.
--- Extensions; their errors; where their parts stand, in octets and in an index: ExtensionLaws, ExtensionFaultLaws,
+-- Extensions; their errors; where their parts are, in octets and in an index: ExtensionLaws, ExtensionFaultLaws,
 --   ExtensionPlaceLaws, ExtensionIndexLaws.
 -- Names; their errors, and their attributes: NameLaws, OneNameLaws, NameFaultLaws, NameAttributeLaws.
 -- The rules of profiles of names: RuleLaws, InspectionLaws, NameTableLaws, WithoutOrganizationLaws, SubjectLaws,

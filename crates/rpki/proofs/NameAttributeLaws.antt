@@ -1,4 +1,4 @@
--- The attributes of a name, one after another.
+-- The attributes of a name, in sequence.
 use Rattle.std.proofs.Common.{◌≡◌, ◌≢◌, ◌+◌, ◌<◌, ℕ, Bool, true, false, List, [], ◌∷◌, ◌++◌, length, refl, sym, ap}
 use Rattle.std.proofs.Common.{subst, ◌∙◌, arith, append-nil, length-append, Some, None}
 use Rattle.rpki_der.specs.declared.error.DecodeError.{DecodeError}
@@ -123,7 +123,7 @@ module _ (s r c : List ℕ) (found : Accepts (SpellsContents sequence true) s c 
           k.0,
         )
 
--- ---- what is left of a name
+-- ---- the rest of a name
 
 -- An attribute is next: c is its relative distinguished name from there on, and r the others after it.
 pub record IsNext (begins : Bool) (c r : List ℕ) (xs : List MarkedAttribute) : Type 0 where
@@ -187,7 +187,7 @@ next-begins c r i q xs end found h = go h.parts h.relatives (none-begun c r xs e
         let k = these-contents set (SpellsSome SpellsAttribute) r q i found ys e.0 e.1 in
         first ys parts k.1 (subst (SpellsEach SpellsRelative parts) k.0 e.2) is
 
--- none is left
+-- none remains
 pub next-none : (c r q : List ℕ) (e : DecodeError) (xs : List MarkedAttribute) → c ≡ []
     → Refusal (SpellsContents set true) (IsContentsFault set true) r q e → AreLeft (rest_of c r) xs
     → GivesAttribute xs None (rest_of c r)

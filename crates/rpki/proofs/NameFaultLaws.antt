@@ -20,13 +20,13 @@ use Rattle.rpki.proofs.NameLaws.Passed.{Here, Next}
 
 -- ---- the loop of a reader of many parts
 
--- the error of what is left is that of all
+-- the error of the rest is that of all
 pub passed-fault : {V : Type 0} (G : V → List ℕ → Type 0) (K : List ℕ → DecodeError → Type 0) (s m : List ℕ)
     (e : DecodeError) → Passed G s m → RepeatedFault G K m e → RepeatedFault G K s e
 passed-fault G K s m e Here h = h
 passed-fault G K s m e (Next v n a p) h = AfterMember v n a (passed-fault G K n m e p h)
 
--- nothing is left
+-- nothing remains
 pub is-nothing : (s : List ℕ) → ((s ≡ [] → ⊥) → ⊥) → s ≡ []
 is-nothing [] h = refl
 is-nothing (x ∷ xs) h = absurd (h (λ e. cc))

@@ -1,4 +1,4 @@
--- Lists of values, one after another, as a reader of one after another finds them; and what names are.
+-- Lists of values, in sequence, as a reader of each in turn finds them; and what names are.
 use Rattle.std.proofs.Common.{◌≡◌, ◌≢◌, ℕ, ◌+◌, Bool, true, false, List, [], ◌∷◌, ◌++◌, ◌-◌}
 use Rattle.std.proofs.Common.{take, length, refl, sym, ap, subst, ◌∙◌, append_assoc, arith, length-append}
 use Rattle.std.proofs.lemmas.List.{append-nil, take_at, append_cancel_right}
@@ -54,7 +54,7 @@ each-more G (w ∷ vs) p front v h k = (
   each-more G vs h.0 front v h.2 k,
 )
 
--- m is what follows parts of G that begin s, one after another
+-- m is what follows parts of G that begin s, in sequence
 pub data Passed {V : Type 0} (G : V → List ℕ → Type 0) : List ℕ → List ℕ → Type 0 where
   Here : {s : List ℕ} → Passed G s s
   Next : {s m : List ℕ} (v : V) (r : List ℕ) → Accepts G s v r → Passed G r m → Passed G s m
@@ -65,7 +65,7 @@ passed-more : {V : Type 0} (G : V → List ℕ → Type 0) (s m r : List ℕ) (v
 passed-more G s m r v Here a = Next v r a Here
 passed-more G s m r v (Next w q b p) a = Next w q b (passed-more G q m r v p a)
 
--- what is left follows such a list, and is one exactly where the whole is
+-- the rest follows such a list, and is one exactly where the whole is
 pub record Remains {V : Type 0} (t : TagName) (f : Bool) (C : V → List ℕ → Type 0) (c m : List ℕ) : Type 0 where
   pub whole : IsEach t f C m → IsEach t f C c
   pub rest : IsEach t f C c → IsEach t f C m
@@ -110,7 +110,7 @@ remains-then {V} t f C c m r some h a = record {
     shorter : IsEach t f C m → IsEach t f C r
     shorter k = following k.0 k.1
 
--- no such value is at the front of what is left
+-- no such value is at the front of the rest
 pub remains-refused : {V : Type 0} (t : TagName) (f : Bool) (C : V → List ℕ → Type 0) (c m : List ℕ) → (m ≡ [] → ⊥)
     → Remains t f C c m → Refuses (SpellsLeaf t f (SpellsAny C)) m
     → SpellsNothing (SpellsAny (SpellsSome (SpellsLeaf t f C))) c
@@ -120,7 +120,7 @@ remains-refused {V} t f C c m some h none x k = let g = h.rest (k.0, k.1.each) i
     none-of [] e = some e
     none-of (v ∷ vs) g = none tt g.0 (any-at t f C m v g.0 g.1)
 
--- nothing is left
+-- nothing remains
 pub remains-nothing : {V : Type 0} (t : TagName) (f : Bool) (C : V → List ℕ → Type 0) (c m : List ℕ) → (c ≡ [] → ⊥)
     → m ≡ [] → Remains t f C c m → SpellsAny (SpellsSome (SpellsLeaf t f C)) tt c
 remains-nothing {V} t f C c m some end h =
@@ -171,7 +171,7 @@ pub identified-value : (c m : List ℕ) (o : List ℕ) → Accepts (SpellsLeaf o
     → IsAttribute w c → IsValue m
 identified-value c m o a w h = subst (λ (v : Attribute). IsValue v.value) ((identified c m o a).1 w h.identified) h.one
 
--- ---- values, one after another, and a name, which is one value
+-- ---- values, in sequence, and a name, which is one value
 
 pub each-values : {V : Type 0} (G : V → List ℕ → Type 0) → ((v : V) (p : List ℕ) → G v p → IsValue p)
     → (vs : List V) (p : List ℕ) → SpellsEach G vs p → IsValueList p
@@ -220,7 +220,7 @@ octets-any s v r h =
 
 -- ---- a name, whose octets are borrowed
 
--- the octets in front of what is left
+-- the octets in front of the rest
 front-of : (s f r o p : List ℕ) → s ≡ f ++ r → o ≡ s → p ≡ r → take (length o - length p) o ≡ f
 front-of s f r o p parts a b =
     let n : length o - length p ≡ length f = omega (arith, ap length a, ap length b, ap length parts, length-append f r)
@@ -250,7 +250,7 @@ name-borrowed s r o p a x y =
           (sym h.spelled.same ∙ append_cancel_right h.front f r whole, g.1);
     })
 
--- they stand before what is left
+-- they are before the rest
 pub name-stands : {s v r : List ℕ} → Spells SpellsNameOctets s v r → StandsBefore s v r
 name-stands {s} {v} {r} h = record {
   before = [];
@@ -282,7 +282,7 @@ name-found s r h = let l = leaf-value sequence true (SpellsAny (SpellsSome Spell
     first [] k = absurd (k.some refl)
     first {c} (x ∷ parts) k = ([], [], c, refl, refl, relative-found c x k.each.0 k.each.1)
 
--- ---- whether one value is left
+-- ---- whether one value remains
 
 pub no-value-where-nothing : (s : List ℕ) → ((s ≡ [] → ⊥) → ⊥) → SpellsNothing SpellsAnyValue s
 no-value-where-nothing s h x v = h (λ e. omega (arith, value-some v, ap length e))

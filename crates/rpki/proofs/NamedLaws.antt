@@ -1,4 +1,4 @@
--- Which object identifier stands in front, from what a reader of any identifier returns.
+-- Which object identifier is in front, from what a reader of any identifier returns.
 use Rattle.std.proofs.Common.{◌≡◌, ◌≢◌, ℕ, zero, suc, ◌+◌, ◌-◌, ◌<◌, Bool, true, false, List, [], ◌∷◌, ◌++◌, length}
 use Rattle.std.proofs.Common.{get_or, refl, sym, ap, subst, ◌∙◌, arith, IsTrue, eqb, not, ◌&&◌}
 use Rattle.std.specs.List.{list_all}

@@ -20,7 +20,7 @@ extension = around sequence extension_fields
 abbrev pub kept_extension : Format ExtensionParts
 kept_extension = kept extension
 
--- the parts of an extension are there, with nothing behind them in its SEQUENCE, or something
+-- the parts of an extension are there, with nothing after them in its SEQUENCE, or something
 abbrev pub HasExtensionParts : List ℕ → Type 0
 HasExtensionParts s = Finds extension.spells s ⊎ extension.fault s Trailing
 

@@ -1,4 +1,4 @@
--- Where the identifier of an extension stands (RFC 5280 4.1).
+-- Where the identifier of an extension is (RFC 5280 4.1).
 use Rattle.std.specs.Prelude.{◌≡◌, ℕ, true, false, List, ◌++◌}
 use Rattle.rpki_der.specs.Prelude.{oid, sequence, Spells, SpellsContents}
 

@@ -19,7 +19,7 @@ extension_parts identifier critical content = record { identifier = identifier; 
 abbrev pub SpellsCritical : Bool → List ℕ → Type 0
 SpellsCritical critical p = SpellsLeaf boolean false IsBoolean critical p ⊎ ((critical ≡ false) × (p ≡ []))
 
--- the three parts, one after another
+-- the three parts, in sequence
 pub record IsExtensionContents (x : ExtensionParts) (c : List ℕ) : Type 0 where
   pub first : List ℕ
   pub second : List ℕ
@@ -41,7 +41,7 @@ pub record CanBeWritten (x : ExtensionParts) : Type 0 where
   pub identifier : IsOid x.identifier
   pub short : length (extension_contents x.identifier x.critical x.content) < 2 ^ 32
 
--- The parts that stand in octets, as a function of them: of the contents of an extension, and of a whole extension.
+-- The parts that are in octets, as a function of them: of the contents of an extension, and of a whole extension.
 -- Nothing follows an OCTET STRING; one follows a BOOLEAN.
 unfoldable pub parts_in : List ℕ → ExtensionParts
 parts_in c =

@@ -17,7 +17,7 @@ pub record IsIdentifierThen (a : Attribute) (c : List ℕ) : Type 0 where
   pub parts : c ≡ front ++ a.value
   pub identifier : SpellsLeaf oid false IsOidOf a.identifier front
 
--- the attribute of these two, by what is left of them
+-- the attribute of these two, by the rest of them
 abbrev pub attribute_left : {C : Type 0} → (C → List ℕ) → C × C → Attribute
 attribute_left octets x = attribute_of (octets x.0) (octets x.1)
 

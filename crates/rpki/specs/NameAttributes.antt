@@ -1,4 +1,4 @@
--- The attributes of a name one after another, each with whether it begins a relative distinguished name.
+-- The attributes of a name in sequence, each with whether it begins a relative distinguished name.
 use Rattle.std.specs.Prelude.{◌≡◌, ◌+◌, ℕ, Bool, true, false, List, [], ◌∷◌, ◌++◌, Option, Some, None, length, map}
 use Rattle.std.specs.List.{flat_map}
 use Rattle.rpki_der.specs.Prelude.{SpellsContents}
@@ -26,7 +26,7 @@ marked_relative (x ∷ xs) = marked true x ∷ following xs
 abbrev pub marked_attributes : List (List Attribute) → List MarkedAttribute
 marked_attributes parts = flat_map marked_relative parts
 
--- What is left of a name: the octets of further attributes of a relative distinguished name, and those of the relative
+-- The rest of a name: the octets of further attributes of a relative distinguished name, and those of the relative
 -- distinguished names after it.
 pub record NameRest : Type 0 where
   pub attributes : List ℕ
@@ -39,7 +39,7 @@ rest_of attributes relatives = record { attributes = attributes; relatives = rel
 abbrev pub rest_size : NameRest → ℕ
 rest_size s = length s.attributes + length s.relatives
 
--- these attributes are left
+-- these attributes remain
 pub record AreLeft (s : NameRest) (xs : List MarkedAttribute) : Type 0 where
   pub begun : List Attribute
   pub parts : List (List Attribute)
@@ -54,7 +54,7 @@ pub record IsViewOf (v : AttributeView) (x : MarkedAttribute) : Type 0 where
   pub contents : SpellsContents v.tag v.constructed v.contents.now x.attribute.value
   pub begins : v.begins ≡ x.begins
 
--- Of the attributes that were left the first was given, and the others are left now; none was given where none was.
+-- Of the remaining attributes the first was given, and the others remain now; none was given where none was.
 abbrev pub GivesAttribute : List MarkedAttribute → Option AttributeView → NameRest → Type 0
 GivesAttribute [] None after = AreLeft after []
 GivesAttribute [] (Some v) after = ⊥

@@ -8,11 +8,11 @@ use Rattle.rpki.specs.NameValue.{HasNameValue}
 use Rattle.rpki.specs.AnyValue.{SpellsAny}
 use Rattle.rpki.specs.UnknownAlgorithm.{IsContentWith}
 
--- this text where nothing is left; elsewhere what K says
+-- this text where nothing remains; elsewhere what K says
 abbrev pub IsFaultOrEmpty : List ℕ → (List ℕ → DecodeError → Type 0) → List ℕ → DecodeError → Type 0
 IsFaultOrEmpty text K s e = ((s ≡ []) × IsContentWith text e) ⊎ K s e
 
--- parts that aren't empty: where nothing is left the error has this text
+-- parts that aren't empty: where nothing remains the error has this text
 abbrev pub not_empty : {V : Type 0} → List ℕ → Format V → Format V
 not_empty text P = record { spells = P.spells; fault = IsFaultOrEmpty text P.fault }
 

@@ -3,7 +3,7 @@ use Rattle.std.specs.Prelude.{◌≡◌, ℕ, List, ◌++◌}
 use Rattle.rpki_der.specs.Prelude.{sequence, set, HasInside, HasEither}
 use Rattle.rpki.specs.Name.{Attribute, IsIdentifierThen, SpellsAttribute, SpellsRelative, SpellsEach}
 
--- spellings of values, one after another, and then a list that has P
+-- spellings of values, in sequence, and then a list that has P
 abbrev pub HasAfter : {V : Type 0} → (V → List ℕ → Type 0) → (List ℕ → Type 0) → List ℕ → Type 0
 HasAfter {V} G P s = (vs : List V) × (front : List ℕ) × (rest : List ℕ) × SpellsEach G vs front × (s ≡ front ++ rest)
     × P rest

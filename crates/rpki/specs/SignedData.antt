@@ -17,7 +17,7 @@ pub record SpellsSignature (value p : List ℕ) : Type 0 where
   pub unused : ℕ
   pub string : SpellsLeaf bit_string false IsBits (bits_of unused value) p
 
--- the three parts, one after another
+-- the three parts, in sequence
 pub record IsSignedContents {A : Type 0} (spells : A → List ℕ → Type 0) (x : SignedParts A) (c : List ℕ) : Type 0 where
   pub text : List ℕ
   pub bits : List ℕ
@@ -63,7 +63,7 @@ pub record DifferInCount (value a b : List ℕ) : Type 0 where
 abbrev pub HasOneSpelling : {A : Type 0} → (A → List ℕ → Type 0) → A → Type 0
 HasOneSpelling spells a = (s t : List ℕ) → spells a s → spells a t → s ≡ t
 
--- Signed data that stands in these octets is written as they are exactly where its algorithm is spelled there as it is
+-- Signed data that is in these octets is written as they are exactly where its algorithm is spelled there as it is
 -- written, and no bit is unused.
 abbrev pub IsWrittenAgain : {A : Type 0} → (A → List ℕ → Type 0) → (A → List ℕ) → SignedParts A → List ℕ → Type 0
 IsWrittenAgain spells written x octets = (text : List ℕ) (unused : ℕ) → spells x.algorithm text

@@ -1,4 +1,4 @@
--- Blocks that a cursor gives, and entries that are written of them one after another.
+-- Blocks that a cursor gives, and entries that are written of them in sequence.
 use Rattle.std.proofs.Common.{◌≡◌, ◌≤◌, ◌<◌, ◌+◌, ℕ, suc, List, [], ◌∷◌, ◌++◌, length, take, drop, Some, None, refl}
 use Rattle.std.proofs.Common.{sym, ap, ◌∙◌, subst, arith, append_assoc, append-nil, length-set, take-append-drop}
 use Rattle.std.proofs.Common.{take-suc-set, drop-set-lt, drop-drop}

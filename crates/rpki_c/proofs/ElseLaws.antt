@@ -21,7 +21,7 @@ tried-else O view G K s d (Ok x) h k = absurd h.1
 tried-else O view G K s d (Err e) h k = subst
     (λ q. UnlessMemory q (O s → ⊥) × (UnlessMemory q (SpellsNothing G s) × K s q)) (sym h.1) k
 
--- ---- behind a value
+-- ---- after a value
 
 -- no value is there
 pub no-front : (P : List ℕ → Type 0) (s : List ℕ) → Refuses SpellsValue s → FollowsValue P s → ⊥

@@ -1,4 +1,4 @@
--- What is left to do in the middle of a value, and where its fault is.
+-- What remains to be done in the middle of a value, and where its fault is.
 use Rattle.std.proofs.Common.{◌≡◌, ℕ, ◌+◌, ◌-◌, ◌≤◌, Bool, true, false, not, List, [], ◌∷◌, ◌++◌, length, take, drop}
 use Rattle.std.proofs.Common.{reverse, Some, refl, sym, ap, ◌∙◌, subst, arith, append_assoc, append-nil, length-append}
 use Rattle.std.specs.List.{between}
@@ -25,7 +25,7 @@ pub record IsBrokenAt (octets : List ℕ) (e : DecodeError) (m : ℕ) : Type 0 w
   pub fault : IsFaultAt rest e place
   pub at_place : m ≡ length (spell members) + place
 
--- What is left of the innermost open value, and what it will do to the values around it.
+-- The rest of the innermost open value, and what it will do to the values around it.
 pub record Level (s : List ℕ) (place end : ℕ) (Then : Type 0) : Type 0 where
   pub low : place ≤ end
   pub high : end ≤ length s

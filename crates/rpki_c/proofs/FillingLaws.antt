@@ -22,7 +22,7 @@ use Rattle.rpki_der.proofs.WalkingLaws.{begins-with, length-part, front-at}
 use Rattle.rpki_c.specs.declared.index.Entry.{Entry as Slot}
 use Rattle.rpki_c.specs.Index.{parent_number, passed, slot_at}
 
--- What is left of a list of values that ends there are values, and Then holds of what the entries are with theirs.
+-- The rest of a list of values that ends there are values, and Then holds of what the entries are with theirs.
 pub record Rest (q : Option ℕ) (e place : ℕ) (es : List Entry) (s : List ℕ) (Then : List Entry → Type 0) : Type 0 where
   pub low : place ≤ e
   pub high : e ≤ length s
@@ -31,7 +31,7 @@ pub record Rest (q : Option ℕ) (e place : ℕ) (es : List Entry) (s : List ℕ
   pub is : between place e s ≡ spell members
   pub following : Then (es ++ entries members place q (length es))
 
--- With what is left of the open values, whose names and ends are given, innermost first, the entries are all.
+-- With the rest of the open values, whose names and ends are given, innermost first, the entries are all.
 abbrev pub Coming : List (Option ℕ) → List ℕ → ℕ → List Entry → List Entry → List ℕ → Type 0
 Coming [] [] place es all s = es ≡ all
 Coming [] (e ∷ ends) place es all s = ⊥
@@ -54,7 +54,7 @@ coming-all {s} {all} x = record {
 
 -- ---- how many entries there are
 
--- what comes is behind what is there
+-- what comes is after what is there
 pub extended : (qs : List (Option ℕ)) (ends : List ℕ) (place : ℕ) (es all : List Entry) (s : List ℕ)
     → Coming qs ends place es all s → (more : List Entry) × (all ≡ es ++ more)
 extended [] [] place es all s h = ([], sym h ∙ sym (append-nil es))
@@ -98,7 +98,7 @@ rest-end {q} {e} {place} {es} {s} {Then} same h = go h.members none h.following
 
 -- ---- the next header
 
--- the header of a value with these contents, and what is left behind them
+-- the header of a value with these contents, and what follows them
 record Found (s : List ℕ) (place e : ℕ) (h : Header) (k : ℕ) (t : TagName) (f : Bool) (c x : List ℕ) : Type 0 where
   pub fits : place + k + h.length ≤ e
   pub size : 2 ≤ k
@@ -149,7 +149,7 @@ entry-written {s} {place} {e} {k} {h} {t} {f} {c} {x} q p =
     ∙ ap (λ (y : ℕ). made place (length (header t f (length c))) y t f q) p.contents_size
     )
 
--- One more header is read, and its entry is there: that of a primitive value is behind, and a constructed value is
+-- One more header is read, and its entry is there: that of a primitive value is after, and a constructed value is
 -- open.
 pub record Step (q : Option ℕ) (e place : ℕ) (es : List Entry) (s : List ℕ) (Then : List Entry → Type 0) (h : Header)
     (k : ℕ) : Type 0 where

@@ -1,4 +1,4 @@
--- Certificates that are held to a profile.
+-- Certificates that are checked against a profile.
 use Rattle.std.proofs.Common.{◌≡◌, ℕ, Bool, List, Result, Ok, Err}
 use Rattle.std.specs.Prelude.{MatchResult}
 use Rattle.rpki_cert.specs.declared.profile.rule.CertRule.{CertRule}

@@ -8,9 +8,9 @@
 -- What is made on a condition: MadeLaws. Hexadecimal digits: HexTextLaws. Base 64: Base64Laws.
 -- Where octets go wrong: FaultLaws. The index, in the middle of its writing: FillingLaws.
 -- Parts of parsed URIs, by their places: RsyncPlacesLaws, HttpsPlacesLaws. Parts of certificates: CertificateLaws; that
---   one is held to a profile: InspectionLaws. Revocation lists: CrlLaws, SerialTableLaws; signed objects:
+--   one is checked against a profile: InspectionLaws. Revocation lists: CrlLaws, SerialTableLaws; signed objects:
 --   SignedObjectLaws; manifests and attestations: ContentLaws. Where something is: AccessLaws.
--- Entries of blocks, one after another, and how many there are: BlockListLaws, ViewCountLaws. Statuses of
+-- Entries of blocks, in sequence, and how many there are: BlockListLaws, ViewCountLaws. Statuses of
 --   contents of resources: ResourceStatusLaws. Resources settled under an issuer's: SettlingLaws,
 --   CertificateResourcesLaws.
 

@@ -36,7 +36,7 @@ first-filled {E} es old new told size h =
       size = size;
     }
 
--- and others behind them
+-- and others after them
 pub two-filled : {E : Type 0} (es fs old mid new : List E) (n told : ℕ) → n ≡ length es → told ≡ n + length fs
     → IsFilledAt 0 es old mid → IsFilledAt n fs mid new → told ≤ length old → AreFilled (es ++ fs) old new told
 two-filled {E} es fs old mid new n told is size h k room =

@@ -1,4 +1,4 @@
--- Serial numbers of entries that are written one after another, and what a search of their sorted table says.
+-- Serial numbers of entries that are written in sequence, and what a search of their sorted table says.
 use Rattle.std.proofs.Common.{◌≡◌, ◌≢◌, ◌∙◌, ◌+◌, ◌<◌, ◌≤◌, ◌++◌, ◌||◌, inl, inr, ℕ, zero, suc, Bool, true, false}
 use Rattle.std.proofs.Common.{List, [], ◌∷◌, length, map, drop, get_or, nat_eq, Result, Ok, Err, refl, sym, ap, subst}
 use Rattle.std.proofs.Common.{arith, append-nil, length-append, length-set}
@@ -34,7 +34,7 @@ pub entries-read : (s r : List ℕ) (x : Result (Unit {0}) DecodeError) → Take
 entries-read s r (Ok u) h = (h.1, h.2)
 entries-read s r (Err e) h = entries-wrong s e (each-fault Keeps entry (λ from v. (_, refl)) tt s e h.1)
 
--- ---- one after another
+-- ---- in sequence
 
 -- an entry takes some octets
 pub shorter : (m r : List ℕ) (x : Entry) → Accepts entry.spells m x r → length r < length m
@@ -58,7 +58,7 @@ map-push : {X Y : Type 0} (f : X → Y) (xs : List X) (y : X) (zs : List Y)
 map-push f [] y zs = refl
 map-push f (x ∷ xs) y zs = ap (λ l. f x ∷ l) (map-push f xs y zs)
 
--- the serial numbers so far are written, as far as there is room, and the rest of the entries is left
+-- the serial numbers so far are written, as far as there is room, and the rest of the entries remains
 pub record IsWriting (s : List ℕ) (old new : List (List ℕ)) (number : ℕ) (m : List ℕ) : Type 0 where
   pub entries : List Entry
   pub spelled : each_entry.spells entries s

@@ -60,7 +60,7 @@ front-of w b f q e i =
     let n : length (f ++ q) - length q ≡ length f = omega (arith, length-append f q) in rw n (take-append_seam f q)
     )
 
--- the parts were read one after another, and nothing is left
+-- the parts were read in sequence, and nothing remains
 pub in-contents : (s d m q r : List ℕ) (a : Bool) (v : List ℕ) → Accepts SpellsValue s d m
     → (two : Accepts (SpellsAlgorithm sha256_with_rsa_encryption) m a q) → (three : Spells SpellsSignature q v r)
     → r ≡ []

@@ -20,7 +20,7 @@ aspa_part_number P.Providers = 151
 abbrev pub passed : Parts → FoundAspa
 passed p = record { customer = p.customer; providers = p.providers.octets.now; count = p.count }
 
--- Status 0: the octets are an attestation of these parts. Else the number of the part that is wrong, and nothing is
+-- Status 0: the octets are an attestation of these parts. Else the number of the malformed part, and nothing is
 -- written.
 abbrev pub IsAspaRead : List ℕ → ℕ → Parts → Parts → Type 0
 IsAspaRead s = IsRead (λ p. attestation s ≡ Ok (passed p)) aspa_part_number (λ q. attestation s ≡ Err q)

@@ -34,7 +34,7 @@ pub record IsIpText (p : IpEntry) (family : AddressFamily) (b : IpBlock) : Type 
   pub block : IsIpBlockOf family b (numbers_of family p)
 
 -- Where the entry says that addresses are those of the issuer, `inherit` is stored. Else, where it is a block, its text
--- is: that of a prefix, or of a range that is none. Else the status is 5, and nothing was written.
+-- is: that of a prefix, or of a range that isn't one. Else the status is 5, and nothing was written.
 abbrev pub IsIpTextStored : IpEntry → ℕ → List ℕ → List ℕ → ℕ → ℕ → Type 0
 IsIpTextStored p status old new before after =
     ((p.is_inherited ≡ true) × IsStored (codes "inherit") status old new after)

@@ -35,7 +35,7 @@ part_number ExtensionCount = 77
 part_number ExtensionIdentifiers = 78
 part_number SameAlgorithm = 79
 
--- the names, the key, and the extensions, one after another; h says which octets are which
+-- the names, the key, and the extensions, in sequence; h says which octets are which
 pub record HasNamed (t : TbsParts) (d : List ℕ) (h : AreNamed t d) (p : Parts) : Type 0 where
   pub issuer : p.issuer.octets.now ≡ t.issuer
   pub subject : p.subject.octets.now ≡ t.subject
@@ -57,12 +57,12 @@ pub record HasCertificate (s : List ℕ) (p : Parts) : Type 0 where
   pub format : p.key_format ≡ format_number cert.tbs.key.format
   pub unused : p.key_unused ≡ cert.tbs.key.bits.unused
 
--- Status 0: the octets are a certificate of these parts. Else the number of the part that is wrong, and nothing is
+-- Status 0: the octets are a certificate of these parts. Else the number of the malformed part, and nothing is
 -- written.
 abbrev pub IsCertificateRead : List ℕ → ℕ → Parts → Parts → Type 0
 IsCertificateRead s = IsRead (HasCertificate s) part_number (IsCertWrong s)
 
--- Status 0: the octets are a certificate, and nothing is written. Else the number of the part that is wrong, and the
+-- Status 0: the octets are a certificate, and nothing is written. Else the number of the malformed part, and the
 -- number of the error, as a reader of that part returns it, is written.
 abbrev pub IsCertificateErrorRead : List ℕ → ℕ → ℕ → ℕ → Type 0
 IsCertificateErrorRead s status old new =

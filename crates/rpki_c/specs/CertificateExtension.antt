@@ -32,8 +32,8 @@ pub record HasExtension (s : List ℕ) (kind : ExtensionKind) (p : KnownExtensio
   pub spelled : SpellsCert cert s
   pub found : IsFoundAs cert (identifier_of kind) p
 
--- Status 0: the octets are a certificate, and this is what it has of this kind. Else the number of the part that is
--- wrong. Nothing is written where the status is not 0.
+-- Status 0: the octets are a certificate, and this is what it has of this kind. Else the number of the malformed part.
+-- Nothing is written where the status is not 0.
 abbrev pub IsExtensionReadOf : List ℕ → ExtensionKind → ℕ → KnownExtension → KnownExtension → Type 0
 IsExtensionReadOf s kind = IsRead (HasExtension s kind) part_number (IsCertWrong s)
 

@@ -1,4 +1,4 @@
--- What a status says of a certificate that is held to a profile.
+-- What a status says of a certificate that is checked against a profile.
 use Rattle.std.specs.Prelude.{◌≡◌, ◌⊎◌, ◌<◌, ℕ, Bool, List}
 use Rattle.rpki_cert.specs.declared.read.cert_part.CertPart.{CertPart}
 use Rattle.rpki_cert.specs.declared.profile.rule.CertRule.{CertRule}
@@ -93,7 +93,7 @@ pub record BreaksRule (s : List ℕ) (profile : Profile) (strict : Bool) (rule :
   pub other : HasProfile profile strict cert.tbs → ⊥
 
 -- Status 0: the octets are a certificate of the profile. 85 to 119, 156 to 158: they are a certificate, which breaks
--- the rule of this number first. Else the number of the part that is wrong.
+-- the rule of this number first. Else the number of the malformed part.
 abbrev pub IsInspectedAs : List ℕ → Profile → Bool → ℕ → Type 0
 IsInspectedAs s profile strict status =
     ((status ≡ 0) × IsOfProfile s profile strict)

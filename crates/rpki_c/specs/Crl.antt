@@ -44,7 +44,7 @@ pub record HasCrl (s : List ℕ) (p : RevocationList) : Type 0 where
   pub number : number_of p.crl_number ≡ list.list.extensions.number
   pub authority : p.authority_key_identifier ≡ list.list.extensions.authority
 
--- Status 0: the octets are a revocation list of these parts. Else the number of the part that is wrong, and nothing is
+-- Status 0: the octets are a revocation list of these parts. Else the number of the malformed part, and nothing is
 -- written.
 abbrev pub IsCrlRead : List ℕ → ℕ → RevocationList → RevocationList → Type 0
 IsCrlRead s = IsRead (HasCrl s) crl_part_number (IsCrlWrong s)

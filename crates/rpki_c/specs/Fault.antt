@@ -13,7 +13,7 @@ use Rattle.rpki_der.specs.NestedFault.{IsNestedFault}
 use Rattle.rpki_der.specs.Walk.{HasConstructed}
 use Rattle.rpki_c.specs.Status.{no_answer}
 
--- The fault e of s (specs/NestedFault.antt of rpki_der), and the place where the value begins that is none.
+-- The fault e of s (specs/NestedFault.antt of rpki_der), and the place where the value begins that isn't one.
 pub data IsFaultAt : List ℕ → DecodeError → ℕ → Type 0 where
   -- no header begins them
   AtHeader : {s : List ℕ} {e : DecodeError} → s ≢ [] → IsHeaderFault s e → IsFaultAt s e 0

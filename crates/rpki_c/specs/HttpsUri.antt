@@ -5,7 +5,7 @@ use Rattle.rpki_c.specs.declared.https.HttpsParts.{HttpsParts}
 use Rattle.rpki_c.specs.Place.{IsPlace}
 use Rattle.rpki_c.specs.Uri.{IsTextFault}
 
--- the parts of the text stand at these places: the authority after `https://`, the path at the end
+-- the parts of the text are at these places: the authority after `https://`, the path at the end
 pub record HasHttpsParts (text : List ℕ) (p : HttpsParts) : Type 0 where
   pub authority : IsPlace text p.authority (https_authority text)
   pub path : IsPlace text p.path (https_path text)

@@ -48,7 +48,7 @@ pub record IsFrontIndex (s : List ℕ) (index : List IndexEntry) : Type 0 where
   pub read : Accepts SpellsValue s (take size s) (drop size s)
   pub is : IsIndex (take size s) index
 
--- the index of the value at the front was written, what follows it in the array still stands there, and the count is
+-- the index of the value at the front was written, what follows it in the array still is there, and the count is
 -- that of the entries
 pub record IsIndexWritten (s : List ℕ) (old new : List Entry) (count : ℕ) : Type 0 where
   pub index : List IndexEntry

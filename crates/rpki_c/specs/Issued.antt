@@ -41,7 +41,7 @@ IsNotIssued s t status =
     × (((status ≡ no_issuer) × (q : CertPart) × IsCertWrong t q)
     ⊎ ((issuer : CertParts) × SpellsCert issuer t × IsToldApart x issuer known status)))
 
--- the same, of certificates that stand in these octets as in the view
+-- the same, of certificates that are in these octets as in the view
 pub record IsIssuedAt (s t : List ℕ) (v : IssuedCert) (x issuer : CertParts) : Type 0 where
   pub subject : IsKnownAt s v.subject x
   pub issued : IsCertAt t v.issuer issuer

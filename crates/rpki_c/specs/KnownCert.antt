@@ -32,7 +32,7 @@ IsUnknown s status =
     ((q : CertPart) × (status ≡ part_number q) × IsCertWrong s q)
     ⊎ ((q : KnownPart) × (x : CertParts) × (status ≡ known_number q) × SpellsCert x s × IsFirstWrong x.tbs.extensions q)
 
--- the octets are a certificate, which stands in them as in the view
+-- the octets are a certificate, which is in them as in the view
 pub record IsKnownAt (s : List ℕ) (v : KnownCert) (x : CertParts) : Type 0 where
   pub cert : IsCertAt s v.cert x
   pub says : AreKnown x.tbs.extensions v.known

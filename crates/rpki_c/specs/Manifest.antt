@@ -39,7 +39,7 @@ pub record HasManifest (s : List ℕ) (p : Parts) : Type 0 where
   pub files : AreFiles manifest.files p.files.octets.now
   pub count : p.count ≡ length manifest.files
 
--- Status 0: the octets are a manifest of these parts. Else the number of the part that is wrong, and nothing is
+-- Status 0: the octets are a manifest of these parts. Else the number of the malformed part, and nothing is
 -- written.
 abbrev pub IsManifestRead : List ℕ → ℕ → Parts → Parts → Type 0
 IsManifestRead s = IsRead (HasManifest s) manifest_part_number (IsManifestWrong s)

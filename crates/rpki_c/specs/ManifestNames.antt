@@ -19,7 +19,7 @@ abbrev pub HasMoreNames : List ℕ → ℕ → Type 0
 HasMoreNames s capacity = (x : ManifestParts) × IsListing x s × (capacity < length x.files)
 
 -- Status 0: the octets are a manifest, and the answer says whether no two files have the same name. 9: it has more
--- files than the array has places. Else the number of the part that is wrong. The answer is written at status 0 alone.
+-- files than the array has places. Else the number of the malformed part. The answer is written at status 0 alone.
 abbrev pub AreNamesCompared : List ℕ → ℕ → ℕ → Bool → Bool → Type 0
 AreNamesCompared s capacity status old new =
     ((status ≡ 0) × HasNames s capacity new)

@@ -38,7 +38,7 @@ abbrev pub family_number : AddressFamily → ℕ
 family_number Ipv4 = 4
 family_number Ipv6 = 6
 
--- the octets of an address, the most significant first; behind the four of IP version 4 stand zeros
+-- the octets of an address, the most significant first; after the four of IP version 4 are zeros
 abbrev pub address_octets : AddressFamily → ℕ → List ℕ
 address_octets Ipv4 n = to_be_bytes w32 n ++ replicate 12 0
 address_octets Ipv6 n = to_be_bytes w128 n

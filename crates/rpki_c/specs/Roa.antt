@@ -26,7 +26,7 @@ roa_part_number P.AddressBlocks = 147
 abbrev pub passed : RoaParts → FoundRoa
 passed p = found p.as_id (listed p.v4.octets.now p.v4_count, listed p.v6.octets.now p.v6_count)
 
--- Status 0: the octets are an attestation of these parts. Else the number of the part that is wrong, and nothing is
+-- Status 0: the octets are an attestation of these parts. Else the number of the malformed part, and nothing is
 -- written.
 abbrev pub IsRoaRead : Bool → List ℕ → ℕ → RoaParts → RoaParts → Type 0
 IsRoaRead strict s =

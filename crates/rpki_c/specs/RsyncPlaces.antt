@@ -32,7 +32,7 @@ with_end p size = record {
 abbrev pub rsync_places : Places RsyncParts
 rsync_places = record { laid_out = AreLaidOut; are_of = AreParts; ending = with_end }
 
--- Of two parsed URIs. Status 0: the path from v to u stands at this place. 10: there is no such path, and nothing was
+-- Of two parsed URIs. Status 0: the path from v to u is at this place. 10: there is no such path, and nothing was
 -- written.
 abbrev pub IsRelativeByParts : List ℕ → RsyncParts → List ℕ → RsyncParts → ℕ → Place → Place → Type 0
 IsRelativeByParts u p v q status old new =

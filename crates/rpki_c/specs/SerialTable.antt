@@ -34,7 +34,7 @@ pub record IsSerialTable (xs : List Entry) (table : List (List ℕ)) : Type 0 wh
   pub sorted : IsSorted (slice_cmp nat_cmp) table
   pub same : IsPermutation serials table
 
--- Ok: all of s is entries. Else the error is that of the first that is none.
+-- Ok: all of s is entries. Else the error is that of the first that isn't one.
 abbrev pub AreEntriesRead : List ℕ → Result (Unit {0}) DecodeError → Type 0
 AreEntriesRead s (Ok u) = (xs : List Entry) × each_entry.spells xs s
 AreEntriesRead s (Err e) = SpellsNothing each_entry.spells s × AreEntriesFault s e

@@ -44,7 +44,7 @@ IsSignedFault = (around_three walked_value (algorithm sha256_with_rsa_encryption
 abbrev pub IsWholeSignedFault : List ℕ → DecodeError → Type 0
 IsWholeSignedFault = IsWholeFault SpellsRpki IsSignedFault
 
--- a value, and behind it the identifier of another algorithm; whatever follows
+-- a value, and after it the identifier of another algorithm; whatever follows
 abbrev pub AreOtherParts : List ℕ → Type 0
 AreOtherParts = FollowsValue (IsOther (SpellsAlgorithm sha256_with_rsa_encryption))
 

@@ -87,7 +87,7 @@ IsNoObject strict s =
     (x : ObjectParts) → (signed_object strict).spells (object_fields_of x) s
     → most_extensions < length x.cert.tbs.extensions
 
--- Status 0: the octets are a signed object of these parts. Else the number of the part that is wrong, and nothing is
+-- Status 0: the octets are a signed object of these parts. Else the number of the malformed part, and nothing is
 -- written.
 abbrev pub IsObjectRead : Bool → List ℕ → ℕ → Parts → Parts → Type 0
 IsObjectRead strict s =

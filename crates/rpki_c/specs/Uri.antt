@@ -29,7 +29,7 @@ pub record IsSecondFault (refusal : Option Error) (status : ℕ) : Type 0 where
 abbrev pub IsFaultOfTwo : Option Error → Option Error → ℕ → Type 0
 IsFaultOfTwo first second status = IsTextFault first status ⊎ ((first ≡ None) × IsSecondFault second status)
 
--- the parts of the text stand at these places: the authority after `rsync://`, the name after that and a slash, the
+-- the parts of the text are at these places: the authority after `rsync://`, the name after that and a slash, the
 -- path at the end
 pub record HasRsyncParts (text : List ℕ) (p : RsyncParts) : Type 0 where
   pub authority : IsPlace text p.authority (authority_of text)
@@ -49,14 +49,14 @@ IsRsyncParsed text status old new =
 abbrev pub AreRsync : List ℕ → List ℕ → Type 0
 AreRsync u v = (rsync_refusal u ≡ None) × (rsync_refusal v ≡ None)
 
--- the path from v to u stands in the text of u at the place, which is the end of the text
+-- the path from v to u is in the text of u at the place, which is the end of the text
 pub record IsRelativeAt (u v : List ℕ) (p : Place) : Type 0 where
   pub path : List ℕ
   pub leads : relative (uri_of u) (uri_of v) ≡ Some path
   pub place : IsPlace u p path
   pub last : p.start + p.length ≡ length u
 
--- Status 0: both are rsync URIs, and the path from v to u stands at this place. 10: both are, and there is no such
+-- Status 0: both are rsync URIs, and the path from v to u is at this place. 10: both are, and there is no such
 -- path. Else: the error of one of them. Unless the status is 0, nothing was written.
 abbrev pub IsRelative : List ℕ → List ℕ → ℕ → Place → Place → Type 0
 IsRelative u v status old new =

@@ -9,7 +9,7 @@ view_count Missing = 0
 view_count Inherit = 1
 view_count (Blocks x) = x.count
 
--- the entries stand there, and all else in the array is as it was
+-- the entries are there, and all else in the array is as it was
 pub record IsFilledAt {E : Type 0} (from : ℕ) (entries old new : List E) : Type 0 where
   pub room : from + length entries ≤ length old
   pub array : new ≡ take from old ++ (entries ++ drop (from + length entries) old)

@@ -34,7 +34,7 @@ pub record IsFrontRefused {V : Type 0} (G : V → List ℕ → Type 0) (K : List
   pub number : status ≡ error_number error
   pub refusal : Refusal G K s s error
 
--- Status 0: the octets were read, and this is said of what is written. Else the number of the part that is wrong, and
+-- Status 0: the octets were read, and this is said of what is written. Else the number of the malformed part, and
 -- nothing is written.
 abbrev pub IsRead : {O Q : Type 0} → (O → Type 0) → (Q → ℕ) → (Q → Type 0) → ℕ → O → O → Type 0
 IsRead {O} {Q} has number wrong status old new =

@@ -125,7 +125,7 @@ pub extern "C" fn rpki_general_name<'a>(rest: &mut Span<'a>, out: &mut GeneralNa
 }
 
 /// Reads CRL distribution points, which all of the octets are, of one point that has a full name and nothing else (RFC
-/// 5280 4.2.1.13, RFC 6487 4.8.6), and says what its general names are, one after another. They are not read.
+/// 5280 4.2.1.13, RFC 6487 4.8.6), and says what its general names are, in sequence. They are not read.
 ///
 /// The status is 0, or the number of the error; then `out` is unchanged. Nothing is allocated.
 #[unsafe(no_mangle)]

@@ -13,7 +13,7 @@ use rpki_resources::take_as_number;
 #[repr(C)]
 #[derive(Clone, Copy)]
 pub struct AspaParts<'a> {
-    /// The providers, one after another.
+    /// The providers, in sequence.
     pub providers: Span<'a>,
     /// How many providers there are.
     pub count: usize,
@@ -21,7 +21,7 @@ pub struct AspaParts<'a> {
     pub customer: u32,
 }
 
-/// How a part that is wrong is passed.
+/// How a malformed part is passed.
 pub(crate) fn aspa_part_number(part: AspaPart) -> u8
     ensures { result ≡ aspa_part_number part }
 {
@@ -47,7 +47,7 @@ fn aspa_of<'a>(found: AspaView<'a>) -> AspaParts<'a>
 /// Reads an attestation of the providers of an autonomous system (draft-ietf-sidrops-aspa-profile, version 1), and says
 /// who the customer and the providers are.
 ///
-/// The status is 0. Else it is the number of the leftmost part that is wrong, and `out` is unchanged. Nothing is
+/// The status is 0. Else it is the number of the leftmost malformed part, and `out` is unchanged. Nothing is
 /// allocated.
 #[unsafe(no_mangle)]
 pub extern "C" fn rpki_aspa<'a>(octets: &'a [u8], out: &mut AspaParts<'a>) -> u8

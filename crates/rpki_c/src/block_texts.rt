@@ -109,7 +109,7 @@ fn as_line(block: AsBlock) -> Line
 }
 
 /// Writes the text of a block of addresses to the front of the buffer: `10.0.0.0/8` of a prefix, `10.0.0.0-10.0.0.5` of
-/// a range that is none, IP version 6 as RFC 5952 says, and `inherit` where addresses are those of the issuer.
+/// a range that isn't one, IP version 6 as RFC 5952 says, and `inherit` where addresses are those of the issuer.
 /// Allocates nothing.
 ///
 /// The status is 0; `TOO_SMALL` where the buffer is shorter, and nothing is written to it; in both cases `written` is

@@ -27,7 +27,7 @@ pub struct CertificateParts<'a> {
     pub subject: Span<'a>,
     /// The subject's key, with its header.
     pub public_key: Span<'a>,
-    /// The extensions, one after another.
+    /// The extensions, in sequence.
     pub extensions: Span<'a>,
     /// The period of validity.
     pub validity: Period,
@@ -41,7 +41,7 @@ pub struct CertificateParts<'a> {
     pub has_parameters: bool,
 }
 
-/// How a part that is wrong is passed.
+/// How a malformed part is passed.
 pub(crate) fn part_number(part: CertPart) -> u8
     ensures { result ≡ part_number part }
 {
@@ -92,7 +92,7 @@ pub(crate) fn parts_of<'a>(octets: &'a [u8], found: &CertView<'a>) -> Certificat
 
 /// Reads a resource certificate (RFC 5280 4.1, RFC 6487 4), and says what its parts are.
 ///
-/// The status is 0. Else it is the number of the part that is wrong, 64 to 79, and `out` is unchanged: of the signed
+/// The status is 0. Else it is the number of the malformed part, 64 to 79, and `out` is unchanged: of the signed
 /// data the leftmost; then of what is signed the leftmost; then that both algorithm identifiers are the same. More than
 /// 64 extensions are rejected by a status of their own. Nothing is allocated.
 #[unsafe(no_mangle)]
@@ -108,7 +108,7 @@ pub extern "C" fn rpki_certificate<'a>(octets: &'a [u8], out: &mut CertificatePa
     }
 }
 
-/// Reads a resource certificate, as [rpki_certificate] does, and says what is wrong with the part that is wrong.
+/// Reads a resource certificate, as [rpki_certificate] does, and says what is wrong with the malformed part.
 ///
 /// The status is that of [rpki_certificate]. Where it is a part, 64 to 79, `error` is the number of the error, that of
 /// `DecodeError`, as a reader of that part returns it; where it is 0, `error` is unchanged. Nothing is allocated.

@@ -48,7 +48,7 @@ fn find<'a>(octets: &'a [u8], kind: ExtensionKind, out: &mut KnownExtension<'a>)
 /// whether it is critical (RFC 6487 4.8). Neither its octets nor other extensions are looked at.
 ///
 /// The status is 0; `NO_ANSWER` where no extension has the number, before the octets are looked at; else it is the
-/// number of the part that is wrong. Unless it is 0, `out` is unchanged. Nothing is allocated.
+/// number of the malformed part. Unless it is 0, `out` is unchanged. Nothing is allocated.
 #[unsafe(no_mangle)]
 pub extern "C" fn rpki_certificate_extension<'a>(
     octets: &'a [u8],

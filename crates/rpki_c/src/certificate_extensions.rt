@@ -69,7 +69,7 @@ pub struct KnownExtensions<'a> {
     pub policy: u8,
 }
 
-/// How an extension that is wrong is passed.
+/// How a malformed extension is passed.
 pub(crate) fn known_number(part: KnownPart) -> u8
     ensures { result ≡ known_number part }
 {
@@ -167,7 +167,7 @@ pub(crate) fn extensions_of<'a>(
 /// what the basic constraints, both key identifiers, the key usage and the certificate policies say.
 ///
 /// The status is 0. It is 80 to 84 where one of these five is there, but malformed, or not as critical as it has to be:
-/// the first of them. Else it is the number of the part that is wrong, as that of `rpki_certificate`. `out` is
+/// the first of them. Else it is the number of the malformed part, as that of `rpki_certificate`. `out` is
 /// unchanged where the status is not 0. Nothing is allocated.
 #[unsafe(no_mangle)]
 pub extern "C" fn rpki_certificate_extensions<'a>(

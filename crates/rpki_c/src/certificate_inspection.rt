@@ -1,4 +1,4 @@
-//! Certificates, held to a profile.
+//! Certificates, checked against a profile.
 
 ghost use Rattle.std.specs.Prelude.{◌≡◌, ◌<◌, IfSome, IfNone};
 ghost use Rattle.rpki_c.specs.CertificateInspection.{cert_rule_number, profile_number};

@@ -25,7 +25,7 @@ pub struct RevocationList<'a> {
     pub signature: Span<'a>,
     /// The issuer, a name, with its header.
     pub issuer: Span<'a>,
-    /// The entries, one after another; no octets where the list of them is left out.
+    /// The entries, in sequence; no octets where the list of them is left out.
     pub revoked_certs: Span<'a>,
     /// When the list was issued.
     pub this_update: Moment,
@@ -39,7 +39,7 @@ pub struct RevocationList<'a> {
     pub has_parameters: bool,
 }
 
-/// How a part that is wrong is passed.
+/// How a malformed part is passed.
 pub(crate) fn crl_part_number(part: CrlPart) -> u8
     ensures { result ≡ crl_part_number part }
 {
@@ -82,7 +82,7 @@ fn list_of<'a>(octets: &'a [u8], found: &CrlView<'a>) -> RevocationList<'a>
 
 /// Reads a revocation list (RFC 5280 5.1, RFC 6487 5), and says what its parts are.
 ///
-/// The status is 0. Else it is the number of the part that is wrong, and `out` is unchanged: of the signed data the
+/// The status is 0. Else it is the number of the malformed part, and `out` is unchanged: of the signed data the
 /// leftmost; then of what is signed the leftmost; then that both algorithm identifiers are the same. Nothing is
 /// allocated.
 #[unsafe(no_mangle)]

@@ -31,7 +31,7 @@ fn header_within(octets: &[u8]) -> Option<(Header, usize)>
     Some((found, size))
 }
 
-/// The place of the leftmost fault of octets that no value begins: where the value begins that is none. None where a
+/// The place of the leftmost fault of octets that no value begins: where the value begins that isn't one. None where a
 /// value begins them. The values that are still open are on a stack, innermost last, each by its end.
 fn fault_of(alloc: Global, octets: &[u8]) -> Result<Option<usize>, DecodeError>
     requires { 0 < length octets.now }
@@ -70,9 +70,9 @@ fn fault_of(alloc: Global, octets: &[u8]) -> Result<Option<usize>, DecodeError>
     Ok(None)
 }
 
-/// Tells where the value at the front of the octets goes wrong: the place where the leftmost value begins that is none,
-/// itself or nested in it (X.690 8.1.1, 8.1.2.5). There no header begins; or one does, and its contents pass the end of
-/// the value around it or of the octets.
+/// Tells where the value at the front of the octets goes wrong: the place where the leftmost value begins that isn't
+/// one, itself or nested in it (X.690 8.1.1, 8.1.2.5). There no header begins; or one does, and its contents pass the
+/// end of the value around it or of the octets.
 ///
 /// The status is 0, and `at` is the place; it is 0 where there are no octets. It is 10 where a value begins the octets,
 /// and 7 where allocation failed, which it can only if a constructed value begins them; then `at` is unchanged.

@@ -7,7 +7,7 @@ use crate::place::Place;
 use crate::rsync::uri_fault;
 use rpki_text::uri::HttpsView;
 
-/// Where the parts of an https URI stand.
+/// Where the parts of an https URI are.
 #[repr(C)]
 #[derive(Clone, Copy)]
 pub struct HttpsParts {
@@ -26,7 +26,7 @@ fn parts_of(uri: &HttpsView<'_>) -> HttpsParts
     }
 }
 
-/// Reads an https URI, and says where its parts stand. Allocates nothing.
+/// Reads an https URI, and says where its parts are. Allocates nothing.
 ///
 /// The status is 0; else it is the number of the first error of the text, and nothing is written.
 #[unsafe(no_mangle)]

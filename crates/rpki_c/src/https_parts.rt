@@ -1,4 +1,4 @@
-//! Https URIs that were read before: a text, and where its parts stand. No text is read again.
+//! Https URIs that were read before: a text, and where its parts are. No text is read again.
 
 ghost use Rattle.std.specs.Prelude.{◌≡◌, ◌↔◌, IsTrue, length, IfSome, IfNone};
 ghost use Rattle.rpki_text.specs.HttpsText.{https_uri_of, same_https, https_parent_of, https_joined};
@@ -88,9 +88,9 @@ pub extern "C" fn rpki_https_parts_canonical(
 }
 
 /// Says how many of the first octets of the text are the text of the URI above: one last slash of the path dropped, and
-/// then everything after the last slash that is left. Its parts are the same, and the path ends there.
+/// then everything after the last remaining slash. Its parts are the same, and the path ends there.
 ///
-/// The status is 0; `NO_ANSWER` where nothing is left; `OTHER_PARTS` where the places are not laid out as those of the
+/// The status is 0; `NO_ANSWER` where nothing remains; `OTHER_PARTS` where the places are not laid out as those of the
 /// text are. Unless it is 0, nothing is written.
 #[unsafe(no_mangle)]
 pub extern "C" fn rpki_https_parts_parent(text: &[u8], parts: &HttpsParts, out: &mut usize) -> u8

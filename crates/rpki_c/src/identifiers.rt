@@ -7,7 +7,7 @@ ghost use Rattle.rpki_c.specs.Identifier.{AreParameters, IsNamed, SpellsIdentifi
 
 use rpki_der::Constructed;
 
-/// Whether what is left is the parameters of an algorithm: nothing, or one value, whose contents are not looked at.
+/// Whether the rest is the parameters of an algorithm: nothing, or one value, whose contents are not looked at.
 fn are_parameters(contents: Constructed<'_>) -> bool
     ensures { IsTrue result ↔ AreParameters (left contents.entry) }
 {
@@ -21,7 +21,7 @@ fn are_parameters(contents: Constructed<'_>) -> bool
     }
 }
 
-/// Whether what is left is an object identifier and then parameters.
+/// Whether the rest is an object identifier and then parameters.
 fn is_named(contents: Constructed<'_>) -> bool
     ensures { IsTrue result ↔ ((o : List ℕ) × IsNamed o (left contents.entry)) }
 {

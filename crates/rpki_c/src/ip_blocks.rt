@@ -17,7 +17,7 @@ use rpki_resources::{AddressFamily, Block, BlocksView, ChoiceView};
 #[repr(C)]
 #[derive(Clone, Copy)]
 pub struct IpEntry {
-    /// The lowest address, the most significant octet first; behind the four octets of IP version 4 stand zeros.
+    /// The lowest address, the most significant octet first; after the four octets of IP version 4 are zeros.
     pub low: [u8; 16],
     /// The highest address, likewise.
     pub high: [u8; 16],

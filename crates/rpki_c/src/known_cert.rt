@@ -17,7 +17,7 @@ pub(crate) struct KnownCert<'a> {
 
 /// The certificate that the octets are, and what its extensions say. Nothing is allocated.
 ///
-/// The error is the status of a certificate that isn't read: the number of the part that is wrong; else that of the
+/// The error is the status of a certificate that isn't read: the number of the malformed part; else that of the
 /// first extension that is malformed, or not as critical as it has to be.
 pub(crate) fn known_cert(octets: &[u8]) -> Result<KnownCert<'_>, u8>
     ensures { IsKnownRead octets.now result }

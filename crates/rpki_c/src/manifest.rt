@@ -14,7 +14,7 @@ use rpki_der::Constructed;
 #[repr(C)]
 #[derive(Clone, Copy)]
 pub struct ManifestParts<'a> {
-    /// The files, one after another.
+    /// The files, in sequence.
     pub files: Span<'a>,
     /// How many files there are.
     pub count: usize,
@@ -26,7 +26,7 @@ pub struct ManifestParts<'a> {
     pub manifest_number: [u8; 20],
 }
 
-/// How a part that is wrong is passed.
+/// How a malformed part is passed.
 pub(crate) fn manifest_part_number(part: ManifestPart) -> u8
     ensures { result ≡ manifest_part_number part }
 {
@@ -58,7 +58,7 @@ fn manifest_of<'a>(octets: &'a [u8], found: &ManifestView<'a>) -> ManifestParts<
 /// Reads a manifest (RFC 9286 4.2), and says what its parts are. Some files may have the same name, which a manifest
 /// doesn't allow.
 ///
-/// The status is 0. Else it is the number of the part that is wrong, and `out` is unchanged: the leftmost; then that
+/// The status is 0. Else it is the number of the malformed part, and `out` is unchanged: the leftmost; then that
 /// the next update is after this update. Nothing is allocated.
 #[unsafe(no_mangle)]
 pub extern "C" fn rpki_manifest<'a>(octets: &'a [u8], out: &mut ManifestParts<'a>) -> u8

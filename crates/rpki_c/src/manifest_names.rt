@@ -10,7 +10,7 @@ use rpki_contents::ManifestView;
 /// Reads a manifest as [crate::manifest::rpki_manifest] does, and says whether no two of its files have the same name,
 /// as a manifest has to have them (RFC 9286 4.2.1). The room is written over; n files take n log n steps.
 ///
-/// The status is 0, and `out` says so. Else `out` is unchanged: it is the number of the part that is wrong, or 9 where
+/// The status is 0, and `out` says so. Else `out` is unchanged: it is the number of the malformed part, or 9 where
 /// the room has fewer places than there are files. Nothing is allocated.
 #[unsafe(no_mangle)]
 pub extern "C" fn rpki_manifest_names<'a>(

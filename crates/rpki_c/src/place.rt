@@ -1,4 +1,4 @@
-//! Where a part of the caller's octets stands.
+//! Where a part of the caller's octets is.
 
 ghost use Rattle.std.specs.Prelude.{◌≡◌, ◌≤◌, ◌+◌, ℕ, List};
 ghost use Rattle.rpki_text.specs.Places.{IsPartAt};
@@ -6,18 +6,18 @@ ghost use Rattle.rpki_c.specs.Place.{IsPlace};
 
 use std::ops::Range;
 
-/// Where a part of octets stands.
+/// Where a part of octets is.
 #[repr(C)]
 #[derive(Clone, Copy)]
 pub struct Place {
-    /// How many octets stand before it.
+    /// How many octets are before it.
     pub start: usize,
     /// How many octets it has.
     pub length: usize,
 }
 
 impl Place {
-    /// Where a range of octets stands. Requires that it doesn't end before it starts.
+    /// Where a range of octets is. Requires that it doesn't end before it starts.
     pub(crate) fn of_range(range: Range<usize>) -> Place
         requires { range.start ≤ range.end }
         ensures part { (s part : List ℕ) → IsPartAt s range part → IsPlace s result part }

@@ -15,9 +15,9 @@ use rpki_der::Constructed;
 #[repr(C)]
 #[derive(Clone, Copy)]
 pub struct RoaParts<'a> {
-    /// The prefixes of IP version 4, one after another; no octets where the family isn't there.
+    /// The prefixes of IP version 4, in sequence; no octets where the family isn't there.
     pub v4: Span<'a>,
-    /// The prefixes of IP version 6, one after another; no octets where the family isn't there.
+    /// The prefixes of IP version 6, in sequence; no octets where the family isn't there.
     pub v6: Span<'a>,
     /// How many prefixes of IP version 4 there are.
     pub v4_count: usize,
@@ -27,7 +27,7 @@ pub struct RoaParts<'a> {
     pub as_id: u32,
 }
 
-/// How a part that is wrong is passed.
+/// How a malformed part is passed.
 pub(crate) fn roa_part_number(part: RoaPart) -> u8
     ensures { result ≡ roa_part_number part }
 {
@@ -54,7 +54,7 @@ fn roa_of<'a>(found: RoaView<'a>) -> RoaParts<'a>
 /// Reads a route origin attestation (RFC 9582 4), and says which AS number it is for and what its prefixes are. If
 /// `strict`, the prefixes of IP version 4 are in front of those of IP version 6 (RFC 9582 4.3.3).
 ///
-/// The status is 0. Else it is the number of the leftmost part that is wrong, and `out` is unchanged. Nothing is
+/// The status is 0. Else it is the number of the leftmost malformed part, and `out` is unchanged. Nothing is
 /// allocated.
 #[unsafe(no_mangle)]
 pub extern "C" fn rpki_roa<'a>(octets: &'a [u8], strict: bool, out: &mut RoaParts<'a>) -> u8
@@ -73,7 +73,7 @@ pub extern "C" fn rpki_roa<'a>(octets: &'a [u8], strict: bool, out: &mut RoaPart
 #[repr(C)]
 #[derive(Clone, Copy)]
 pub struct RoaAddress {
-    /// The lowest address, the most significant octet first; behind the four octets of IP version 4 stand zeros.
+    /// The lowest address, the most significant octet first; after the four octets of IP version 4 are zeros.
     pub address: [u8; 16],
     /// How many bits the prefix has.
     pub length: u8,

@@ -10,7 +10,7 @@ use crate::place::Place;
 use crate::status::{NO_ANSWER, SECOND, TOO_SMALL, URI};
 use rpki_text::uri::{Error, RsyncView};
 
-/// Where the parts of an rsync URI stand.
+/// Where the parts of an rsync URI are.
 #[repr(C)]
 #[derive(Clone, Copy)]
 pub struct RsyncParts {
@@ -32,7 +32,7 @@ fn parts_of(uri: &RsyncView<'_>) -> RsyncParts
     }
 }
 
-/// Reads an rsync URI, and says where its parts stand. Allocates nothing.
+/// Reads an rsync URI, and says where its parts are. Allocates nothing.
 ///
 /// The status is 0; else it is the number of the first error of the text, and nothing is written.
 #[unsafe(no_mangle)]
@@ -48,7 +48,7 @@ pub extern "C" fn rpki_rsync_parse(text: &[u8], out: &mut RsyncParts) -> u8
     }
 }
 
-/// Says where in the text of `uri` the path stands that leads from `base` to it. Allocates nothing.
+/// Says where in the text of `uri` the path is that leads from `base` to it. Allocates nothing.
 ///
 /// The status is 0; `NO_ANSWER` where none leads there; else the number of the first error of `uri`, or that of `base`
 /// and `SECOND` where `uri` has none. Unless it is 0, nothing is written.

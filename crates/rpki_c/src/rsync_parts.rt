@@ -1,4 +1,4 @@
-//! Rsync URIs that were read before: a text, and where its parts stand. No text is read again.
+//! Rsync URIs that were read before: a text, and where its parts are. No text is read again.
 
 ghost use Rattle.std.specs.Prelude.{◌≡◌, ◌↔◌, IsTrue, length, IfSome, IfNone};
 ghost use Rattle.rpki_text.specs.RsyncText.{uri_of, same_uri, is_parent, is_identical, parent_of, joined, join_refusal};
@@ -43,7 +43,7 @@ fn cut<'a>(text: &'a [u8], parts: &RsyncParts) -> Option<RsyncCut<'a>>
     RsyncCut::at(text, parts.module_name.start, parts.path.start)
 }
 
-/// Says where in the text of `uri` the path stands that leads from `base` to it.
+/// Says where in the text of `uri` the path is that leads from `base` to it.
 ///
 /// Of both the parts are those that `rpki_rsync_parse` found. The status is 0; `NO_ANSWER` where no path leads there;
 /// `OTHER_PARTS` where the places of one are not laid out as those of its text are. Unless it is 0, nothing is written.

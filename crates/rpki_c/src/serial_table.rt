@@ -12,7 +12,7 @@ use crate::status::TOO_SMALL;
 use rpki_der::{Constructed, DecodeError};
 use rpki_objects::CrlEntry;
 
-/// Whether all of the octets are entries, one after another. The error is that of the first that is none.
+/// Whether all of the octets are entries, in sequence. The error is that of the first that isn't one.
 fn read_entries(octets: &[u8]) -> Result<(), DecodeError>
     ensures { AreEntriesRead octets.now result }
 {

@@ -43,7 +43,7 @@ pub(crate) struct SignedView<'a> {
     pub(crate) signature: &'a [u8],
 }
 
-/// The parts that are all of these contents. None where the algorithm identifier behind the value is another one.
+/// The parts that are all of these contents. None where the algorithm identifier after the value is another one.
 ///
 /// The errors are those of the parts; then `Trailing`. Allocation can fail only if a constructed value begins the
 /// contents.
@@ -75,7 +75,7 @@ fn read_parts<'a>(alloc: Global, contents: &'a [u8]) -> Result<Option<SignedView
     }))
 }
 
-/// The parts of signed data by an algorithm of the RPKI, and of nothing else, as they stand in the octets. None where
+/// The parts of signed data by an algorithm of the RPKI, and of nothing else, as they are in the octets. None where
 /// the algorithm identifier is another one.
 pub(crate) fn read_signed<'a>(
     alloc: Global,
@@ -95,7 +95,7 @@ pub(crate) fn read_signed<'a>(
 
 /// Reads signed data of the RPKI (RFC 5280 4.1, RFC 7935 2), and says what its parts are.
 ///
-/// The status is 0. It is 13 where the algorithm identifier behind the value that is signed is another one, whatever
+/// The status is 0. It is 13 where the algorithm identifier after the value that is signed is another one, whatever
 /// follows it: a SEQUENCE of an object identifier and perhaps one value, but not that of RSA with SHA-256. Else it is
 /// the number of the error. `out` is unchanged where the status is not 0. Allocation can fail only if a constructed
 /// value begins the contents of the SEQUENCE.

@@ -45,7 +45,7 @@ pub struct SignedObjectParts<'a> {
     pub has_parameters: bool,
 }
 
-/// How a part that is wrong is passed.
+/// How a malformed part is passed.
 pub(crate) fn object_part_number(part: ObjectPart) -> u8
     ensures { result ≡ object_part_number part }
 {
@@ -127,7 +127,7 @@ pub(crate) fn object_of<'a>(
 /// Reads a signed object (RFC 5652, in the profile of RFC 6488), and says what its parts are. If `strict`, it has a
 /// signing time, and no binary signing time (RFC 9589 4).
 ///
-/// The status is 0. Else it is the number of the part that is wrong, and `out` is unchanged: the leftmost, and of the
+/// The status is 0. Else it is the number of the malformed part, and `out` is unchanged: the leftmost, and of the
 /// certificate the one that [crate::certificate::rpki_certificate] names, by its number. Nothing is allocated.
 #[unsafe(no_mangle)]
 pub extern "C" fn rpki_signed_object<'a>(

@@ -38,7 +38,7 @@ impl<'a> PrimitiveContent for WholeBits<'a> {
     }
 }
 
-/// An encoder for signed data of parts that stand elsewhere.
+/// An encoder for signed data of parts that are elsewhere.
 pub(crate) type StandingSigned<'a> = Sequence<
     (
         StandingValue<'a>,

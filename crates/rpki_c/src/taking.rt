@@ -1,4 +1,4 @@
-//! Values that are taken off a span, one after another.
+//! Values that are taken off a span, in sequence.
 
 ghost use Rattle.std.specs.Prelude.{◌≡◌, ◌<◌, IfSome, IfNone};
 ghost use Rattle.rpki_der.specs.Header.{class_number};

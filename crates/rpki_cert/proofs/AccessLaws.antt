@@ -109,7 +109,7 @@ or-first-https (Some x) v zs = refl
 or-first-https None None zs = refl
 or-first-https None (Some text) zs = either-first (is_some (https_refusal text)) text (first_https zs)
 
--- parts, one after another, that are all there is
+-- parts, in sequence, that are all there is
 
 module _ {A B : Type 0} (G : A → List ℕ → Type 0) (H : B → List ℕ → Type 0) (s : List ℕ) where
   abbrev Pair : A × B → List ℕ → Type 0

@@ -1,4 +1,4 @@
--- A URI that goes on behind another, which ends with a slash, lies below it.
+-- A URI that goes on after another, which ends with a slash, lies below it.
 use Rattle.std.proofs.Common.{◌≡◌, ◌≢◌, ◌∙◌, ◌≤◌, ◌<◌, ℕ, Bool, true, false, ◌&&◌, List, [], ◌∷◌, ◌++◌, length}
 use Rattle.std.proofs.Common.{◌-◌, Option, None, Some, get_or, take, drop, refl, sym, ap, arith, append_assoc}
 use Rattle.std.proofs.Common.{length-append, length-drop}
@@ -40,7 +40,7 @@ pub filled : (p : List ℕ) → p ≢ [] → 0 < length p
 filled [] some = absurd (some refl)
 filled (b ∷ p) some = omega arith
 
--- what goes on behind octets that end with a slash
+-- what goes on after octets that end with a slash
 pub goes-on : (base text : List ℕ) → 0 < length base → get_or base (length base - 1) 0 ≡ 47
     → length base < length text → take (length base) text ≡ base
     → (front path : List ℕ) × (base ≡ front ++ 47 ∷ []) × (text ≡ front ++ 47 ∷ path) × (path ≢ [])

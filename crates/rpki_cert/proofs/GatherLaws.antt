@@ -1,4 +1,4 @@
--- Values, one after another, of which a reader in place keeps what it needs.
+-- Values, in sequence, of which a reader in place keeps what it needs.
 use Rattle.std.proofs.Common.{◌≡◌, ◌≢◌, ◌∙◌, ℕ, Bool, List, [], ◌∷◌, Result, Ok, Err, refl, sym, ap, subst}
 use Rattle.rpki_der.specs.TagName.{TagName}
 use Rattle.rpki_der.specs.Reading.{Accepts, Refuses, SpellsNothing}
@@ -40,7 +40,7 @@ module _ {V : Type 0} (t : TagName) (f : Bool) (C : V → List ℕ → Type 0) (
   pub leaf-none : SpellsNothing (SpellsContents t f) s → SpellsNothing (SpellsLeaf t f C) s
   leaf-none none v k = none k.contents k.value
 
--- ---- values, one after another
+-- ---- values, in sequence
 
 pub each-rest : {V : Type 0} (G : V → List ℕ → Type 0) (s q : List ℕ) (v : V) (ys : List V) → s ≢ [] → Accepts G s v q
     → SpellsEach G ys s → (zs : List V) × (ys ≡ v ∷ zs) × SpellsEach G zs q
@@ -82,14 +82,14 @@ module _ {V U : Type 0} (G : V → List ℕ → Type 0) (f : List V → U) (s : 
         (zs, rest, e ∙ ap (λ (ws : List V). step (f ws)) is ∙ law zs);
   }
 
-  -- no value is at the front of what is left
+  -- no value is at the front of the rest
   pub gathers-none : (step : U → U) (r : List ℕ) → r ≢ [] → Gathers G f step s r → Refuses G r
       → SpellsNothing (Through f (SpellsSome G)) s
   gathers-none step r some h none u k =
       let (zs, each, e) = h.back k.0 k.1.each in
       each-none G r zs some none each
 
-  -- nothing is left
+  -- nothing remains
   pub gathers-end : ((v : V) → G v [] → ⊥) → (step : U → U) (r : List ℕ) (u : U) → s ≢ [] → r ≡ []
       → Gathers G f step s r → step (f []) ≡ u
       → Through f (SpellsSome G) u s × ((w : U) → Through f (SpellsSome G) w s → w ≡ u)

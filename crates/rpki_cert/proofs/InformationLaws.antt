@@ -52,7 +52,7 @@ pub located : (same : Bool) (name : Option (List ℕ))
 located true name = first-is-https name
 located false name = refl
 
--- ---- descriptions, one after another
+-- ---- descriptions, in sequence
 
 abbrev pub made : (issuer repository manifest object notifications : Option (List ℕ)) (end https : Bool) → AccessParts
 made issuer repository manifest object notifications end https = record {
@@ -225,7 +225,7 @@ pub wrong-uri : (method : AccessMethod) (found : Option ExtensionParts) (e : Val
     → IsFoundWrong false (SpellsUriOf method) AnyFault found e
 wrong-uri method found e h = (no-uri method found h.0, h.1)
 
--- ---- descriptions that are held to a rule
+-- ---- descriptions that are checked against a rule
 
 obeyed-all : (rule : AccessRule) (xs : List (List ℕ × Option (List ℕ)))
     → obeyed rule (access_parts xs) ≡ list_all (allows rule) xs

@@ -1,4 +1,4 @@
--- Parts that were read in place, where they stand; and keeping them.
+-- Parts that were read in place, where they are; and keeping them.
 use Rattle.std.proofs.Common.{◌≡◌, ◌∙◌, ℕ, Bool, true, false, List, [], ◌∷◌, ◌++◌, length, refl, sym, ap}
 use Rattle.std.proofs.Common.{subst, append_assoc, append-nil}
 use Rattle.rpki_der.specs.TagName.{TagName, sequence, bit_string}

@@ -7,9 +7,9 @@
 --   certificates: NestedLaws, NameViewLaws, InformationLaws, ListedLaws, UniqueLaws, TableLaws, FieldsLaws, ViewLaws.
 --   That what is signed is one value: TbsValueLaws. That what is spelled has one value: OneLaws. That what is wrong is
 --   no certificate: WrongLaws.
--- Kept: where parts stand, and that they are kept as they were read: KeptLaws. A certificate that was read and kept, or
+-- Kept: where parts are, and that they are kept as they were read: KeptLaws. A certificate that was read and kept, or
 --   that isn't there: CertLaws.
--- Values, one after another, of which something is kept: GatherLaws. What a `?` hands on: TriedLaws.
+-- Values, in sequence, of which something is kept: GatherLaws. What a `?` hands on: TriedLaws.
 
 pub mod SomeLaws
 pub mod WholeLaws

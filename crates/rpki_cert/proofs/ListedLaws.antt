@@ -1,4 +1,4 @@
--- Extensions that are read in place, one after another.
+-- Extensions that are read in place, in sequence.
 use Rattle.std.proofs.Common.{◌≡◌, ◌≢◌, ◌∙◌, ◌<◌, ℕ, Bool, true, false, List, [], ◌∷◌, length, Option, Some, None}
 use Rattle.std.proofs.Common.{Result, Ok, Err, IsTrue, refl, sym, ap, subst, arith}
 use Rattle.std.specs.Prelude.{bytes_eq, codes, IfOk, IfErr}
@@ -39,7 +39,7 @@ pub extension-refused : (s r : List ℕ) (e : DecodeError) → Refusal SpellsExt
 extension-refused s r e h = refused SpellsExtension extension.fault s r e
     (λ k. (extension-outer s OutOfMemory k).other refl) h
 
--- ---- what is left of extensions
+-- ---- the rest of extensions
 
 abbrev pub Each : List ExtensionParts → List ℕ → Type 0
 Each = SpellsEach SpellsExtension

@@ -1,4 +1,4 @@
--- The attributes of a name, held to a rule one after another.
+-- The attributes of a name, checked against a rule in sequence.
 use Rattle.std.proofs.Common.{◌≡◌, List, [], ◌∷◌, ◌++◌, refl, sym, ap, subst, ◌∙◌, append_assoc, append-nil, ℕ}
 use Rattle.std.proofs.Common.{Bool, false, IsTrue, ◌↔◌}
 use Rattle.std.specs.Prelude.{Some, None, All, map}
@@ -52,7 +52,7 @@ name-unmarked (xs ∷ parts) =
     ∙ ap (λ (l : List Attribute). l ++ unmarked (marked_attributes parts)) (relative-unmarked xs)
     ∙ ap (λ (l : List Attribute). xs ++ l) (name-unmarked parts)
 
--- of the attributes xs those in front obey P, and the others are left
+-- of the attributes xs those in front obey P, and the others remain
 pub record HaveObeyed (P : Attribute → Type 0) (xs : List MarkedAttribute) (rest : NameRest) : Type 0 where
   pub done : List MarkedAttribute
   pub todo : List MarkedAttribute
@@ -73,7 +73,7 @@ pub none-yet : (P : Attribute → Type 0) (xs : List MarkedAttribute) (rest : Na
 none-yet P xs rest h = record { done = []; todo = xs; split = refl; left = h; obeyed = All-nil P }
 
 module _ (P : Attribute → Type 0) (xs : List MarkedAttribute) (rest : NameRest) (h : HaveObeyed P xs rest) where
-  -- none is left
+  -- none remains
   pub all-obeyed : (after : NameRest)
       → ((ys : List MarkedAttribute) → AreLeft rest ys → GivesAttribute ys None after) → All P (unmarked xs)
   all-obeyed after none = go h.todo h.split (none h.todo h.left)

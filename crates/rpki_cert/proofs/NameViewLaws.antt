@@ -28,7 +28,7 @@ name-refused s r e h = unless-memory e (λ z. name-never s (subst (IsWalkedNameF
 
 -- ---- all of the octets
 
--- all of s is the value where nothing is left
+-- all of s is the value where nothing remains
 pub whole-there : (G : Unit {0} → List ℕ → Type 0) (s r : List ℕ) → Accepts G s tt r → r ≡ [] → G tt s
 whole-there G s r a end = (all-read G s tt r a end).0
 

@@ -35,7 +35,7 @@ primitive-one t d p h = subst IsValue (sym h.value.octets) (primitive_value t d 
 constructed-one : (t : TagName) (d p : List ℕ) → Any (t, true, d) p → IsValueList d → IsValue p
 constructed-one t d p h k = subst IsValue (sym h.value.octets) (constructed_value t d h.value.tag h.value.fits k)
 
--- ---- values, one after another
+-- ---- values, in sequence
 
 -- no value begins what is refused
 pub nested-refuses : (s r : List ℕ) (e : DecodeError) → Refusal SpellsAnyValue IsNestedFault s r e
@@ -146,7 +146,7 @@ value-missing s none v r h = go k.members k.legal k.spelled k.counted
       spelled = record { wanted = tt; value = record { tag = l.0.0; fits = l.0.1; octets = refl } };
     })
 
--- the octets in front of what is left
+-- the octets in front of the rest
 abbrev pub StandsBefore : List ℕ → List ℕ → Section → Type 0
 StandsBefore o p q = (front : List ℕ) → o ≡ front ++ p → IsSection q front p
 
@@ -187,7 +187,7 @@ nowhere : (s : List ℕ) → ((s ≡ [] → ⊥) → ⊥) → s ≡ []
 nowhere [] h = refl
 nowhere (x ∷ s) h = absurd (h (λ e. cc))
 
--- a reader of any value returned where none is: nothing is left
+-- a reader of any value returned where none is: nothing remains
 pub no-value : (s r : List ℕ) (o : Option (Unit {0})) → Refuses SpellsValue s
     → ReadsWhere IsNotEmpty (λ _. tt) SpellsAnyValue IsNestedFault s r (Ok o) → IsCaptureFault s Truncated
 no-value s r None none h = inl (nowhere s h.0, refl)

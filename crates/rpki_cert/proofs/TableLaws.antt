@@ -378,7 +378,7 @@ module _ (s r q : List ℕ) (x : ExtensionParts) (slots : List (Option ListedExt
           (inl (k, (bytes_eq-Decides x.identifier id).0 e, refl)))) in
           slot-other id s r q x some a _ other (inl there)
 
--- no extension begins what is left
+-- no extension begins the rest
 pub passing-none : (s r : List ℕ) (slots : List (Option ListedExtension)) (u : Bool) (c : ℕ) (d : Bool) → r ≢ []
     → Passing s r slots u c d
     → Refuses SpellsExtension r → (xs : List ExtensionParts) → SpellsSome SpellsExtension xs s → ⊥

@@ -23,7 +23,7 @@ use Rattle.rpki_cert.specs.Cert.{TbsParts, version_tag, two, SpellsTwo, SpellsVe
 use Rattle.rpki_cert.specs.Cert.{SpellsExtensionList, SpellsExtensions, SpellsRpkiAlgorithm, fields_of, AreFields}
 use Rattle.rpki_cert.specs.Cert.{SpellsTbs}
 
--- what is spelled in G is values, one after another
+-- what is spelled in G is values, in sequence
 abbrev pub SpellValues : {V : Type 0} → (V → List ℕ → Type 0) → Type 0
 SpellValues {V} G = (v : V) (p : List ℕ) → G v p → IsValueList p
 

@@ -67,7 +67,7 @@ module _ (allocates : Bool) (q : CertError) where
 
   -- ---- the fields
 
-  -- where a value begins the octets, what is wrong is wrong behind it
+  -- where a value begins the octets, what is wrong is wrong after it
   behind : {V : Type 0} (F : Format V) (part : CertPart) (L : List ℕ → CertError → Type 0) (s r : List ℕ) (v : V)
       → FirstWrong F part (λ u. L) s q → Spells F.spells s v r → L r q
   behind F part L s r v (AtPart none fault is) k = absurd (none v r k)

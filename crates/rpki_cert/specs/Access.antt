@@ -118,7 +118,7 @@ signed_object = 43 ∷ 6 ∷ 1 ∷ 5 ∷ 5 ∷ 7 ∷ 48 ∷ 11 ∷ []
 abbrev pub rpki_notify : List ℕ
 rpki_notify = 43 ∷ 6 ∷ 1 ∷ 5 ∷ 5 ∷ 7 ∷ 48 ∷ 13 ∷ []
 
--- ---- descriptions that are held to a rule
+-- ---- descriptions that are checked against a rule
 
 -- the text is an https URI
 abbrev pub is_https : Option (List ℕ) → Bool

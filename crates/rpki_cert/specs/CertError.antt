@@ -1,4 +1,4 @@
--- The part of a certificate that is wrong, and why.
+-- The malformed part of a certificate, and why.
 use Rattle.std.specs.Prelude.{Result, Ok, Err}
 use Rattle.rpki_der.specs.declared.error.DecodeError.{DecodeError}
 use Rattle.rpki_cert.specs.declared.read.cert_part.CertPart.{CertPart}

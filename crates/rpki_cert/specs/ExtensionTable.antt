@@ -61,7 +61,7 @@ IsSlot id n =
 
 -- ---- what is found
 
--- of the octets of these extensions, one after another, what follows the first with this identifier
+-- of the octets of these extensions, in sequence, what follows the first with this identifier
 abbrev pub behind_first : List ℕ → (xs : List ExtensionParts) (s : List ℕ) → SpellsEach SpellsExtension xs s → List ℕ
 behind_first id [] s h = []
 behind_first id (x ∷ xs) s h = if bytes_eq x.identifier id then h.0 else behind_first id xs h.0 h.2

@@ -80,7 +80,7 @@ own_rules Router =
 abbrev pub rules_of : Profile → List CertRule
 rules_of profile = common_rules ++ own_rules profile
 
--- a certificate of the profile obeys each of its rules; its names are held to theirs where strict is true
+-- a certificate of the profile obeys each of its rules; its names are checked against theirs where strict is true
 abbrev pub HasProfile : Profile → Bool → TbsParts → Type 0
 HasProfile profile strict t = All (Obeys strict t) (rules_of profile)
 

@@ -37,7 +37,8 @@ use Rattle.rpki_cert.specs.ResourceExtensions.{AreWellFormed, AreOwn}
 use Rattle.rpki_cert.specs.RuleWords.{HasSome, HasNot, HasSomeUri, HasHeldAccess, SaysManifestBelow, IsOrdered}
 use Rattle.rpki_cert.specs.RuleWords.{HasOwnAuthority, has_addresses, has_numbers, has_resources, HasOneVersion}
 
--- what the rule says of a certificate, in the words of the profiles; a name is held to its profile where strict is true
+-- what the rule says of a certificate, in the words of the profiles; a name is checked against its profile where strict
+-- is true
 abbrev pub Obeys : Bool → TbsParts → CertRule → Type 0
 Obeys strict t SerialNumber = 0 < t.serial
 Obeys strict t CriticalExtensions = IsTrue (are_understood t.extensions)

@@ -1,4 +1,4 @@
--- Certificates that are read in place: what stands where, and which part is wrong, and why (RFC 5280 4.1).
+-- Certificates that are read in place: what is where, and which part is wrong, and why (RFC 5280 4.1).
 use Rattle.std.specs.Prelude.{◌≡◌, ◌≢◌, ◌⊎◌, ◌≤◌, ◌<◌, ◌++◌, ℕ, Bool, true, false, List, [], codes, length, IsTrue}
 use Rattle.std.specs.Prelude.{Result, Ok, Err}
 use Rattle.rpki_der.specs.declared.error.DecodeError.{DecodeError}

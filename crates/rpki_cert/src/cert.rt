@@ -44,7 +44,7 @@ pub fn is_same(one: RpkiSignatureAlgorithm, other: RpkiSignatureAlgorithm) -> bo
     one.has_parameters() == other.has_parameters()
 }
 
-/// Whether the octet is 0 that stands in front of the last ones, of which there are so many.
+/// Whether the octet is 0 that is in front of the last ones, of which there are so many.
 fn is_zero_before(octets: &[u8], last: usize) -> bool
     ensures { (front : List ℕ) (octet : ℕ) (end : List ℕ) → octets.now ≡ front ++ octet ∷ end → length end ≡ last
         → IsTrue result ↔ (octet ≡ 0) }
@@ -56,7 +56,7 @@ fn is_zero_before(octets: &[u8], last: usize) -> bool
 }
 
 /// Signed data whose signature has no unused bits: the octet in front of its octets counts them. Requires that `keep`
-/// can keep parts of what is left.
+/// can keep parts of the rest.
 ///
 /// The errors are those of signed data; then `Content` with the text `signature has unused bits`. An error leaves the
 /// cursor where it was.
@@ -104,9 +104,9 @@ impl Cert {
     /// No bit of the signature is unused. It is read in place, as by [CertView::read], but with any number of
     /// extensions; and then kept.
     /// An allocator copies the signed value and the signature, and [Shared](rpki::der::Shared) shares them; requires
-    /// that `keep` can keep parts of what is left. The parts of the signed value share its octets.
+    /// that `keep` can keep parts of the rest. The parts of the signed value share its octets.
     ///
-    /// The error is of the leftmost part that is wrong: of the SEQUENCE; of the signed data; then of what is signed;
+    /// The error is of the leftmost malformed part: of the SEQUENCE; of the signed data; then of what is signed;
     /// then that both algorithm identifiers are the same. It is `OutOfMemory` of the certificate if allocation fails
     /// where one is there, or of its extensions where they are more than 64. An error leaves the cursor where it was.
     pub fn take_from<K: Keep>(keep: K, cons: &mut Constructed<'_>) -> Result<Cert, CertError>

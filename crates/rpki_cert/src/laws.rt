@@ -27,7 +27,7 @@ pub fn equal_extensions_are_one()
     ensures kind { (x y : KindOfExtension) → IsTrue (⟦<ExtensionKind as PartialEq>⟧.eq x y) ↔ (x ≡ y) }
 {}
 
-/// Parts that are wrong are equal exactly where they are one.
+/// Malformed parts are equal exactly where they are one.
 pub fn equal_parts_are_one()
     ensures part { (p q : WrongPart) → IsTrue (⟦<CertPart as PartialEq>⟧.eq p q) ↔ (p ≡ q) }
     ensures extension { (p q : WrongExtension) → IsTrue (⟦<KnownPart as PartialEq>⟧.eq p q) ↔ (p ≡ q) }

@@ -76,7 +76,7 @@ impl TbsCert {
 
     /// The signed part: a SEQUENCE of the version v3(2), the serial number, the algorithm, the issuer, the validity
     /// period, the subject, its key and the extensions, and nothing after them. An allocator copies what is kept of
-    /// them, and [Shared](rpki::der::Shared) shares it; requires that `keep` can keep parts of what is left.
+    /// them, and [Shared](rpki::der::Shared) shares it; requires that `keep` can keep parts of the rest.
     ///
     /// The errors are those of a SEQUENCE; then that of the first part that could not be read; and `OutOfMemory` if
     /// allocation fails, only where all parts are there, or in the extensions.

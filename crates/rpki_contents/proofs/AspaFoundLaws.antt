@@ -20,7 +20,7 @@ use Rattle.rpki_contents.specs.declared.aspa_view.AspaPart.TheVariants as P
 use Rattle.rpki_contents.proofs.FoundLaws.{bind-ok, ended-ok, following, if-ok, number-found, ok-is, pair-ok}
 use Rattle.rpki_contents.proofs.FoundLaws.{part-ok, whole, whole-found}
 
--- numbers that may stand behind the last
+-- numbers that may follow the last
 abbrev Behind : Option ℕ → List ℕ → Type 0
 Behind None ns = Ascend ns
 Behind (Some last) ns = AscendFrom last ns
@@ -32,7 +32,7 @@ behind (Some last) n ns e h = (ltb-true last n e, h)
 other : (customer n : ℕ) → not (nat_eq n customer) ≡ true → customer ≢ n
 other customer n e same = absurd (false≢true (rw (eq-eqb n customer (sym same)) at e))
 
--- ---- providers, one after another
+-- ---- providers, in sequence
 
 record IsNext (customer : ℕ) (last next : Option ℕ) (s r : List ℕ) : Type 0 where
   number : ℕ

@@ -22,7 +22,7 @@ number-few n = omega (arith, as-few n, tlv_at_most integer false (as_contents n)
 pub contents-few : (n : ℕ) → length (as_contents n) < 2 ^ 32
 contents-few n = omega (arith, as-few n)
 
--- ---- numbers, one after another
+-- ---- numbers, in sequence
 
 pub numbers-values : (ns : List ℕ) → AreValues (length ns) (numbers_octets ns)
 numbers-values [] = no_values

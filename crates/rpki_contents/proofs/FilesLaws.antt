@@ -1,4 +1,4 @@
--- The files of a manifest, read in place, one after another.
+-- The files of a manifest, read in place, in sequence.
 use Rattle.std.proofs.Common.{◌≡◌, ◌≢◌, ◌∙◌, ◌++◌, ◌<◌, ℕ, true, false, List, [], ◌∷◌, length, Some, None}
 use Rattle.std.proofs.Common.{refl, sym, ap, subst, arith, length-append, append_assoc, append-nil}
 use Rattle.rpki_der.specs.declared.error.DecodeError.{DecodeError}

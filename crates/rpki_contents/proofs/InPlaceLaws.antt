@@ -40,7 +40,7 @@ module _ (s r : List ℕ) where
     pub sequence-more : (r ≡ [] → ⊥) → SpellsNothing (SpellsContents sequence true) s
     sequence-more some = nothing-after (SpellsContents sequence true) s r c a some
 
--- ---- whether octets are left
+-- ---- whether octets remain
 
 pub left-some : (xs : List ℕ) (b : Bool) → b ≡ (length xs == 0) → b ≡ false → xs ≢ []
 left-some xs b e f z = let k : 0 < length xs = grind (arith, nat_tests, e, f) in omega (arith, ap length z, k)

@@ -23,7 +23,7 @@ pub all-have : {T : Type 0} (P : T → Type 0) (rest xs : List T) (x : T) → re
     → EachHas P rest
 all-have P rest xs x is h more = subst (EachHas P) (sym is) (h, more)
 
--- a beginning of what is left was written
+-- a beginning of the rest was written
 pub beginning-left : (a b c : Option (List ℕ)) (octets rest ys more : List ℕ) → AppendsAllBut a b octets rest
     → rest ≡ ys ++ more
     → AppendsBeginning b c ys → AppendsBeginning a c octets
@@ -31,7 +31,7 @@ beginning-left a b c octets rest ys more p is q =
     let whole : octets ≡ p.0 ++ (ys ++ more) = p.1 ∙ ap (λ (w : List ℕ). p.0 ++ w) is in
     subst (AppendsBeginning a c) (sym whole) (beginning_then a b c p.0 (ys ++ more) p.2 (beginning_more b c ys more q))
 
--- nothing is left
+-- nothing remains
 pub none-left : {T : Type 0} (xs : List T) → length xs ≡ 0 → xs ≡ []
 none-left [] e = refl
 none-left (x ∷ xs) e = absurd (omega (arith, e))

@@ -133,7 +133,7 @@ prefix-found w s u r b e =
           (such-is (in-sequence outer parts) (record { same = refl; within = is.1 })),
     )
 
--- ---- prefixes, one after another
+-- ---- prefixes, in sequence
 
 module _ (w : ℕ) where
   each-found : (fuel k : ℕ) (s : List ℕ) (u : Unit {0}) (m : ℕ) → IsBytes s

@@ -1,4 +1,4 @@
--- The names of the files of a manifest, put one after another into room for them.
+-- The names of the files of a manifest, put in sequence into room for them.
 use Rattle.std.proofs.Common.{◌≡◌, ◌∙◌, ◌+◌, ◌<◌, ◌++◌, ℕ, List, [], ◌∷◌, Some, None, length, take}
 use Rattle.std.proofs.Common.{refl, sym, ap, subst, arith, length-append, append_assoc, append-nil}
 use Rattle.std.specs.Prelude.{map}

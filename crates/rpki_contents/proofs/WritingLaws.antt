@@ -63,7 +63,7 @@ pub first-octets : (rest xs : List ListedFile) (x : ListedFile) → rest ≡ x �
     → files_octets rest ≡ file_octets x ++ files_octets xs
 first-octets rest xs x is = ap files_octets is
 
--- a beginning of what is left was written
+-- a beginning of the rest was written
 pub beginning-left : (a b c : Option (List ℕ)) (octets rest ys more : List ℕ) → AppendsAllBut a b octets rest
     → rest ≡ ys ++ more
     → AppendsBeginning b c ys → AppendsBeginning a c octets

@@ -1,5 +1,5 @@
--- Attestations of providers that are read in place, as a function of their octets: what is found, or the leftmost part
--- that is wrong. The parts are those of Aspa.antt.
+-- Attestations of providers that are read in place, as a function of their octets: what is found, or the leftmost
+-- malformed part. The parts are those of Aspa.antt.
 use Rattle.std.specs.Prelude.{ℕ, Bool, true, not, ◌&&◌, ◌^◌, List, Option, None, Some, Result, Ok, Err}
 use Rattle.std.specs.Prelude.{◌≡◌, length, if◌then◌else◌, nat_eq, nat_lt}
 use Rattle.rpki_der.specs.Prelude.{integer, sequence}

@@ -3,7 +3,7 @@ use Rattle.std.specs.Prelude.{◌≡◌, ℕ, List, length, Option, Some, None}
 use Rattle.rpki_der.specs.Prelude.{SpellsEach, SpellsNothing}
 use Rattle.rpki_contents.specs.ListedFile.{ListedFile, file}
 
--- these octets are these files, one after another
+-- these octets are these files, in sequence
 abbrev pub AreFiles : List ListedFile → List ℕ → Type 0
 AreFiles xs s = SpellsEach file.spells xs s
 

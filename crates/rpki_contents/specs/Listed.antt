@@ -1,4 +1,4 @@
--- What is written of a list: its items, one after another.
+-- What is written of a list: its items, in sequence.
 use Rattle.std.specs.Prelude.{ℕ, List, [], ◌∷◌, ◌++◌}
 use Rattle.rpki_der.specs.Tree.{Tree}
 use Rattle.rpki_der.specs.Tree.Tree.{Nothing, Both}

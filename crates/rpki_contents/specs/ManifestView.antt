@@ -1,4 +1,4 @@
--- Manifests that are read in place: what stands where, and which part is wrong (RFC 9286 4.2).
+-- Manifests that are read in place: what is where, and which part is wrong (RFC 9286 4.2).
 use Rattle.std.specs.Prelude.{◌≡◌, ℕ, true, List, [], ◌∷◌, length, Option, Some, None, Result, Ok, Err}
 use Rattle.rpki_der.specs.declared.error.DecodeError.{DecodeError}
 use Rattle.rpki_der.specs.declared.error.DecodeError.TheVariants.{OutOfMemory}
@@ -21,7 +21,7 @@ use Rattle.rpki_contents.specs.Manifest.{listed_fields, AreInOrder}
 abbrev pub file_in : FileView → ListedFile
 file_in x = (x.name.now, x.hash)
 
--- Of the files that were left the first was given, and the others are left now; none was given where none was left.
+-- Of the remaining files the first was given, and the others remain now; none was given where none remained.
 abbrev pub GivesFile : List ListedFile → Option FileView → List ℕ → Type 0
 GivesFile [] found after = (optional_of file_in found ≡ None) × (after ≡ [])
 GivesFile (x ∷ xs) found after = (optional_of file_in found ≡ Some x) × AreFiles xs after

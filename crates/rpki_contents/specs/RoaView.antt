@@ -1,5 +1,5 @@
--- Route origin attestations that are read in place, as a function of their octets: what is found, or the leftmost part
--- that is wrong. The parts are those of Roa.antt.
+-- Route origin attestations that are read in place, as a function of their octets: what is found, or the leftmost
+-- malformed part. The parts are those of Roa.antt.
 use Rattle.std.specs.Prelude.{◌≡◌, ◌&&◌, ◌-◌, ◌*◌, ◌^◌, ℕ, Bool, true, List, [], ◌∷◌, length, Option, None, Some}
 use Rattle.std.specs.Prelude.{Result, Ok, Err, if◌then◌else◌, nat_eq, nat_le}
 use Rattle.std.specs.Str.{bytes_eq}
@@ -50,7 +50,7 @@ count_at w s = bind (fold_at (λ _. prefix_at w) tt s) (λ n. if nat_eq n.1 0 th
 
 -- ---- the prefixes of each family (RFC 9582 4.3.1)
 
--- the octets of prefixes, one after another, and how many they are
+-- the octets of prefixes, in sequence, and how many they are
 pub record Listed : Type 0 where
   pub octets : List ℕ
   pub count : ℕ
@@ -70,7 +70,7 @@ family_at s =
     bind (ended a.1) (λ _.
     bind (count_at (width f.0) a.0) (λ n. Ok ((f.0, listed a.0 n), c.1))))))
 
--- one more, where something is left
+-- one more, where something remains
 abbrev pub one_more : {V : Type 0} → Parser V → Parser (Option V)
 one_more p [] = Ok (None, [])
 one_more p (x ∷ xs) = bind (p (x ∷ xs)) (λ v. Ok (Some v.0, v.1))

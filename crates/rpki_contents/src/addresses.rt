@@ -1,4 +1,4 @@
-//! The prefixes of a family of a route origin attestation, one after another, in place (RFC 9582 4.3.2).
+//! The prefixes of a family of a route origin attestation, in sequence, in place (RFC 9582 4.3.2).
 
 ghost use Rattle.std.specs.Prelude.{◌≡◌, ◌<◌, Ok, IfSome, [], length};
 ghost use Rattle.rpki_der.specs.Prelude.{AreBits, bits_of, left};
@@ -140,7 +140,7 @@ impl Step for PrefixStep {
     }
 }
 
-/// How many prefixes of the family there are, which are all that is left: one at least.
+/// How many prefixes of the family there are, which are the whole rest: one at least.
 #[tactic(auto, unfolding(crate::specs::RoaView::count_at))]
 pub(crate) fn count_prefixes(
     contents: Constructed<'_>,

@@ -50,7 +50,7 @@ fn take_version(cons: &mut Constructed<'_>) -> Result<(), DecodeError>
     })
 }
 
-/// The AS numbers that these contents are, one after another.
+/// The AS numbers that these contents are, in sequence.
 fn take_each_number(alloc: Global, contents: &mut Constructed<'_>) -> Result<Vec<u32>, DecodeError>
     ensures { TakesAll (λ v. v.items) each_number (left contents.old) (left contents.new) result }
 {

@@ -49,7 +49,7 @@ impl PrimitiveContent for AspaVersion {
     }
 }
 
-/// The explicit tag 0, under which the version stands.
+/// The explicit tag 0, under which the version is.
 #[derive(Clone, Copy)]
 pub struct VersionFrame;
 
@@ -97,7 +97,7 @@ fn numbers_len(numbers: &[u32]) -> Option<u64>
     Some(total)
 }
 
-/// Writes the numbers, one after another.
+/// Writes the numbers, in sequence.
 fn write_numbers<W: Write>(out: &mut W, numbers: &[u32]) -> Result<(), io::Error>
     ensures { Writes (W.contents out.old) (W.contents out.new) result (numbers_octets numbers.now) }
 {
@@ -109,7 +109,7 @@ fn write_numbers<W: Write>(out: &mut W, numbers: &[u32]) -> Result<(), io::Error
     Ok(())
 }
 
-/// An encoder for AS numbers, one after another; it borrows them. It allocates nothing.
+/// An encoder for AS numbers, in sequence; it borrows them. It allocates nothing.
 #[derive(Drop)]
 pub struct NumbersEncoder<'a> {
     numbers: &'a [u32],
@@ -123,7 +123,7 @@ impl<'a> Model for NumbersEncoder<'a> {
     ghost view = { λ x. x.numbers.now };
 }
 
-/// The numbers, one after another.
+/// The numbers, in sequence.
 impl<'a> Values for NumbersEncoder<'a> {
     ghost use Rattle.std.specs.Prelude.{refl};
     ghost use Rattle.rpki_der.specs.Tree.Tree.{Captured};

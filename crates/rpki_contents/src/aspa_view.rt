@@ -12,7 +12,7 @@ use rpki_parse::{
     Step, at, finish, fold, skip_u8_if, take_constructed_if, take_sequence, take_u32,
 };
 
-/// The part of an attestation that is wrong.
+/// The malformed part of an attestation.
 #[derive(Clone, Copy, Debug, PartialEq, Eq)]
 pub enum AspaPart {
     /// The SEQUENCE around all, or something follows it.
@@ -30,7 +30,7 @@ pub enum AspaPart {
 pub struct AspaView<'a> {
     /// The customer.
     pub customer: u32,
-    /// The providers, one after another: the contents of their list.
+    /// The providers, in sequence: the contents of their list.
     pub providers: &'a [u8],
     /// How many providers there are.
     pub count: usize,
@@ -39,7 +39,7 @@ pub struct AspaView<'a> {
 /// The providers of an attestation in place that have yet to be given, in order.
 #[derive(Clone, Copy)]
 pub struct ProviderCursor<'a> {
-    /// What is left of their octets.
+    /// The rest of their octets.
     pub rest: Constructed<'a>,
 }
 
@@ -94,7 +94,7 @@ fn take_any_number(cons: &mut Constructed<'_>) -> Result<u32, DecodeError>
     take_u32(cons)
 }
 
-/// Reads a provider, behind the last.
+/// Reads a provider, after the last.
 #[derive(Drop)]
 struct ProviderStep {
     /// The customer.
@@ -123,7 +123,7 @@ impl Step for ProviderStep {
     }
 }
 
-/// How many providers of the customer there are, which are all that is left: one at least.
+/// How many providers of the customer there are, which are the whole rest: one at least.
 #[tactic(auto, unfolding(crate::specs::AspaView::providers_at))]
 fn count_providers(contents: Constructed<'_>, customer: u32) -> Result<usize, DecodeError>
     ensures { kinds result ≡ providers_at customer (left contents.entry) }
@@ -134,7 +134,7 @@ fn count_providers(contents: Constructed<'_>, customer: u32) -> Result<usize, De
     }
 }
 
-/// The parts, which are all that is left.
+/// The parts, which are the whole rest.
 fn read_parts<'a>(contents: Constructed<'a>) -> Result<AspaView<'a>, AspaPart>
     ensures { found_of result ≡ members (left contents.entry) }
 {
@@ -155,7 +155,7 @@ impl<'a> AspaView<'a> {
     /// An attestation, and nothing else, as [AsProviderAttestation::decode](crate::AsProviderAttestation::decode) reads
     /// it. Allocates nothing.
     ///
-    /// The error is the leftmost part that is wrong.
+    /// The error is the leftmost malformed part.
     pub fn read(octets: &'a [u8]) -> Result<AspaView<'a>, AspaPart>
         ensures { found_of result ≡ attestation octets.entry.now }
     {
@@ -176,7 +176,7 @@ impl<'a> AspaView<'a> {
 }
 
 impl<'a> ProviderCursor<'a> {
-    /// The next provider; None where none is left, or the octets that are left are no AS numbers.
+    /// The next provider; None where none remains, or the remaining octets are no AS numbers.
     pub fn next_provider(&mut self) -> Option<u32>
         ensures given { (result, left self.new.rest) ≡ given_at (left self.old.rest) }
         ensures shorter { IfSome result (λ _. length (left self.new.rest) < length (left self.old.rest)) }

@@ -47,7 +47,7 @@ fn listed_count<T: Values>(items: &[T]) -> u64
     total
 }
 
-/// Writes the items, one after another.
+/// Writes the items, in sequence.
 fn write_listed<T: Values, W: Write>(out: &mut W, items: &[T]) -> Result<(), io::Error>
     requires { EachHas T.is_short items.now × (length (listed_octets T.encoded items.now) < 2 ^ 63) }
     ensures { Writes (W.contents out.old) (W.contents out.new) result (listed_octets T.encoded items.now) }
@@ -60,7 +60,7 @@ fn write_listed<T: Values, W: Write>(out: &mut W, items: &[T]) -> Result<(), io:
     Ok(())
 }
 
-/// An encoder for items, one after another; it borrows them. It allocates nothing.
+/// An encoder for items, in sequence; it borrows them. It allocates nothing.
 #[derive(Drop)]
 pub struct Each<'a, T> {
     items: &'a [T],
@@ -83,7 +83,7 @@ impl<'a, T> Each<'a, T> {
     }
 }
 
-/// The items, one after another.
+/// The items, in sequence.
 impl<'a, T: Values> Values for Each<'a, T> {
     ghost use Rattle.rpki_contents.specs.Listed.{listed_tree};
     ghost use Rattle.rpki_contents.specs.ListedLaws.{listed_spelled, listed_measured, listed_values};

@@ -200,7 +200,7 @@ fn files_len(files: &[FileAndHash]) -> Option<u64>
     Some(total)
 }
 
-/// Writes the files, one after another.
+/// Writes the files, in sequence.
 fn write_files<W: Write>(out: &mut W, files: &[FileAndHash]) -> Result<(), io::Error>
     requires { CanWriteFiles files.now }
     ensures { Writes (W.contents out.old) (W.contents out.new) result (files_octets files.now) }
@@ -213,7 +213,7 @@ fn write_files<W: Write>(out: &mut W, files: &[FileAndHash]) -> Result<(), io::E
     Ok(())
 }
 
-/// An encoder for files, one after another; it borrows them. It allocates nothing.
+/// An encoder for files, in sequence; it borrows them. It allocates nothing.
 #[derive(Drop)]
 pub struct FilesEncoder<'a> {
     files: &'a [FileAndHash],
@@ -247,7 +247,7 @@ impl<'a> FilesEncoder<'a> {
     }
 }
 
-/// The files, one after another.
+/// The files, in sequence.
 impl<'a> Values for FilesEncoder<'a> {
     ghost use Rattle.std.specs.Prelude.{refl};
     ghost use Rattle.rpki_der.specs.Members.{IsValueList};

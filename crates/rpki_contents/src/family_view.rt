@@ -18,13 +18,13 @@ use rpki_resources::AddressFamily;
 pub(crate) struct FamilyView<'a> {
     /// The family.
     pub(crate) family: AddressFamily,
-    /// The prefixes, one after another.
+    /// The prefixes, in sequence.
     pub(crate) addresses: &'a [u8],
     /// How many prefixes there are.
     pub(crate) count: usize,
 }
 
-/// The prefixes of both families, one after another; no octets for a family that isn't there.
+/// The prefixes of both families, in sequence; no octets for a family that isn't there.
 #[derive(Clone, Copy)]
 pub(crate) struct BothView<'a> {
     /// Those of IP version 4.
@@ -82,7 +82,7 @@ fn take_family_view<'a>(cons: &mut Constructed<'a>) -> Result<FamilyView<'a>, De
     })
 }
 
-/// The same, where something is left.
+/// The same, where something remains.
 #[inline(always)]
 fn take_opt_family<'a>(cons: &mut Constructed<'a>) -> Result<Option<FamilyView<'a>>, DecodeError>
     ensures { parsed (optional_of family_of) result (left cons.new) ≡ one_more family_at (left cons.old) }

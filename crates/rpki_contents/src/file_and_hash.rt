@@ -70,7 +70,7 @@ impl FileAndHash {
     }
 
     /// Reads a file: a SEQUENCE of its name and its digest, and nothing else. An allocator copies the name, and
-    /// [Shared](rpki::der::Shared) shares it; requires that `keep` can keep parts of what is left.
+    /// [Shared](rpki::der::Shared) shares it; requires that `keep` can keep parts of the rest.
     ///
     /// The errors are those of a SEQUENCE; then those of an IA5String, `OutOfMemory` if allocation fails, and `Content`
     /// for contents that are no name of a file; then those of [MessageDigest::take_bits_from]; then `Trailing` if more

@@ -1,4 +1,4 @@
-//! The files that a manifest lists, one after another, in place (RFC 9286 4.2.1).
+//! The files that a manifest lists, in sequence, in place (RFC 9286 4.2.1).
 
 ghost use Rattle.std.specs.Prelude.{IfSome, IfNone};
 ghost use Rattle.rpki_der.specs.Prelude.{Refuses};
@@ -61,7 +61,7 @@ fn after_any_file(octets: &[u8]) -> Option<&[u8]>
     }
 }
 
-/// How many files the octets are; None where they are none.
+/// How many files the octets are; None where they aren't.
 pub(crate) fn count_files(octets: &[u8]) -> Option<usize>
     ensures { CountsFiles octets.now result }
 {

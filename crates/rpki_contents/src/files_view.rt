@@ -51,7 +51,7 @@ impl<'a> Model for FileCursor<'a> {
 }
 
 impl<'a> FilesView<'a> {
-    /// The files that these octets are; None where they are none.
+    /// The files that these octets are; None where they aren't.
     pub(crate) fn of(octets: &'a [u8]) -> Option<FilesView<'a>>
         ensures some { IfSome result (λ v. (v.octets ≡ octets.now) × (xs : List ListedFile) × HoldFiles v xs) }
         ensures none { IfNone result (SpellsNothing AreFiles octets.now) }
@@ -105,7 +105,7 @@ impl<'a> FilesView<'a> {
 }
 
 impl<'a> FileCursor<'a> {
-    /// The next file; None where none is left. Allocates nothing.
+    /// The next file; None where none remains. Allocates nothing.
     pub fn next_file(&mut self) -> Option<FileView<'a>>
         ensures given { (xs : List ListedFile) → AreFiles xs self.old → GivesFile xs result self.new }
         ensures shorter { IfSome result (λ _. length self.new < length self.old) }

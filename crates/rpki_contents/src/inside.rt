@@ -6,7 +6,7 @@ ghost use Rattle.rpki_contents.specs.InPlace.{IsSequenceOf};
 
 use rpki_der::Constructed;
 
-/// What the SEQUENCE contains that is all that is left; None where there is no such SEQUENCE.
+/// What the SEQUENCE contains that is the whole rest; None where there is no such SEQUENCE.
 pub(crate) fn inside<'a>(octets: Constructed<'a>) -> Option<Constructed<'a>>
     ensures some { IfSome result (λ c. IsSequenceOf (left octets.entry) (left c)) }
     ensures none { IfNone result (SpellsNothing (SpellsContents sequence true) (left octets.entry)) }

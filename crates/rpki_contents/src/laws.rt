@@ -74,7 +74,7 @@ pub fn equal_origins_are_one()
     ensures origin { (x y : Origin) → IsTrue (⟦<RouteOrigin as PartialEq>⟧.eq x y) ↔ (x ≡ y) }
 {}
 
-/// Parts that are wrong are equal exactly where they are one.
+/// Malformed parts are equal exactly where they are one.
 pub fn equal_parts_are_one()
     ensures manifest { (p q : WrongManifest) → IsTrue (⟦<ManifestPart as PartialEq>⟧.eq p q) ↔ (p ≡ q) }
     ensures roa { (p q : WrongRoa) → IsTrue (⟦<RoaPart as PartialEq>⟧.eq p q) ↔ (p ≡ q) }

@@ -68,7 +68,7 @@ impl ManifestContent {
     /// Reads a manifest: a SEQUENCE of its number, the times of this update and of the next, the identifier of SHA-256,
     /// and the list of files, and nothing else. The version, which is 0, is left out (X.690 11.5). The next update is
     /// after this one, and no file is listed twice. There may be no file. An allocator copies the names of files, and
-    /// [Shared](rpki::der::Shared) shares them; requires that `keep` can keep parts of what is left.
+    /// [Shared](rpki::der::Shared) shares them; requires that `keep` can keep parts of the rest.
     ///
     /// The errors are those of a SEQUENCE; then that of the first part that could not be read, or `Trailing` if more
     /// follows; then those of [ManifestContent::new]; `OutOfMemory` if allocation fails. An error leaves the cursor

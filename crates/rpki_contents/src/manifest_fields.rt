@@ -27,7 +27,7 @@ pub(crate) struct ManifestFields {
     pub(crate) file_list: Vec<FileAndHash>,
 }
 
-/// The files that these contents are, one after another.
+/// The files that these contents are, in sequence.
 fn take_each_file<K: Keep>(
     keep: K,
     contents: &mut Constructed<'_>,
@@ -61,7 +61,7 @@ fn take_file_list<K: Keep>(
 
 impl ManifestFields {
     /// Reads the fields: a SEQUENCE of them, and nothing else. An allocator copies the names of files, and
-    /// [Shared](rpki::der::Shared) shares them; requires that `keep` can keep parts of what is left.
+    /// [Shared](rpki::der::Shared) shares them; requires that `keep` can keep parts of the rest.
     ///
     /// The errors are those of a SEQUENCE; then that of the first part that could not be read, or `Trailing` if more
     /// follows; `OutOfMemory` if allocation fails. An error leaves the cursor where it was.

@@ -26,7 +26,7 @@ pub struct ManifestView<'a> {
     pub files: FilesView<'a>,
 }
 
-/// A cursor on the contents, where all that is left is a SEQUENCE.
+/// A cursor on the contents, where the whole rest is a SEQUENCE.
 fn inside<'a>(octets: Constructed<'a>) -> Option<Constructed<'a>>
     ensures { ReadsContents (left octets.entry) (optional_of left result) }
 {
@@ -43,7 +43,7 @@ fn inside<'a>(octets: Constructed<'a>) -> Option<Constructed<'a>>
     }
 }
 
-/// The list of files, which is all that is left.
+/// The list of files, which is the whole rest.
 fn read_list<'a>(rest: Constructed<'a>) -> Option<FilesView<'a>>
     ensures { ReadsList (left rest.entry) result }
 {
@@ -53,7 +53,7 @@ fn read_list<'a>(rest: Constructed<'a>) -> Option<FilesView<'a>>
     }
 }
 
-/// The fields, which are all that is left.
+/// The fields, which are the whole rest.
 fn read_fields<'a>(contents: Constructed<'a>) -> Result<ManifestView<'a>, ManifestPart>
     ensures ok { IfOk result (λ v. (xs : List ListedFile) × AreFieldsAt (left contents.entry) v xs) }
     ensures err { IfErr result (λ q. AreFieldsWrong (left contents.entry) q) }
@@ -91,7 +91,7 @@ impl<'a> ManifestView<'a> {
     /// some of its files may have the same name: whether they do takes room for the names, as
     /// [FilesView::names_differ] has it. Allocates nothing.
     ///
-    /// The error is the part that is wrong: the leftmost; then that the next update is after this update.
+    /// The error is the malformed part: the leftmost; then that the next update is after this update.
     pub fn read(octets: &'a [u8]) -> Result<ManifestView<'a>, ManifestPart>
         ensures ok { IfOk result (λ v. (xs : List ListedFile) × IsManifestAt octets.now v xs) }
         ensures err { IfErr result (λ q. IsManifestWrong octets.now q) }

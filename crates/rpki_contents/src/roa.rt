@@ -68,7 +68,7 @@ impl RouteOriginAttestation {
 
     /// Reads an attestation, in DER: a SEQUENCE of an AS number and of one family of addresses or of two, each once,
     /// each of one prefix at least, as [RoaIpAddress::take_from] reads it; and nothing else. The version, which is 0,
-    /// is left out, since it is the default. Where it is `strict`, IP version 4 stands before IP version 6, as in the
+    /// is left out, since it is the default. Where it is `strict`, IP version 4 is before IP version 6, as in the
     /// canonical form (RFC 9582 4.3.3). Prefixes are taken in any order, and more than once.
     ///
     /// The errors are those of a SEQUENCE; then that of the leftmost part that could not be read, of the parts in it,

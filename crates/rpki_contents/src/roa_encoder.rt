@@ -81,7 +81,7 @@ fn prefixes_len(addresses: &[RoaIpAddress]) -> Option<u64>
     Some(total)
 }
 
-/// Writes the prefixes, one after another.
+/// Writes the prefixes, in sequence.
 fn write_prefixes<W: Write>(out: &mut W, addresses: &[RoaIpAddress]) -> Result<(), io::Error>
     requires { AreAddressesIn 128 addresses.now }
     ensures { Writes (W.contents out.old) (W.contents out.new) result (prefixes_octets addresses.now) }
@@ -94,7 +94,7 @@ fn write_prefixes<W: Write>(out: &mut W, addresses: &[RoaIpAddress]) -> Result<(
     Ok(())
 }
 
-/// An encoder for prefixes, one after another; it borrows them. It allocates nothing.
+/// An encoder for prefixes, in sequence; it borrows them. It allocates nothing.
 #[derive(Drop)]
 pub struct PrefixesEncoder<'a> {
     addresses: &'a [RoaIpAddress],
@@ -112,7 +112,7 @@ impl<'a> Model for PrefixesEncoder<'a> {
     ghost invariant = { λ x. AreAddressesIn 128 x.addresses.now };
 }
 
-/// The prefixes, one after another.
+/// The prefixes, in sequence.
 impl<'a> Values for PrefixesEncoder<'a> {
     ghost use Rattle.std.specs.Prelude.{refl};
     ghost use Rattle.rpki_der.specs.Tree.Tree.{Captured};
@@ -153,7 +153,7 @@ impl<'a> Values for PrefixesEncoder<'a> {
     }
 }
 
-/// An encoder for prefixes, one after another.
+/// An encoder for prefixes, in sequence.
 #[tactic(auto, using(crate::proofs::RoaWritingLaws::value_list))]
 fn encode_prefixes(addresses: &[RoaIpAddress]) -> PrefixesEncoder<'_>
     requires { AreAddressesIn 128 addresses.now }
@@ -201,7 +201,7 @@ impl RouteOriginAttestation {
     }
 
     /// An encoder for the attestation, which borrows its prefixes. The version, which is 0, is left out; IP version 4
-    /// stands before IP version 6, and a family without prefixes is left out (RFC 9582 4.3). It allocates nothing.
+    /// is before IP version 6, and a family without prefixes is left out (RFC 9582 4.3). It allocates nothing.
     ///
     /// The encoder fits exactly where the contents of the attestation have fewer than 2^32 octets.
     pub fn encode_ref(&self) -> RoaEncoder<'_>

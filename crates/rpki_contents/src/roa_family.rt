@@ -36,7 +36,7 @@ pub(crate) struct Prefixes {
     pub(crate) v6: Vec<RoaIpAddress>,
 }
 
-/// The prefixes that these contents are, one after another.
+/// The prefixes that these contents are, in sequence.
 fn take_each_address(
     alloc: Global,
     contents: &mut Constructed<'_>,
@@ -107,7 +107,7 @@ fn take_roa_family(alloc: Global, cons: &mut Constructed<'_>) -> Result<RoaFamil
     cons.in_sequence(|contents| take_family_parts(alloc, contents))
 }
 
-/// The families that these contents are, one after another.
+/// The families that these contents are, in sequence.
 fn take_each_family(
     alloc: Global,
     contents: &mut Constructed<'_>,

@@ -12,7 +12,7 @@ use rpki_der::Constructed;
 use rpki_parse::{at, finish, take_sequence, take_u32};
 use rpki_resources::AddressFamily;
 
-/// The part of an attestation that is wrong.
+/// The malformed part of an attestation.
 #[derive(Clone, Copy, Debug, PartialEq, Eq)]
 pub enum RoaPart {
     /// The SEQUENCE around all, or something follows it.
@@ -28,9 +28,9 @@ pub enum RoaPart {
 pub struct RoaView<'a> {
     /// The AS number that may announce the prefixes.
     pub as_id: u32,
-    /// The prefixes of IP version 4, one after another; no octets where that family isn't there.
+    /// The prefixes of IP version 4, in sequence; no octets where that family isn't there.
     pub v4: &'a [u8],
-    /// The prefixes of IP version 6, one after another; no octets where that family isn't there.
+    /// The prefixes of IP version 6, in sequence; no octets where that family isn't there.
     pub v6: &'a [u8],
     /// How many prefixes of IP version 4 there are.
     pub v4_count: usize,
@@ -43,7 +43,7 @@ pub struct RoaView<'a> {
 pub struct AddressCursor<'a> {
     /// The family.
     pub family: AddressFamily,
-    /// What is left of their octets.
+    /// The rest of their octets.
     pub rest: Constructed<'a>,
 }
 
@@ -51,7 +51,7 @@ impl<'a> RoaView<'a> {
     /// An attestation, and nothing else, as
     /// [RouteOriginAttestation::decode](crate::RouteOriginAttestation::decode) reads it. Allocates nothing.
     ///
-    /// The error is the leftmost part that is wrong.
+    /// The error is the leftmost malformed part.
     pub fn read(octets: &'a [u8], strict: bool) -> Result<RoaView<'a>, RoaPart>
         ensures { found_of result ≡ route_origin strict octets.entry.now }
     {
@@ -94,7 +94,7 @@ impl<'a> RoaView<'a> {
 }
 
 impl<'a> AddressCursor<'a> {
-    /// The next prefix; None where none is left, or the octets that are left are no prefixes of the family.
+    /// The next prefix; None where none remains, or the remaining octets are no prefixes of the family.
     pub fn next_address(&mut self) -> Option<RoaIpAddress>
         ensures family { self.new.family ≡ self.old.family }
         ensures given { Gives (width self.old.family) (left self.old.rest) result (left self.new.rest) }

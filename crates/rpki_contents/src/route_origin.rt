@@ -117,7 +117,7 @@ impl<'a> Model for RouteOrigins<'a> {
 }
 
 impl<'a> RouteOrigins<'a> {
-    /// The next prefix; None where none is left.
+    /// The next prefix; None where none remains.
     pub fn next_origin(&mut self) -> Option<RouteOrigin>
         ensures some { IfSome result (λ x. self.old ≡ x ∷ self.new) }
         ensures none { IfNone result ((self.old ≡ []) × (self.new ≡ [])) }

@@ -55,12 +55,12 @@ spelled-whole G s v h = record { front = s; parts = sym (append-nil s); spelled 
 pub nothing-whole : {V : Type 0} (G : V → List ℕ → Type 0) (s : List ℕ) → Refuses G s → SpellsNothing G s
 nothing-whole G s none v h = none v [] (spelled-whole G s v h)
 
--- something is left after the beginning that is in the grammar
+-- something remains after the beginning that is in the grammar
 pub nothing-after : {V : Type 0} (G : V → List ℕ → Type 0) (s r : List ℕ) (v : V) → Accepts G s v r → (r ≡ [] → ⊥)
     → SpellsNothing G s
 nothing-after G s r v a some w h = some (sym (a.only w [] (spelled-whole G s w h)).1)
 
--- nothing is left
+-- nothing remains
 pub all-read : {V : Type 0} (G : V → List ℕ → Type 0) (s : List ℕ) (v : V) (r : List ℕ) → Accepts G s v r → r ≡ []
     → G v s × ((w : V) → G w s → w ≡ v)
 all-read {V} G s v r a end =
@@ -68,7 +68,7 @@ all-read {V} G s v r a end =
     a.spells.front in
     (subst (G v) (sym p) a.spells.spelled, λ w h. (a.only w [] (spelled-whole G s w h)).0)
 
--- what a reader of whole octets returns where something is left
+-- what a reader of whole octets returns where something remains
 pub more-left : {V : Type 0} (G : V → List ℕ → Type 0) (K : List ℕ → DecodeError → Type 0) (s : List ℕ) (v : V)
     (r : List ℕ)
     → Accepts G s v r → (r ≡ [] → ⊥) → SpellsNothing G s × IsWholeFault G K s Trailing

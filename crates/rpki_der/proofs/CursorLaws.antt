@@ -1,4 +1,4 @@
--- What is left after a cursor.
+-- What remains after a cursor.
 use Rattle.std.proofs.Common.{◌≡◌, ◌↔◌, IsTrue, Bool, true, false, ℕ, ◌+◌, ◌-◌, ◌≤◌, List, [], ◌++◌, length, take, drop}
 use Rattle.std.proofs.Common.{refl, sym, ap, ◌∙◌, arith, length-append}
 use Rattle.std.specs.Prelude.{slice_range}
@@ -26,7 +26,7 @@ following-cut s i j front rest le in_s e =
     let moved : take (length rest) (drop (length front) (drop i s)) ≡ rest = rw (drop-take) at dropped in
     rw (start, room) (rw drop-drop at moved)
 
--- nothing is left exactly where the places are one
+-- nothing remains exactly where the places are one
 pub empty-cut : (s : List ℕ) (i j : ℕ) → i ≡ j → slice_range s i j ≡ []
 empty-cut s i j e = let z : j - i ≡ 0 = omega arith in rw z refl
 

@@ -25,7 +25,7 @@ byte-quotient (suc j) n = refl
 next-quotient : (j n : ℕ) → n / 256 ^ suc j ≡ n / 256 ^ j / 256
 next-quotient j n = ap (λ (p : ℕ). n / p) (pow-suc 256 j) ∙ sym (div-div-eq-div-mul n (256 ^ j) 256)
 
--- what is left of two numbers of so many octets, from one octet on, is the same where these octets are
+-- the rest of two numbers of so many octets, from one octet on, is the same where these octets are
 quotients-same : (j k m n : ℕ) → m < 256 ^ (j + k) → n < 256 ^ (j + k) → bytes_low_first j k m ≡ bytes_low_first j k n
     → m / 256 ^ j ≡ n / 256 ^ j
 quotients-same j zero m n h l e =

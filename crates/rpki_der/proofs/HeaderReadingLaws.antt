@@ -128,7 +128,7 @@ header-fault s OutOfMemory bytes failed =
 
 -- ---- of its two parts
 
--- what is left after what was read
+-- what remains after what was read
 rest-bytes : {V : Type 0} {G : V → List ℕ → Type 0} (s : List ℕ) (v : V) (r : List ℕ) → IsBytes s → Spells G s v r
     → IsBytes r
 rest-bytes s v r bytes sp = IsBytes-following sp.front r (subst IsBytes sp.parts bytes)

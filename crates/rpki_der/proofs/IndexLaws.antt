@@ -1,4 +1,4 @@
--- Laws of the index of values: it is one, each entry stands where it says, and values after values have entries after
+-- Laws of the index of values: it is one, each entry is where it says, and values after values have entries after
 -- entries.
 use Rattle.std.proofs.Common.{◌≡◌, ℕ, suc, ◌+◌, ◌-◌, ◌≤◌, Bool, true, false, cond, List, [], ◌∷◌, ◌++◌, length, take}
 use Rattle.std.proofs.Common.{drop, Option, Some, None, refl, sym, ap, ◌∙◌, subst, arith, append_assoc, append-nil}
@@ -25,7 +25,7 @@ one-index {octets} {index} {other} i j =
     let same = one-reading j.members i.members j.legal i.legal (sym j.spelled ∙ i.spelled) in
     j.is ∙ ap (λ (vs : Members). entries vs 0 None 0) same ∙ sym i.is
 
--- ---- each entry stands where it says
+-- ---- each entry is where it says
 
 -- a part after pre
 pub part-at : (pre x post : List ℕ) (i e : ℕ) → i ≡ length pre → e ≡ i + length x → between i e (pre ++ (x ++ post)) ≡ x
@@ -68,7 +68,7 @@ both-stand : (octets : List ℕ) (es fs : List Entry) → AllByRecursion (Stands
 both-stand octets [] fs h k = k
 both-stand octets (e ∷ es) fs h k = (h.0, both-stand octets es fs h.1 k)
 
--- each entry of values stands where it says
+-- each entry of values is where it says
 entries-stand : (vs : Members) (pre post octets : List ℕ) (at : ℕ) (parent : Option ℕ) (n : ℕ) → HaveHeaders vs
     → at ≡ length pre → octets ≡ pre ++ (spell vs ++ post) → AllByRecursion (StandsAt octets) (entries vs at parent n)
 entries-stand Empty pre post octets at parent n legal h is = tt
@@ -102,7 +102,7 @@ entries-stand (Constructed t ms rest) pre post octets at parent n legal h is =
           after),
     )
 
--- each entry of an index stands where it says
+-- each entry of an index is where it says
 pub index-stands : {octets : List ℕ} {index : List Entry} → IsIndex octets index
     → AllByRecursion (StandsAt octets) index
 index-stands {octets} {index} i =

@@ -147,7 +147,7 @@ inside-follows n e f high below grows end w =
       λ is. omega (arith, w.grows, w.ends, end),
     )
 
--- the entries behind the value of e follow it
+-- the entries after the value of e follow it
 behind-follows : (n k : ℕ) (e f : Entry) (low high : ℕ) (parent : Option ℕ) → IsBelow n parent → n < k
     → e.place < e.past → e.past ≤ low → IsWithin low high parent k f → Follows n e f
 behind-follows n k e f low high parent below above grows end w = (
@@ -160,7 +160,7 @@ below-more : (n k : ℕ) (parent : Option ℕ) → n ≤ k → IsBelow n parent 
 below-more n k None le h = h
 below-more n k (Some m) le h = omega (arith, le, h)
 
--- two lists in order are in order together, where all of the second stands behind the first
+-- two lists in order are in order together, where all of the second follows the first
 ordered-append : (n k mid low high : ℕ) (parent : Option ℕ) (es fs : List Entry) → k ≡ n + length es → mid ≤ low
     → IsBelow n parent
     → Ordered n es → AllByRecursion (λ e. (e.place < e.past) × (e.past ≤ mid)) es → Ordered k fs
@@ -285,7 +285,7 @@ pub numbers-skipped : (parent : Option ℕ) (es : List Entry) (x : Entry) (i j :
     → numbers_from i parent (drop i es) ≡ numbers_from j parent (drop j es)
 numbers-skipped parent es x i j le within other = skipped-by parent es x (j - i) i j (omega (arith, le)) within other
 
--- behind a member the next one does not begin in its value
+-- after a member the next one does not begin in its value
 pub siblings-apart : (es : List Entry) → AreInOrder es → (i j : ℕ) (e last : Entry) → slice_get es i ≡ Some e → i < j
     → j < length es
     → slice_get es j ≡ Some last → last.place < e.past

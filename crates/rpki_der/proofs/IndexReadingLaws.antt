@@ -1,4 +1,4 @@
--- What an entry of an index says of the octets where it stands.
+-- What an entry of an index says of the octets where it is.
 use Rattle.std.proofs.Common.{◌≡◌, ℕ, ◌+◌, ◌-◌, ◌≤◌, List, ◌++◌, length, take, drop, refl, sym, ap, ◌∙◌, arith}
 use Rattle.std.proofs.Common.{append_assoc, take-append-drop}
 use Rattle.std.specs.Prelude.{slice_range}
@@ -27,7 +27,7 @@ join-cut s i j e low high =
 abbrev pub header-in : Entry → Header
 header-in e = record { tag = e.tag; constructed = e.constructed; length = e.past - e.contents }
 
--- where an entry stands its header is read, whatever follows its contents
+-- where an entry is its header is read, whatever follows its contents
 pub entry-read : (octets : List ℕ) (e : Entry) (start end : ℕ) → StandsAt octets e → e.place ≡ start → e.past ≤ end
     → end ≤ length octets
     → Accepts SpellsHeader (slice_range octets start end) (header-in e) (slice_range octets e.contents end)

@@ -104,7 +104,7 @@ one-end false b es q e e' h h' = sym h ∙ h'
 
 -- ---- the entries to come
 
--- Whatever values are left in the open ones, whose names and ends are given, innermost first: with their entries those
+-- Whatever values remain in the open ones, whose names and ends are given, innermost first: with their entries those
 -- of one value have been added.
 abbrev pub Listed : ℕ → List Entry → List ℕ → List ℕ → List ℕ → ℕ → List Entry → Type 0
 Listed b old s [] [] place es = IsListed b old (take place s) es

@@ -113,7 +113,7 @@ pub octets-fit : (xs : List ℕ) → ((k : ℕ) → Fits w8 (get_or xs k 0)) →
 octets-fit [] h = tt
 octets-fit (x ∷ xs) h = ((h 0).fits, octets-fit xs (λ k. h (suc k)))
 
--- what is left where zeros in front were left out, as many as can be
+-- the rest where zeros in front were left out, as many as can be
 pub magnitude-left : (xs : List ℕ) (i : ℕ) → AreOctets xs → i < length xs → (i + 1 < length xs → 0 < get_or xs i 0)
     → IsMagnitude (drop i xs)
 magnitude-left xs i o in_xs some =

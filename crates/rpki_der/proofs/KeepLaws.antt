@@ -1,4 +1,4 @@
--- Parts of octets that stand in others.
+-- Parts of octets that are in others.
 use Rattle.std.proofs.Common.{◌≡◌, ℕ, ◌+◌, ◌-◌, ◌≤◌, Bool, Option, None, Some, Ok, List, [], ◌++◌, length, take, drop}
 use Rattle.std.proofs.Common.{refl, sym, ap, subst, ◌∙◌, arith, length-append}
 use Rattle.std.specs.Prelude.{slice_range}
@@ -12,7 +12,7 @@ use Rattle.rpki_der.specs.Standing.{StandsIn, StandsBefore}
 use Rattle.rpki_der.specs.TagName.{TagName}
 use Rattle.rpki_der.specs.Values.{SpellsContents}
 
--- ---- a part of what stands in a source
+-- ---- a part of what is in a source
 
 -- it is the same part of the source
 pub part-stands : (source : List ℕ) (end : ℕ) (s : List ℕ) (h : StandsIn source end s) (first i j : ℕ)
@@ -38,7 +38,7 @@ all-stands source end s h =
     let part = part-stands source end s h i 0 (length s) refl (omega arith) (omega arith) in
     rw (← last) at (rw start at (part ∙ whole))
 
--- octets that are a part of the source stand there
+-- octets that are a part of the source are there
 pub part-is-there : (source : List ℕ) (end : ℕ) (s : List ℕ) → length s ≤ end → end ≤ length source
     → slice_range source (end - length s) end ≡ s → StandsIn source end s
 part-is-there source end s fits within is =
@@ -81,7 +81,7 @@ part-before source end s part rest h inner =
       );
     }
 
--- ---- what stands in a list
+-- ---- what is in a list
 
 -- all of it
 pub all-in : (s : List ℕ) → StandsIn s (length s) s
@@ -147,7 +147,7 @@ tail-stands t f s c r whole h is =
 
 -- ---- what can be kept
 
--- what is left after a reading
+-- what remains after a reading
 pub held-after : {K V : Type 0} (holds : K → List ℕ → Type 0)
     (law : (k : K) (front rest : List ℕ) → holds k (front ++ rest) → holds k rest)
     {G : V → List ℕ → Type 0} {s r : List ℕ} {v : V} (k : K) → Accepts G s v r → holds k s → holds k r

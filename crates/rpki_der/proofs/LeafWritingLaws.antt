@@ -91,7 +91,7 @@ bits-apart a b small = (
       (λ (x : Bits). tlv bit_string false (bits_contents x)) e,
 )
 
--- a zero octet stands in front of one of them alone: then the other begins with zero, and has more than one octet
+-- a zero octet is in front of one of them alone: then the other begins with zero, and has more than one octet
 one-following : (a b : List ℕ) → IsMagnitude a → IsMagnitude b → a ≡ 0 ∷ b → ⊥
 one-following a b m k e =
     let longer = ap length e in

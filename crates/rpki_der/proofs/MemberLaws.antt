@@ -15,7 +15,7 @@ use Rattle.rpki_der.specs.IndexMembers.{numbers_from, member_numbers, HasEntry}
 use Rattle.rpki_der.proofs.MembersLaws.{header}
 use Rattle.rpki_der.proofs.IndexLaws.{part-at}
 
--- an entry of an index stands where it says
+-- an entry of an index is where it says
 pub stands-of : (octets : List ℕ) (index : List Entry) (n : ℕ) (e : Entry) → AllByRecursion (StandsAt octets) index
     → slice_get index n ≡ Some e → StandsAt octets e
 stands-of octets [] n e h is = absurd (cc)
@@ -56,14 +56,14 @@ members-within octets parent index i = numbers-within octets index i 0 parent in
 
 -- ---- a value whose members are primitive values
 
--- each entry's contents stand in the octets
+-- each entry's contents are in the octets
 abbrev pub AreContents : List ℕ → List Entry → List (List ℕ) → Type 0
 AreContents octets [] [] = Unit {0}
 AreContents octets [] (c ∷ cs) = ⊥
 AreContents octets (e ∷ es) [] = ⊥
 AreContents octets (e ∷ es) (c ∷ cs) = (slice_range octets e.contents e.past ≡ c) × AreContents octets es cs
 
--- primitive values, one after another, and their contents
+-- primitive values, in sequence, and their contents
 abbrev pub primitives : List (TagName × List ℕ) → Members
 primitives [] = Empty
 primitives (x ∷ xs) = Primitive x.0 x.1 (primitives xs)

@@ -87,7 +87,7 @@ any-octets s q x a = a.spells.parts ∙ ap (λ (y : List ℕ). y ++ q) a.spells.
 any-header : (s q : List ℕ) (x : Parts) → Accepts Any s x q → HasHeader x.0 (length x.2)
 any-header s q x a = (a.spells.spelled.value.tag, a.spells.spelled.value.fits)
 
--- what stands behind the header at the front
+-- what follows the header at the front
 pub behind-header : (s q : List ℕ) (x : Parts) (n : ℕ) → Accepts Any s x q → n ≡ length s - (length x.2 + length q)
     → drop n s ≡ x.2 ++ q
 behind-header s q x n a is =
@@ -134,7 +134,7 @@ any-fault s (Content x) some h = absurd h
 any-fault s Trailing some h = absurd h
 any-fault s OutOfMemory some h = absurd h
 
--- ---- where values by their headers stand, and members
+-- ---- where values by their headers are, and members
 
 -- The octets c, which w follows, are where members and then y are: c is members with everything nested in them, and
 -- others follow; or the members end among the values of c, in front of one of them.
@@ -293,7 +293,7 @@ list-opened t c w legal tiles (k, h) =
 abbrev pub Faults : List ℕ → List ℕ → Type 0
 Faults s d = (e : DecodeError) → HasNestedFault d e → HasNestedFault s e
 
--- d is left to be visited of s, and behind it the fault, if one was found
+-- d is left to be visited of s, and after it the fault, if one was found
 abbrev pub IsPending : List ℕ → List ℕ → Option DecodeError → Type 0
 IsPending s d None = Faults s d × (IsValueList d → IsValueList s)
 IsPending s d (Some e) = (r : List ℕ) × IsNestedFault r e × Faults s (d ++ r)

@@ -33,7 +33,7 @@ pub record IsLawfulWhole {V : Type 0} (P : Format V) : Type 0 where
   pub sound : (s : List ℕ) (v : V) (e : DecodeError) → e ≢ OutOfMemory → P.spells v s → P.fault s e → ⊥
   pub same : (s : List ℕ) → IsOne P.fault s
 
--- ---- parts, one after another
+-- ---- parts, in sequence
 
 module _ {V : Type 0} (F : Format V) (l : IsLawful F) where
   only-sound : (s : List ℕ) (v : V) (e : DecodeError) → e ≢ OutOfMemory → F.spells v s → (only F).fault s e → ⊥

@@ -157,7 +157,7 @@ length-part = record {
   errors = length-errors;
 }
 
--- ---- the first octet, and what is left after it, as a pattern of a slice gives them
+-- ---- the first octet, and what remains after it, as a pattern of a slice gives them
 
 abbrev pub tail : List ℕ → List ℕ
 tail s = take (length s - 1) (drop 1 s)

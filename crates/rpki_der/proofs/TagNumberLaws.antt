@@ -74,7 +74,7 @@ number-again n s ge lt =
     let fed = number-feed 3 (n / 128) (suc (3 - l)) ((n % 128) ∷ s) (omega arith) in
     rw append_assoc (rw (← four) at fed ∙ (rw same at last))
 
--- the room that is left for digits
+-- the remaining room for digits
 square : (i n : ℕ) → i ≤ 2 → n < 128 ^ i → n < 128 ^ 2
 square zero n le lt = omega (arith, pow-zero 128)
 square (suc zero) n le lt = omega arith

@@ -208,7 +208,7 @@ pub capture-memory : {s v r : List ℕ} → Accepts SpellsValue s v r
     → Refusal SpellsValue (OrMemoryWhere HasEither IsCaptureFault) s s OutOfMemory
 capture-memory a = record { unchanged = refl; refuses = tt; kind = has-either a }
 
--- nothing is left, wherever allocation may fail
+-- nothing remains, wherever allocation may fail
 pub capture-nothing : (P : List ℕ → Type 0) (s : List ℕ) → s ≡ []
     → Refusal SpellsValue (OrMemoryWhere P IsCaptureFault) s s Truncated
 capture-nothing P s z = record {

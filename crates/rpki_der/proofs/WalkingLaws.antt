@@ -1,4 +1,4 @@
--- What is left to do in the middle of a value.
+-- What remains to be done in the middle of a value.
 use Rattle.std.proofs.Common.{◌≡◌, ℕ, ◌+◌, ◌-◌, ◌<◌, ◌≤◌, Bool, true, false, not, List, [], ◌∷◌, ◌++◌, length, take}
 use Rattle.std.proofs.Common.{drop, get_or, reverse, Some, refl, sym, ap, ◌∙◌, subst, arith, append_assoc, append-nil}
 use Rattle.std.proofs.Common.{length-append, length-drop, take-append-drop}
@@ -51,7 +51,7 @@ pub record IsBroken (octets : List ℕ) (e : DecodeError) : Type 0 where
   pub is : octets ≡ spell members ++ rest
   pub fault : IsNestedFault rest e
 
--- What is left of the innermost open value, and what it will do to the values around it.
+-- The rest of the innermost open value, and what it will do to the values around it.
 pub record Level (s : List ℕ) (place end n : ℕ) (Then : ℕ → Type 0) : Type 0 where
   pub low : place ≤ end
   pub high : end ≤ length s

@@ -17,7 +17,7 @@ pub data NotCaptured {X E : Type 0} (turned : DecodeError → E → Type 0)
   NotKept : (x : X) (d front rest : List ℕ) (c : DecodeError) → Whole reads s (Ok x) d → s ≡ front ++ rest
       → length rest ≡ length d → (IsValueList front → c ≡ OutOfMemory) → turned c e → NotCaptured turned reads s e
 
--- The reader took octets away from the front of s, which are kept, and r is left; or s is left as it was.
+-- The reader took octets away from the front of s, which are kept, and r remains; or s is left as it was.
 abbrev pub Captures : {X E : Type 0} → (DecodeError → E → Type 0)
     → (Constructed → Result X E → Constructed → Type 0) → List ℕ → List ℕ → Result (List ℕ) E → Type 0
 Captures {X} turned reads s r (Ok kept) =

@@ -1,4 +1,4 @@
--- Values of one type, one after another (X.690 8.10, 8.12), and a reader that another reader's calls make up.
+-- Values of one type, in sequence (X.690 8.10, 8.12), and a reader that another reader's calls make up.
 use Rattle.std.specs.Prelude.{◌≡◌, ◌≢◌, ◌<◌, ◌≤◌, ◌⊎◌, ℕ, List, [], ◌∷◌, length, Result, Ok, Err}
 use Rattle.std.specs.Fn.{Shared}
 use denote.Ref.{MutBor}
@@ -9,7 +9,7 @@ use Rattle.rpki_der.specs.Reading.{Spells, Finds, OrMemoryWhere}
 use Rattle.rpki_der.specs.Composed.{Whole}
 use Rattle.rpki_der.specs.FirstFault.{RepeatedFault}
 
--- the spellings of these values, one after another
+-- the spellings of these values, in sequence
 abbrev pub SpellsEach : {V : Type 0} → (V → List ℕ → Type 0) → List V → List ℕ → Type 0
 SpellsEach G [] p = p ≡ []
 SpellsEach G (v ∷ vs) p = (following : List ℕ) × Spells G p v following × SpellsEach G vs following
@@ -35,14 +35,14 @@ pub record CallReads {F R : Type 0}
   pub met : g.post f (shown, tt) (x, (left, tt))
   pub leaves : left.now ≡ a
 
--- Calls of the reader, one after another, read these values of s and left r. Each moved on.
+-- Calls of the reader, in sequence, read these values of s and left r. Each moved on.
 pub data EachRead {X E : Type 0} (reads : Constructed → Result X E → Constructed → Type 0) :
     List ℕ → List X → List ℕ → Type 0 where
   NoneRead : {s : List ℕ} → EachRead reads s [] s
   NextRead : {s m r : List ℕ} {x : X} {xs : List X} → s ≢ [] → Whole reads s (Ok x) m → length m < length s
       → EachRead reads m xs r → EachRead reads s (x ∷ xs) r
 
--- The error e of s: after some values the reader rejects what is left of it; or it returns a value of it and doesn't
+-- The error e of s: after some values the reader rejects the rest of it; or it returns a value of it and doesn't
 -- move on; or there is no memory to keep the value.
 pub data NotEach {X E : Type 0} (turned : DecodeError → E → Type 0)
     (reads : Constructed → Result X E → Constructed → Type 0) (s : List ℕ) (e : E) : Type 0 where

@@ -1,4 +1,4 @@
--- Values of one type, one after another, that lead from one state to the next: attributes and extensions, each kind
+-- Values of one type, in sequence, that lead from one state to the next: attributes and extensions, each kind
 -- once, in any order (X.690 8.10, 8.12).
 use Rattle.std.specs.Prelude.{◌≡◌, ◌≢◌, ◌<◌, ◌≤◌, ℕ, List, [], ◌∷◌, length, Result, Ok, Err}
 use Rattle.std.specs.Fn.{Shared}
@@ -52,14 +52,14 @@ pub record CallFolds {F S R : Type 0}
   pub met : g.post f (shown, (from, tt)) (x, (left, tt))
   pub leaves : left.now ≡ a
 
--- Calls of the reader, one after another, led from one state to the other, read some of s and left r. Each moved on.
+-- Calls of the reader, in sequence, led from one state to the other, read some of s and left r. Each moved on.
 pub data Folded {S E : Type 0} (reads : S → Constructed → Result S E → Constructed → Type 0) :
     S → List ℕ → S → List ℕ → Type 0 where
   NoneFolded : {from : S} {s : List ℕ} → Folded reads from s from s
   NextFolded : {from next to : S} {s m r : List ℕ} → s ≢ [] → Whole (reads from) s (Ok next) m → length m < length s
       → Folded reads next m to r → Folded reads from s to r
 
--- The error e of s: after some calls the reader rejects what is left of it; or it returns a state and doesn't move on.
+-- The error e of s: after some calls the reader rejects the rest of it; or it returns a state and doesn't move on.
 pub data NotFolded {S E : Type 0} (turned : DecodeError → E → Type 0)
     (reads : S → Constructed → Result S E → Constructed → Type 0) (from : S) (s : List ℕ) (e : E) : Type 0 where
   RefusedFold : (now : S) (m d : List ℕ) → Folded reads from s now m → m ≢ [] → Whole (reads now) m (Err e) d

@@ -30,7 +30,7 @@ octets_under t = record { spells = SpellsContents t false; fault = IsContentsFau
 abbrev pub around : {V : Type 0} → TagName → Format V → Format V
 around t P = record { spells = SpellsLeaf t true P.spells; fault = IsInsideFault t true P.fault }
 
--- ---- parts, one after another (X.690 8.9)
+-- ---- parts, in sequence (X.690 8.9)
 
 -- a part, and then what P says of its value
 abbrev pub then_by : {A B : Type 0} → Format A → (A → Format B) → Format (A × B)
@@ -58,7 +58,7 @@ end = record { spells = λ u s. s ≡ []; fault = IsEndFault }
 abbrev pub only : {V : Type 0} → Format V → Format V
 only F = record { spells = F.spells; fault = FirstFault F.spells F.fault (λ v. IsEndFault) }
 
--- values, one after another, which are kept (X.690 8.10)
+-- values, in sequence, which are kept (X.690 8.10)
 abbrev pub each : {V : Type 0} → Format V → Format (List V)
 each F = record { spells = SpellsEach F.spells; fault = IsEachFault F.spells F.fault }
 
@@ -127,7 +127,7 @@ abbrev pub TakesWhere : {X V : Type 0} → TagName → (X → V) → Format V �
     → Type 0
 TakesWhere t view F = ReadsWhere (HasTag t) view F.spells F.fault
 
--- A reader of all that is left, which has to be of P.
+-- A reader of the whole rest, which has to be of P.
 abbrev pub TakesAll : {X V : Type 0} → (X → V) → Format V → List ℕ → List ℕ → Result X DecodeError → Type 0
 TakesAll view P = ReadsParts view P.spells P.fault
 

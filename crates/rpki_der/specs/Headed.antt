@@ -7,7 +7,7 @@ use Rattle.rpki_der.specs.Each.{SpellsEach}
 use Rattle.rpki_der.specs.Members.{Members, spell, HaveHeaders}
 use Rattle.rpki_der.specs.NestedFault.{IsNestedFault}
 
--- values, one after another, whose headers are read and whose contents aren't looked at
+-- values, in sequence, whose headers are read and whose contents aren't looked at
 abbrev pub AreHeaded : List ℕ → Type 0
 AreHeaded s = (vs : List (TagName × Bool × List ℕ)) × SpellsEach (SpellsWanted IsAnyTag) vs s
 

@@ -28,7 +28,7 @@ pub record SpellsLongLength (count n : ℕ) (p : List ℕ) : Type 0 where
 abbrev pub IsPartFault : {V : Type 0} → (V → List ℕ → Type 0) → DecodeError → List ℕ → DecodeError → Type 0
 IsPartFault G bad s e = ((e ≡ Truncated) × IsCut G s) ⊎ ((e ≡ bad) × (IsCut G s → ⊥))
 
--- A reader of such a part found s. Its result x stands for a value and what is left.
+-- A reader of such a part found s. Its result x stands for a value and the rest.
 abbrev pub ReadsPart : {X V : Type 0} → (X → V × List ℕ) → (V → List ℕ → Type 0) → DecodeError → List ℕ
     → Result X DecodeError → Type 0
 ReadsPart view G bad s (Ok x) = Accepts G s (view x).0 (view x).1

@@ -21,7 +21,7 @@ entry place parent t f c =
     let contents = place + length (identifier_octets t f ++ length_octets (length c)) in
     record { place = place; contents = contents; past = contents + length c; tag = t; constructed = f; parent = parent }
 
--- The entries of values that begin at this place, one after another, in the value of this parent, where so many entries
+-- The entries of values that begin at this place, in sequence, in the value of this parent, where so many entries
 -- come before.
 abbrev pub entries : Members → ℕ → Option ℕ → ℕ → List Entry
 entries Empty place parent number = []
@@ -39,7 +39,7 @@ pub record IsIndex (octets : List ℕ) (index : List Entry) : Type 0 where
   pub spelled : octets ≡ spell members
   pub is : index ≡ entries members 0 None 0
 
--- The header of an entry stands at its place in the octets, and its contents after it.
+-- The header of an entry is at its place in the octets, and its contents after it.
 pub record StandsAt (octets : List ℕ) (e : Entry) : Type 0 where
   pub tag : IsTag e.tag
   pub fits : e.past - e.contents < 2 ^ 32

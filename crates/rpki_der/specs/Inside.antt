@@ -1,4 +1,4 @@
--- What stands inside a value.
+-- What is inside a value.
 use Rattle.std.specs.Prelude.{ℕ, true, List}
 use Rattle.rpki_der.specs.TagName.{TagName}
 use Rattle.rpki_der.specs.Reading.{Spells}

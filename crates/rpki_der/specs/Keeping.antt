@@ -5,13 +5,13 @@ use denote.Ref.{MutBor}
 use Rattle.rpki_der.specs.declared.cursor.Constructed.{Constructed}
 use Rattle.rpki_der.specs.Cursor.{left}
 
--- f may be called at any cursor, with what can keep the octets that are left
+-- f may be called at any cursor, with what can keep the remaining octets
 abbrev pub TakesKept : {F K R : Type 0} → (K → List ℕ → Type 0)
     → Once F (MutBor Constructed × (K × Unit {0})) (R × (MutBor Constructed × Unit {0})) → F → Type 0
 TakesKept {F} {K} holds g f =
     (keep : K) (shown : MutBor Constructed) → holds keep (left shown.now) → g.pre f (shown, (keep, tt))
 
--- a call of f at the cursor b, with what can keep the octets that are left, may return x and leave the cursor a
+-- a call of f at the cursor b, with what can keep the remaining octets, may return x and leave the cursor a
 pub record KeptReads {F K R : Type 0} (holds : K → List ℕ → Type 0)
     (g : Once F (MutBor Constructed × (K × Unit {0})) (R × (MutBor Constructed × Unit {0}))) (f : F) (b : Constructed)
     (x : R) (a : Constructed) : Type 0 where
@@ -40,6 +40,6 @@ pub record KeptCallReads {F K R : Type 0} (holds : K → List ℕ → Type 0)
   pub met : g.post f (shown, (keep, tt)) (x, (rest, tt))
   pub leaves : rest.now ≡ a
 
--- a value is read from the front: what is left then is what follows a beginning
+-- a value is read from the front: what remains then is what follows a beginning
 abbrev pub LeavesRest : {X E : Type 0} → (Constructed → Result X E → Constructed → Type 0) → Type 0
 LeavesRest {X} reads = (b a : Constructed) (x : X) → reads b (Ok x) a → (front : List ℕ) × (left b ≡ front ++ left a)

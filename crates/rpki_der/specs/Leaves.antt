@@ -41,7 +41,7 @@ boolean_contents false = 0 ∷ []
 abbrev pub IsBoolean : Bool → List ℕ → Type 0
 IsBoolean b c = c ≡ boolean_contents b
 
--- Contents of an OBJECT IDENTIFIER: subidentifiers, one after another. The last octet of each has the top bit clear and
+-- Contents of an OBJECT IDENTIFIER: subidentifiers, in sequence. The last octet of each has the top bit clear and
 -- its other octets have it set, and none begins with 80 (X.690 8.19.2).
 pub record IsOid (c : List ℕ) : Type 0 where
   pub nonempty : 0 < length c

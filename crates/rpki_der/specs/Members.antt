@@ -3,13 +3,13 @@ use Rattle.std.specs.Prelude.{◌≡◌, ℕ, true, false, ◌+◌, ◌<◌, ◌
 use Rattle.rpki_der.specs.TagName.{TagName, IsTag}
 use Rattle.rpki_der.specs.Header.{tlv}
 
--- Values, one after another: the first is a tag with octets, or a tag with the values that are its members.
+-- Values, in sequence: the first is a tag with octets, or a tag with the values that are its members.
 pub data Members : Type 0 where
   Empty : Members
   Primitive : (tag : TagName) (contents : List ℕ) (rest : Members) → Members
   Constructed : (tag : TagName) (members rest : Members) → Members
 
--- the octets of values, one after another
+-- the octets of values, in sequence
 abbrev pub spell : Members → List ℕ
 spell Empty = []
 spell (Primitive t c rest) = tlv t false c ++ spell rest
@@ -33,7 +33,7 @@ header_count Empty = 0
 header_count (Primitive t c rest) = 1 + header_count rest
 header_count (Constructed t ms rest) = 1 + header_count ms + header_count rest
 
--- these octets are k values, one after another
+-- these octets are k values, in sequence
 pub record AreValues (k : ℕ) (octets : List ℕ) : Type 0 where
   pub members : Members
   pub legal : HaveHeaders members

@@ -21,6 +21,6 @@ pub data IsNestedFault : List ℕ → DecodeError → Type 0 where
       → length (spell ms ++ r) < 2 ^ 32 → HaveHeaders ms
       → s ≡ tlv t true (spell ms ++ r) ++ after → IsNestedFault r e → IsNestedFault s e
 
--- The fault where one value is required: Truncated where nothing is left.
+-- The fault where one value is required: Truncated where nothing remains.
 abbrev pub IsCaptureFault : List ℕ → DecodeError → Type 0
 IsCaptureFault s e = ((s ≡ []) × (e ≡ Truncated)) ⊎ IsNestedFault s e

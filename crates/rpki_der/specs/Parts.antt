@@ -1,4 +1,4 @@
--- Parts, one after another, as the contents of a SEQUENCE are (X.690 8.9).
+-- Parts, in sequence, as the contents of a SEQUENCE are (X.690 8.9).
 use Rattle.std.specs.Prelude.{◌≡◌, ℕ, List, ◌++◌, Option, Some, None}
 
 -- a spelling of a, and then one of b

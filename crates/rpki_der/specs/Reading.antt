@@ -1,17 +1,17 @@
--- What a reader does with the octets that are left, in the terms of a grammar: a relation between a value and
+-- What a reader does with the remaining octets, in the terms of a grammar: a relation between a value and
 -- the lists that spell it.
 use Rattle.std.specs.Prelude.{◌≡◌, ◌≢◌, ℕ, List, ◌∷◌, ◌++◌, Result, Ok, Err, Option, Some, None}
 use Rattle.rpki_der.specs.declared.error.DecodeError.{DecodeError}
 use Rattle.rpki_der.specs.declared.error.DecodeError.TheVariants.{Truncated, BadTag, BadLength, Unexpected, Content}
 use Rattle.rpki_der.specs.declared.error.DecodeError.TheVariants.{Trailing, OutOfMemory}
 
--- s begins with a spelling of v, and r is left
+-- s begins with a spelling of v, and r remains
 pub record Spells {V : Type 0} (G : V → List ℕ → Type 0) (s : List ℕ) (v : V) (r : List ℕ) : Type 0 where
   pub front : List ℕ
   pub parts : s ≡ front ++ r
   pub spelled : G v front
 
--- s begins with a spelling of v, r is left, and s begins with no other spelling
+-- s begins with a spelling of v, r remains, and s begins with no other spelling
 pub record Accepts {V : Type 0} (G : V → List ℕ → Type 0) (s : List ℕ) (v : V) (r : List ℕ) : Type 0 where
   pub spells : Spells G s v r
   pub only : (w : V) (q : List ℕ) → Spells G s w q → (w ≡ v) × (q ≡ r)

@@ -1,7 +1,7 @@
--- Octets that stand in others.
+-- Octets that are in others.
 use Rattle.std.specs.Prelude.{◌≡◌, ◌+◌, ◌++◌, ℕ, List, length}
 
--- s stands in the source, and ends at this place
+-- s is in the source, and ends at this place
 pub record StandsIn (source : List ℕ) (end : ℕ) (s : List ℕ) : Type 0 where
   pub before : List ℕ
   pub after : List ℕ

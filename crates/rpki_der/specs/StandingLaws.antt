@@ -1,9 +1,9 @@
--- Octets that stand in others.
+-- Octets that are in others.
 use Rattle.std.proofs.Common.{ℕ, List, ◌++◌, ap, ◌∙◌, sym, arith, length-append}
 use Rattle.std.proofs.lemmas.List.{append_assoc}
 use Rattle.rpki_der.specs.Standing.{StandsIn}
 
--- what follows a beginning stands there too
+-- what follows a beginning is there too
 pub rest-stands : {source : List ℕ} {end : ℕ} (front rest : List ℕ) → StandsIn source end (front ++ rest)
     → StandsIn source end rest
 rest-stands front rest held = record {

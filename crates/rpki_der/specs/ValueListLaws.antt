@@ -1,4 +1,4 @@
--- Lists of values, one after another.
+-- Lists of values, in sequence.
 use Rattle.std.specs.Prelude.{◌≡◌, ℕ, Bool, true, false, ◌+◌, ◌<◌, ◌^◌, List, [], ◌++◌, length, refl}
 use Rattle.std.proofs.Common.{sym, ap, ◌∙◌, arith, append_assoc, append-nil, lit<}
 use Rattle.rpki_der.specs.TagName.{TagName, IsTag, sequence, set, octet_string}

@@ -51,7 +51,7 @@ IsHeaderFault s Trailing = ⊥
 IsHeaderFault s OutOfMemory = ⊥
 
 -- The first fault of a reader of values whose header has to be as W says, and of which Cut says that they are cut
--- short: that of the header; then another header; then contents that are longer than what is left.
+-- short: that of the header; then another header; then contents that are longer than the rest.
 abbrev pub IsValueFault : (Header → Type 0) → (List ℕ → Type 0) → List ℕ → DecodeError → Type 0
 IsValueFault W Cut s Truncated = IsCut SpellsHeader s ⊎ Cut s
 IsValueFault W Cut s BadTag = IsHeaderFault s BadTag

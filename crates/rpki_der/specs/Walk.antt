@@ -5,7 +5,7 @@ use Rattle.rpki_der.specs.Reading.{Spells}
 use Rattle.rpki_der.specs.Values.{SpellsContents}
 use Rattle.rpki_der.specs.Members.{IsValue, IsValueOf}
 
--- something is left
+-- something remains
 abbrev pub IsNotEmpty : List ℕ → Type 0
 IsNotEmpty s = s ≢ []
 

@@ -182,7 +182,7 @@ impl<'a> Constructed<'a> {
     }
 
     /// A bit string (X.690 8.6, 11.2), whose octets are kept. An allocator copies them, and [Shared](crate::Shared)
-    /// shares them; requires that `keep` can keep parts of what is left.
+    /// shares them; requires that `keep` can keep parts of the rest.
     ///
     /// The errors are those of a header; then `Unexpected` for another tag or form; then `Truncated`; then `Content`
     /// for contents that are not those of a bit string; then `OutOfMemory` if allocation fails.

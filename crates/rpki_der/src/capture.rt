@@ -12,7 +12,7 @@ use crate::keep::Keep;
 
 impl<'a> Constructed<'a> {
     /// Keeps the octets that `op` reads, with their index: as many from the front as `op` takes away. An allocator
-    /// copies them, and [Shared](crate::Shared) shares them; requires that `keep` can keep parts of what is left.
+    /// copies them, and [Shared](crate::Shared) shares them; requires that `keep` can keep parts of the rest.
     ///
     /// Returns the error of `op`. Where `op` succeeds, returns `Trailing` if it leaves more octets than there were, the
     /// error of the first of the octets that is no value if they are not values, and `OutOfMemory` if allocation fails.

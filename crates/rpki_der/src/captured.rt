@@ -13,7 +13,7 @@ use bytes::Bytes;
 use std::alloc::{AllocError, Global};
 use std::marker::Model;
 
-/// A list of values, as the octets that encode them one after another (X.690 8.1.1, 8.1.2.5). At every depth the
+/// A list of values, as the octets that encode them in sequence (X.690 8.1.1, 8.1.2.5). At every depth the
 /// contents of a constructed value are values that fill them; the contents of primitive values are not validated. An
 /// index of all their headers is kept with them.
 #[derive(Debug, Drop)]

@@ -30,7 +30,7 @@ impl<'a> Constructed<'a> {
         Ok(found)
     }
 
-    /// Reads all that is left by `op`.
+    /// Reads the whole rest by `op`.
     ///
     /// Returns the error of `op`; `Trailing` if it leaves something.
     pub fn whole<

@@ -15,7 +15,7 @@ use crate::tag::Tag;
 impl<'a> Constructed<'a> {
     /// As [Constructed::whole], for a reader that keeps octets: `op` gets the keeper.
     ///
-    /// Requires that `keep` can keep parts of what is left.
+    /// Requires that `keep` can keep parts of the rest.
     pub fn whole_with<
         K: Keep,
         T: Drop,
@@ -34,7 +34,7 @@ impl<'a> Constructed<'a> {
 
     /// As [Constructed::in_constructed], for a reader that keeps octets: `op` gets the keeper for the contents.
     ///
-    /// Requires that `keep` can keep parts of what is left.
+    /// Requires that `keep` can keep parts of the rest.
     pub fn in_constructed_with<
         K: Keep,
         T: Drop,
@@ -57,7 +57,7 @@ impl<'a> Constructed<'a> {
 
     /// As [Constructed::in_sequence], for a reader that keeps octets: `op` gets the keeper for the contents.
     ///
-    /// Requires that `keep` can keep parts of what is left.
+    /// Requires that `keep` can keep parts of the rest.
     pub fn in_sequence_with<
         K: Keep,
         T: Drop,
@@ -74,7 +74,7 @@ impl<'a> Constructed<'a> {
 
     /// As [Constructed::in_set], for a reader that keeps octets: `op` gets the keeper for the contents.
     ///
-    /// Requires that `keep` can keep parts of what is left.
+    /// Requires that `keep` can keep parts of the rest.
     pub fn in_set_with<
         K: Keep,
         T: Drop,
@@ -91,7 +91,7 @@ impl<'a> Constructed<'a> {
 
     /// As [Constructed::take_each], for a reader that keeps octets: `op` gets the keeper.
     ///
-    /// Requires that `keep` can keep parts of what is left, and that `op`, where it returns a value, reads from the
+    /// Requires that `keep` can keep parts of the rest, and that `op`, where it returns a value, reads from the
     /// front.
     pub fn take_each_with<
         K: Keep,

@@ -16,14 +16,14 @@ use std::marker::Model;
 /// A cursor over values: on octets ([Constructed]), or on captured values by their index
 /// ([IndexedCursor](crate::IndexedCursor)). A reader that is generic over it reads both.
 pub trait Cursor: Copy {
-    /// What is left.
+    /// The rest.
     ghost octets_left: { Self → List ℕ };
 
-    /// The octets that are left.
+    /// The remaining octets.
     fn octets(&self) -> &[u8]
         ensures { result.now ≡ octets_left self.now };
 
-    /// Whether nothing is left.
+    /// Whether nothing remains.
     fn is_at_end(&self) -> bool
         ensures { IsTrue result ↔ (octets_left self.now ≡ []) }
     {
@@ -38,7 +38,7 @@ pub trait Cursor: Copy {
             (octets_left self.old) (octets_left self.new) result };
 }
 
-/// What is left of octets, or of the contents of a value in them.
+/// The rest of octets, or of the contents of a value in them.
 ///
 /// A reader moves the cursor past what it reads. A reader that fails leaves it where it was. A cursor is a slice, two
 /// words, and doesn't know what octets that is a part of: a reader that keeps some of them asks for what it needs, a
@@ -87,7 +87,7 @@ impl<'a> Constructed<'a> {
         Constructed { rest: octets }
     }
 
-    /// The octets that are left.
+    /// The remaining octets.
     #[inline(always)]
     #[tactic(auto, unfolding(crate::specs::Cursor::left))]
     pub fn rest(&self) -> &'a [u8]
@@ -96,7 +96,7 @@ impl<'a> Constructed<'a> {
         self.rest
     }
 
-    /// Whether nothing is left.
+    /// Whether nothing remains.
     #[inline(always)]
     #[tactic(auto, unfolding(crate::specs::Cursor::left))]
     pub fn is_empty(&self) -> bool
@@ -105,7 +105,7 @@ impl<'a> Constructed<'a> {
         self.rest.is_empty()
     }
 
-    /// How many octets are left.
+    /// How many octets remain.
     #[inline(always)]
     #[tactic(auto, unfolding(crate::specs::Cursor::left))]
     pub(crate) fn len(&self) -> usize
@@ -128,7 +128,7 @@ impl<'a> Constructed<'a> {
         (front, following)
     }
 
-    /// Returns Ok if nothing is left, else `Trailing`: the last step of a reader of whole octets, or of whole contents.
+    /// Returns Ok if nothing remains, else `Trailing`: the last step of a reader of whole octets, or of whole contents.
     #[inline(always)]
     pub fn finish(self) -> Result<(), DecodeError>
         ensures { MatchResult result (λ _. left self.entry ≡ [])
@@ -181,7 +181,7 @@ impl<'a> Constructed<'a> {
         Ok(header)
     }
 
-    /// Whether what is left begins with the identifier octets of this tag, in either form.
+    /// Whether the rest begins with the identifier octets of this tag, in either form.
     #[inline(always)]
     pub fn has_tag(&self, tag: Tag) -> bool
         ensures { IsTrue result ↔ HasTag tag (left self.now) }
@@ -189,15 +189,15 @@ impl<'a> Constructed<'a> {
         begins_with(self.rest(), tag)
     }
 
-    /// Whether exactly these octets are left.
+    /// Whether exactly these octets remain.
     pub(crate) fn rest_is(&self, expected: &[u8]) -> bool
         ensures { IsTrue result ↔ (left self.now ≡ expected.now) }
     {
         self.rest() == expected
     }
 
-    /// Keeps a part of the octets that are left: that which stands before what is left of another cursor. An allocator
-    /// copies it, and [Shared](crate::Shared) shares it; requires that `keep` can keep parts of what is left.
+    /// Keeps a part of the remaining octets: that which is before the rest of another cursor. An allocator
+    /// copies it, and [Shared](crate::Shared) shares it; requires that `keep` can keep parts of the rest.
     ///
     /// Returns `AllocError` if allocation fails.
     #[tactic(auto, unfolding(crate::specs::Cursor::left))]

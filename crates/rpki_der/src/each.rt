@@ -1,4 +1,4 @@
-//! Values of one type, one after another.
+//! Values of one type, in sequence.
 
 ghost use Rattle.rpki_der.specs.Cursor.{left};
 ghost use Rattle.rpki_der.specs.Each.{CallReads, ReadsEach};
@@ -9,8 +9,8 @@ use crate::error::DecodeError;
 use std::alloc::Global;
 
 impl<'a> Constructed<'a> {
-    /// The values of what is left, as the contents of a SEQUENCE OF or a SET OF are (X.690 8.10, 8.12), in their order:
-    /// `op` reads one after another, until nothing is left. There may be none.
+    /// The values of the rest, as the contents of a SEQUENCE OF or a SET OF are (X.690 8.10, 8.12), in their order:
+    /// `op` reads in sequence, until nothing remains. There may be none.
     ///
     /// Returns the error of `op`; `Trailing` where `op` returns a value and the cursor hasn't moved on; `OutOfMemory`
     /// if allocation fails for a value that was read. An error leaves the cursor where it was.
@@ -39,9 +39,9 @@ impl<'a> Constructed<'a> {
         Ok(values)
     }
 
-    /// The state that the values of what is left lead to, one after another, until nothing is left: `op` reads one and
-    /// returns the next state, beginning with `first`. So attributes or extensions are read of which each kind stands
-    /// once at most, in any order. There may be none.
+    /// The state that the values of the rest lead to, in sequence, until nothing remains: `op` reads one and returns
+    /// the next state, beginning with `first`. So attributes or extensions are read of which each kind occurs once at
+    /// most, in any order. There may be none.
     ///
     /// Returns the error of `op`; `Trailing` where `op` returns a state and the cursor hasn't moved on. An error leaves
     /// the cursor where it was.

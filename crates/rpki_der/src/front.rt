@@ -1,4 +1,4 @@
-//! What stands at the front of a slice, read without a cursor and without a copy.
+//! What is at the front of a slice, read without a cursor and without a copy.
 
 ghost use Rattle.std.specs.Prelude.{◌≡◌, ◌+◌, ◌-◌, ◌*◌, ◌^◌, ◌<◌, ◌≤◌, ◌⊎◌, List, [], length, take, drop, Err, IfOk};
 ghost use Rattle.std.specs.Prelude.{IfErr, OnErr};

@@ -6,7 +6,7 @@ use crate::kind::Kind;
 use crate::tag::{Header, Tag};
 use std::marker::Model;
 
-/// A header in an index: where it and its contents stand, and what it says.
+/// A header in an index: where it and its contents are, and what it says.
 #[derive(Clone, Copy, Debug, PartialEq, Eq)]
 pub struct HeaderEntry {
     place: usize,

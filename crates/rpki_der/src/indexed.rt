@@ -13,7 +13,7 @@ use crate::header::{HeaderAndRest, header};
 use crate::index::HeaderEntry;
 use crate::tag::{Header, Tag};
 
-/// What is left of captured values, or of the contents of one of them. It takes each header from their index, instead
+/// The rest of captured values, or of the contents of one of them. It takes each header from their index, instead
 /// of reading it again.
 #[derive(Clone, Copy)]
 pub struct IndexedCursor<'a> {
@@ -52,7 +52,7 @@ impl<'a> IndexedCursor<'a> {
     ghost use Rattle.rpki_der.specs.Reading.{Reads, Accepts, Refuses};
     ghost use Rattle.rpki_der.specs.Values.{SpellsHeader, SpellsContents, IsHeaderFault, IsContentsFault};
 
-    /// The number of the first entry that does not stand before the start.
+    /// The number of the first entry that is not before the start.
     fn number(&self) -> usize {
         let mut low = self.next;
         if low < self.index.len() && self.index[low].place() == self.start {
@@ -84,7 +84,7 @@ impl<'a> IndexedCursor<'a> {
         }
     }
 
-    /// The octets that are left.
+    /// The remaining octets.
     #[tactic(auto, using(crate::proofs::CursorLaws::cuts), unfolding(crate::specs::IndexedCursor::indexed_left))]
     fn rest(&self) -> &'a [u8]
         ensures { result.now ≡ indexed_left self.now }
@@ -92,7 +92,7 @@ impl<'a> IndexedCursor<'a> {
         &self.source[self.start..self.end]
     }
 
-    /// How many octets are left.
+    /// How many octets remain.
     #[tactic(auto, using(crate::proofs::CursorLaws::cuts), unfolding(crate::specs::IndexedCursor::indexed_left))]
     fn len(&self) -> usize
         ensures { result ≡ length (indexed_left self.now) }

@@ -6,7 +6,7 @@ ghost use Rattle.rpki_der.specs.Standing.{StandsBefore};
 use bytes::Bytes;
 use std::alloc::{AllocError, Global};
 
-/// How a reader keeps some of the octets that are left of a cursor: the allocator, [Global], copies them; [Shared]
+/// How a reader keeps some of the remaining octets of a cursor: the allocator, [Global], copies them; [Shared]
 /// shares the octets that they are a part of.
 pub trait Keep: Copy {
     /// The octets of which it can keep parts.
@@ -29,7 +29,7 @@ pub trait Keep: Copy {
         requires within { end ≤ length octets.now }
         ensures { IfOk result (λ b. b ≡ slice_range octets.now start end) };
 
-    /// The keeper for a part of the octets, such as the contents of a value, that stands before the rest of them.
+    /// The keeper for a part of the octets, such as the contents of a value, that is before the rest of them.
     ///
     /// Requires that it can keep parts of the octets.
     fn before(&self, octets: &[u8], part: &[u8], rest: &[u8]) -> Self

@@ -44,7 +44,7 @@ impl<'a> Constructed<'a> {
         Ok(())
     }
 
-    /// As [Constructed::take_null] where what is left begins with the identifier octets of a NULL, in either form; else
+    /// As [Constructed::take_null] where the rest begins with the identifier octets of a NULL, in either form; else
     /// None.
     #[inline(always)]
     pub fn take_opt_null(&mut self) -> Result<Option<()>, DecodeError>
@@ -76,7 +76,7 @@ impl<'a> Constructed<'a> {
         }
     }
 
-    /// As [Constructed::take_bool] where what is left begins with the identifier octets of a BOOLEAN, in either form;
+    /// As [Constructed::take_bool] where the rest begins with the identifier octets of a BOOLEAN, in either form;
     /// else None.
     #[inline(always)]
     pub fn take_opt_bool(&mut self) -> Result<Option<bool>, DecodeError>
@@ -89,7 +89,7 @@ impl<'a> Constructed<'a> {
         Ok(Some(value))
     }
 
-    /// A BOOLEAN DEFAULT FALSE (X.690 11.5: the default value is never written): true where what is left begins with
+    /// A BOOLEAN DEFAULT FALSE (X.690 11.5: the default value is never written): true where the rest begins with
     /// the identifier octets of a BOOLEAN, in either form, and the value is TRUE; false where it doesn't begin so, and
     /// then nothing is read.
     ///

@@ -12,8 +12,8 @@ use crate::cursor::Constructed;
 use crate::index::HeaderEntry;
 use std::alloc::AllocError;
 
-/// The numbers of the entries of the members of one value, or of the values that stand in no other, in order. From one
-/// member it goes to the next by halving, past the entries of all that stands inside.
+/// The numbers of the entries of the members of one value, or of the values that are in no other, in order. From one
+/// member it goes to the next by halving, past the entries of all that is inside.
 #[derive(Debug, Drop)]
 pub struct Members<'a> {
     entries: &'a [HeaderEntry],

@@ -1,7 +1,7 @@
 //! One value, read with everything nested in it, and without memory.
 //!
 //! Headers are visited from the left, each once, and nothing is kept of the values that are open: at the header of a
-//! constructed value its contents are tiled first, which are values one after another by their headers alone. So each
+//! constructed value its contents are tiled first, which are values in sequence by their headers alone. So each
 //! header is read twice at most; that of a primitive value which isn't nested, once. Where the tiles end early there is
 //! a fault: the headers before it are visited all the same, and none after it, so that the last fault that is found is
 //! the leftmost.
@@ -18,7 +18,7 @@ use crate::cursor::Constructed;
 use crate::error::DecodeError;
 use crate::value::Content;
 
-/// Whether what is left is values, one after another, by their headers alone. Else how many octets are left where the
+/// Whether the rest is values, in sequence, by their headers alone. Else how many octets remain where the
 /// first is that isn't one, and its error.
 fn tile(contents: Constructed<'_>) -> Result<(), (usize, DecodeError)>
     ensures ok { IfOk result (λ _. AreHeaded (left contents.entry)) }
@@ -64,7 +64,7 @@ fn nested_fault(values: Constructed<'_>) -> Option<DecodeError>
 }
 
 impl<'a> Constructed<'a> {
-    /// Moves past one value with everything nested in it, or returns None if nothing is left: as
+    /// Moves past one value with everything nested in it, or returns None if nothing remains: as
     /// [Constructed::skip_one], with the same errors, but that it allocates nothing.
     pub fn skip_nested(&mut self) -> Result<Option<()>, DecodeError>
         ensures { ReadsWhere IsNotEmpty (λ _. tt) SpellsAnyValue IsNestedFault (left self.old) (left self.new) result }

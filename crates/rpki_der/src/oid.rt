@@ -96,7 +96,7 @@ impl<'a> Constructed<'a> {
     }
 
     /// An object identifier (X.690 8.19), whose octets are kept. An allocator copies them, and [Shared](crate::Shared)
-    /// shares them; requires that `keep` can keep parts of what is left.
+    /// shares them; requires that `keep` can keep parts of the rest.
     ///
     /// The errors are those of [Constructed::take_oid]; then `OutOfMemory` if allocation fails.
     pub fn take_oid_bytes<K: Keep>(&mut self, keep: K) -> Result<Oid<Bytes>, DecodeError>

@@ -1,4 +1,4 @@
-//! A part of octets, and where it stands in them.
+//! A part of octets, and where it is in them.
 
 ghost use Rattle.std.specs.Prelude.{◌≡◌, ◌++◌, ℕ, List, IfOk};
 ghost use Rattle.rpki_der.specs.Section.{IsSection, IsSectionOf};
@@ -7,7 +7,7 @@ use crate::keep::Keep;
 use bytes::Bytes;
 use std::alloc::AllocError;
 
-/// A part of octets, and where it stands in them.
+/// A part of octets, and where it is in them.
 #[derive(Clone, Copy)]
 pub struct Section<'a> {
     /// The octets of the part.
@@ -17,7 +17,7 @@ pub struct Section<'a> {
 }
 
 impl<'a> Section<'a> {
-    /// The octets in front of those that are left. Requires that these are the last ones of them.
+    /// The octets in front of the rest. Requires that these are the last ones of them.
     pub fn before(octets: &'a [u8], rest: &[u8]) -> Section<'a>
         requires { (front : List ℕ) × (octets.now ≡ front ++ rest.now) }
         ensures { (front : List ℕ) → octets.entry.now ≡ front ++ rest.now → IsSection result front rest.now }

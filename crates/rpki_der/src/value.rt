@@ -196,7 +196,7 @@ impl<'a> Constructed<'a> {
         }
     }
 
-    /// As [Constructed::take_value_if] where what is left begins with the identifier octets of this tag, in either
+    /// As [Constructed::take_value_if] where the rest begins with the identifier octets of this tag, in either
     /// form; else None.
     pub fn take_opt_value_if(&mut self, tag: Tag) -> Result<Option<Content<'a>>, DecodeError>
         ensures { ReadsTaggedWhere (λ x. (tag, is_constructed x, octets_of x)) tag (left self.old)
@@ -233,7 +233,7 @@ impl<'a> Constructed<'a> {
 
     /// The contents of a primitive value of this tag, as of an OCTET STRING or of an implicit context tag (X.690 8.14);
     /// moves past it. They are kept, and not validated. An allocator copies them, and [Shared](crate::Shared) shares
-    /// them; requires that `keep` can keep parts of what is left.
+    /// them; requires that `keep` can keep parts of the rest.
     ///
     /// The errors are those of [Constructed::take_primitive_if]; then `OutOfMemory` if allocation fails.
     pub fn take_primitive_bytes_if<K: Keep>(
@@ -264,7 +264,7 @@ impl<'a> Constructed<'a> {
         self.take_contents(tag, true)
     }
 
-    /// As [Constructed::take_constructed_if] where what is left begins with the identifier octets of the tag, in either
+    /// As [Constructed::take_constructed_if] where the rest begins with the identifier octets of the tag, in either
     /// form; else None.
     pub fn take_opt_constructed_if(
         &mut self,
@@ -302,7 +302,7 @@ impl<'a> Constructed<'a> {
         self.take_contents(Tag::SET, true)
     }
 
-    /// As [Constructed::take_sequence] where what is left begins with the identifier octets of a SEQUENCE, in either
+    /// As [Constructed::take_sequence] where the rest begins with the identifier octets of a SEQUENCE, in either
     /// form; else None.
     pub fn take_opt_sequence(&mut self) -> Result<Option<Constructed<'a>>, DecodeError>
         ensures { ReadsWhere (HasTag sequence) left (SpellsContents sequence true) (IsContentsFault sequence true)
@@ -315,7 +315,7 @@ impl<'a> Constructed<'a> {
         Ok(Some(contents))
     }
 
-    /// As [Constructed::take_set] where what is left begins with the identifier octets of a SET, in either form; else
+    /// As [Constructed::take_set] where the rest begins with the identifier octets of a SET, in either form; else
     /// None.
     pub fn take_opt_set(&mut self) -> Result<Option<Constructed<'a>>, DecodeError>
         ensures { ReadsWhere (HasTag set) left (SpellsContents set true) (IsContentsFault set true) (left self.old)

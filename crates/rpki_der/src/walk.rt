@@ -155,7 +155,7 @@ pub(crate) fn walk_value(
 impl<'a> Constructed<'a> {
     ghost use Rattle.rpki_der.specs.Cursor.{left};
 
-    /// Moves past one value with everything nested in it (X.690 8.1.1, 8.1.2.5), or returns None if nothing is left.
+    /// Moves past one value with everything nested in it (X.690 8.1.1, 8.1.2.5), or returns None if nothing remains.
     ///
     /// Each header that is read, at any depth, raises `steps` by one, the last one of a rejected value too. Requires
     /// that their count and the octets left are together below 2^64.
@@ -186,7 +186,7 @@ impl<'a> Constructed<'a> {
         Ok(Some(()))
     }
 
-    /// Moves past one value, or returns None if nothing is left: as `walk`, with the same errors, and no count.
+    /// Moves past one value, or returns None if nothing remains: as `walk`, with the same errors, and no count.
     pub fn skip_one(&mut self, alloc: Global) -> Result<Option<()>, DecodeError>
         ensures reads { ReadsWhere IsNotEmpty (λ _. tt) SpellsAnyValue (OrMemoryWhere HasConstructed IsNestedFault)
             (left self.old) (left self.new) result }
@@ -200,9 +200,9 @@ impl<'a> Constructed<'a> {
     }
 
     /// Exactly the octets of one value with everything nested in it, kept; moves past them. An allocator copies them,
-    /// and [Shared](crate::Shared) shares them; requires that `keep` can keep parts of what is left.
+    /// and [Shared](crate::Shared) shares them; requires that `keep` can keep parts of the rest.
     ///
-    /// The errors are those of `walk`, with the cursor where it was, and `Truncated` if nothing is left. Returns
+    /// The errors are those of `walk`, with the cursor where it was, and `Truncated` if nothing remains. Returns
     /// `OutOfMemory` also if the octets cannot be kept.
     pub fn capture_one<K: Keep>(&mut self, keep: K) -> Result<Captured, DecodeError>
         requires { K.holds keep (left self.old) }

@@ -31,7 +31,7 @@ fn take_version(cons: &mut Constructed<'_>) -> Result<u8, DecodeError>
     cons.in_constructed(Tag::new(Class::Context, 0), |contents| contents.take_u8())
 }
 
-/// The numbers that these contents are, one after another (X.690 8.10).
+/// The numbers that these contents are, in sequence (X.690 8.10).
 fn take_each_number(alloc: Global, contents: &mut Constructed<'_>) -> Result<Vec<u64>, DecodeError>
     ensures { TakesAll (λ v. v.items) each_number (left contents.old) (left contents.new) result }
 {

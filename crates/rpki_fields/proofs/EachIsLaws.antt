@@ -1,4 +1,4 @@
--- Lists whose items stand in a relation, in order.
+-- Lists whose items are in a relation, in order.
 use Rattle.std.proofs.Common.{◌≡◌, ◌<◌, ℕ, ◌+◌, List, [], ◌∷◌, ◌++◌, length, get_or, take, map, refl, sym, ap}
 use Rattle.std.proofs.Common.{subst, ◌∙◌}
 use Rattle.std.proofs.lemmas.List.{take_more, map-append}

@@ -67,7 +67,7 @@ too-large octets ms i n lt h q =
     ap (option_map (λ ns. ms ++ ns)) (sym (unfolding-large n x (drop (i + 1) octets) (le-ltb n (2 ^ 56) h)))
     ∙ ap (λ w. option_map (λ ns. ms ++ ns) (numbers_from n w)) (sym (next octets i lt)) ∙ q
 
--- no octet is left
+-- no octet remains
 pub all-read : (octets ms : List ℕ) (i : ℕ) (n : ℕ) → length octets ≤ i
     → option_map (λ ns. ms ++ ns) (numbers_from n (drop i octets)) ≡ numbers_from 0 octets
     → Some ms ≡ numbers_from 0 octets

@@ -1,7 +1,7 @@
 -- Which lemma file answers which question.
 --
 -- Names, identifiers, what extensions say, errors that are no allocation failure: NameLaws, IdentifierLaws, SaysLaws,
--- MemoryLaws. Certificates of any algorithms: OtherCertLaws, OtherPartsLaws, OtherSizeLaws. Lists whose items stand in
+-- MemoryLaws. Certificates of any algorithms: OtherCertLaws, OtherPartsLaws, OtherSizeLaws. Lists whose items are in
 -- a relation: EachIsLaws; blocks of resources: ResourceItemLaws. That a certificate has one list of fields, an object
 -- one sheet, and octets one object: OneTextLaws, OtherTextLaws, OneSheetLaws, OneObjectLaws; what a reader of
 -- certificates says: OtherObjectLaws.

@@ -38,7 +38,7 @@ each-written (xs ∷ parts) p h =
 
 -- ---- the attributes so far
 
--- of the attributes xs this was written of those in front, and the others are left
+-- of the attributes xs this was written of those in front, and the others remain
 pub record AreWritten (xs : List MarkedAttribute) (rest : NameRest) (text : List ℕ) : Type 0 where
   pub done : List MarkedAttribute
   pub todo : List MarkedAttribute

@@ -12,7 +12,7 @@ use Rattle.rpki_der.proofs.LeavesLaws.{leaf-tag}
 use Rattle.rpki_der.proofs.MembersLaws.{value-some}
 use Rattle.rpki_fields.specs.OtherCert.{PerhapsSpells, if_any, unique_id}
 
--- ---- what fills what is left, or nothing
+-- ---- what fills the rest, or nothing
 
 module _ {V : Type 0} (F : Format V) {s : List ℕ} where
   pub none-left : ((v : V) → F.spells v [] → ⊥) → s ≡ [] → Gives (if_any F).spells (if_any F).fault s s None
@@ -49,7 +49,7 @@ module _ {V : Type 0} (F : Format V) {s : List ℕ} where
 pub octets-some : (v : List ℕ) → SpellsValue v [] → ⊥
 octets-some v h = omega (arith, value-some h.value, ap length h.same)
 
--- ---- a reader of all that is left, as the last of the parts
+-- ---- a reader of the whole rest, as the last of the parts
 
 pub rest-bad : {X V : Type 0} (view : X → V) (P : Format V) {s : List ℕ} (r : List ℕ) {e : DecodeError}
     → TakesAll view P s r (Err e) → Fails P.spells P.fault s e

@@ -19,7 +19,7 @@ use Rattle.rpki_fields.specs.ValueText.{hex_pair}
 
 -- ---- the descriptions of an extension
 
--- access descriptions, one after another, in a SEQUENCE: each a method and a general name
+-- access descriptions, in sequence, in a SEQUENCE: each a method and a general name
 abbrev pub each_description : Format (List Description)
 each_description = each description
 

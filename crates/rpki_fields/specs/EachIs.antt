@@ -1,4 +1,4 @@
--- Two lists of one length, whose items stand in a relation, in order.
+-- Two lists of one length, whose items are in a relation, in order.
 use Rattle.std.specs.Prelude.{List, [], ◌∷◌}
 
 abbrev pub EachIs : {A B : Type 0} → (A → B → Type 0) → List A → List B → Type 0

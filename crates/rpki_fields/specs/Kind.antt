@@ -1,4 +1,4 @@
--- Which kind of object octets are, by what stands at their front. Whether they are such an object is for its grammar to
+-- Which kind of object octets are, by what is at their front. Whether they are such an object is for its grammar to
 -- say.
 use Rattle.std.specs.Prelude.{ℕ, nat_lt, nat_eq, ◌-◌, Bool, if◌then◌else◌, List, [], ◌∷◌, drop, codes}
 use Rattle.std.specs.List.{starts_with}
@@ -9,13 +9,13 @@ use Rattle.rpki_objects.specs.TypedObject.{manifest_type, origin_type, aspa_type
 
 -- ---- values, by their first octets (X.690 8.1.2, 8.1.3)
 
--- what stands behind the identifier octet and the length octets of the value at the front
+-- what follows the identifier octet and the length octets of the value at the front
 abbrev pub inside : List ℕ → List ℕ
 inside [] = []
 inside (identifier ∷ []) = []
 inside (identifier ∷ length ∷ rest) = if nat_lt length 128 then rest else drop (length - 128) rest
 
--- what stands behind the value at the front, where its length is one octet
+-- what follows the value at the front, where its length is one octet
 abbrev pub behind : List ℕ → List ℕ
 behind [] = []
 behind (identifier ∷ []) = []
@@ -27,13 +27,13 @@ begins octets front = starts_with nat_eq octets front
 
 -- ---- kinds
 
--- The identifier of the type of a content (RFC 5652 3, 5.1, 5.2), of what stands in the SEQUENCE of a ContentInfo:
--- behind the identifier of signed data, in the tag and the SEQUENCE around it, behind the version and the digest
+-- The identifier of the type of a content (RFC 5652 3, 5.1, 5.2), of what is in the SEQUENCE of a ContentInfo:
+-- after the identifier of signed data, in the tag and the SEQUENCE around it, after the version and the digest
 -- algorithms, in the SEQUENCE of the content.
 abbrev pub content_type_in : List ℕ → List ℕ
 content_type_in contents = inside (behind (behind (inside (inside (behind contents)))))
 
--- the kind of a signed object whose content has the type that stands at the front, as an object identifier of eleven
+-- the kind of a signed object whose content has the type that is at the front, as an object identifier of eleven
 -- octets
 abbrev pub content_kind : List ℕ → Kind
 content_kind front =
@@ -47,7 +47,7 @@ content_kind front =
 abbrev pub signed_kind : List ℕ → Kind
 signed_kind signed = if begins signed (2 ∷ 1 ∷ 1 ∷ []) then RevocationList else Certificate
 
--- The kind by what stands in the SEQUENCE around all: a signed object begins with an object identifier (RFC 5652 3), a
+-- The kind by what is in the SEQUENCE around all: a signed object begins with an object identifier (RFC 5652 3), a
 -- revocation list or a certificate with the SEQUENCE that is signed (RFC 5280 4.1, 5.1).
 abbrev pub kind_inside : List ℕ → Kind
 kind_inside contents =

@@ -24,7 +24,7 @@ pub record AlgorithmParts : Type 0 where
 abbrev pub any_octets : Format (List ℕ)
 any_octets = shared_value
 
--- what fills all that is left, or nothing
+-- what fills the whole rest, or nothing
 abbrev pub PerhapsSpells : {V : Type 0} → (V → List ℕ → Type 0) → Option V → List ℕ → Type 0
 PerhapsSpells G None p = p ≡ []
 PerhapsSpells G (Some v) p = G v p
@@ -99,7 +99,7 @@ subject_id_tag = tag_of Context 2
 abbrev pub unique_id : TagName → Format (List ℕ)
 unique_id t = kept (octets_under t)
 
--- extensions, one after another, in a SEQUENCE under an explicit tag; there may be none, and the same twice
+-- extensions, in sequence, in a SEQUENCE under an explicit tag; there may be none, and the same twice
 abbrev pub each_extension : Format (List ExtensionParts)
 each_extension = each kept_extension
 
@@ -109,7 +109,7 @@ any_extension_list = around sequence each_extension
 abbrev pub any_extensions : Format (List ExtensionParts)
 any_extensions = around extensions_tag (only any_extension_list)
 
--- the parts that may be left out, behind the key
+-- the parts that may be left out, after the key
 abbrev pub LastFields : Type 0
 LastFields = Option (List ExtensionParts) × Unit {0}
 

@@ -85,7 +85,7 @@ array_member label items =
 abbrev pub listing_member : ListingParts → List ℕ
 listing_member l = array_member l.label l.items
 
--- the fields, and the lists behind them, as an object on a line; there is a field before a list
+-- the fields, and the lists after them, as an object on a line; there is a field before a list
 abbrev pub object : SheetParts → List ℕ
 object s = codes "{" ++ members s.fields ++ flat_map listing_member s.listings ++ codes "}\n"
 

@@ -1,4 +1,4 @@
--- Sheets: what is shown of an object. Fields, and behind them lists of items, each of fields of its own.
+-- Sheets: what is shown of an object. Fields, and after them lists of items, each of fields of its own.
 use Rattle.std.specs.Prelude.{ℕ, Bool, true, List, [], ◌∷◌, ◌++◌}
 use Rattle.rpki_fields.specs.Field.{FieldParts}
 

@@ -13,7 +13,7 @@ use Rattle.rpki_time.specs.TimeText.{two_digits, year_number}
 abbrev pub hex_pair : ℕ → List ℕ
 hex_pair octet = hex_digit (octet / 16) ∷ hex_digit (octet % 16) ∷ []
 
--- the digits of octets, one after another
+-- the digits of octets, in sequence
 abbrev pub hex_digits : List ℕ → List ℕ
 hex_digits octets = flat_map hex_pair octets
 

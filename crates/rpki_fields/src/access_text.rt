@@ -26,7 +26,7 @@ use rpki::uri::{HttpsView, RsyncView};
 use rpki_cert::{AccessDescription, TbsCert};
 use std::alloc::{AllocError, Global};
 
-/// The descriptions that these contents are, one after another.
+/// The descriptions that these contents are, in sequence.
 fn take_each<'a>(
     alloc: Global,
     contents: &mut Constructed<'a>,

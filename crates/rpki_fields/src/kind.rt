@@ -36,7 +36,7 @@ pub enum Kind {
     OtherContent,
 }
 
-/// What stands behind the identifier octet and the length octets of the value at the front.
+/// What follows the identifier octet and the length octets of the value at the front.
 fn inside(octets: &[u8]) -> &[u8]
     ensures { result.now ≡ inside octets.now }
 {
@@ -52,7 +52,7 @@ fn inside(octets: &[u8]) -> &[u8]
     }
 }
 
-/// What stands behind the value at the front, where its length is one octet.
+/// What follows the value at the front, where its length is one octet.
 fn behind(octets: &[u8]) -> &[u8]
     ensures { result.now ≡ behind octets.now }
 {
@@ -62,7 +62,7 @@ fn behind(octets: &[u8]) -> &[u8]
     }
 }
 
-/// The identifier of the type of a content, of what stands in the SEQUENCE of a ContentInfo.
+/// The identifier of the type of a content, of what is in the SEQUENCE of a ContentInfo.
 fn content_type_in(contents: &[u8]) -> &[u8]
     ensures { result.now ≡ content_type_in contents.now }
 {
@@ -70,7 +70,7 @@ fn content_type_in(contents: &[u8]) -> &[u8]
     inside(behind(behind(data)))
 }
 
-/// The kind of a signed object whose content has the type that stands at the front.
+/// The kind of a signed object whose content has the type that is at the front.
 fn content_kind(front: &[u8]) -> Kind
     ensures { result ≡ content_kind front.now }
 {
@@ -96,7 +96,7 @@ fn signed_kind(signed: &[u8]) -> Kind
     }
 }
 
-/// The kind by what stands in the SEQUENCE around all.
+/// The kind by what is in the SEQUENCE around all.
 fn kind_inside(contents: &[u8]) -> Kind
     ensures { result ≡ kind_inside contents.now }
 {
@@ -110,7 +110,7 @@ fn kind_inside(contents: &[u8]) -> Kind
 }
 
 impl Kind {
-    /// The kind of object that the octets are, if they are one: by what stands at their front, and not by a name. That
+    /// The kind of object that the octets are, if they are one: by what is at their front, and not by a name. That
     /// of a certificate where nothing tells. Allocates nothing.
     pub fn of(octets: &[u8]) -> Kind
         ensures { result ≡ kind_of octets.now }

@@ -90,7 +90,7 @@ fn take_unique_id(
     Ok(Some(octets))
 }
 
-/// The extensions that these contents are, one after another.
+/// The extensions that these contents are, in sequence.
 fn take_each(
     alloc: Global,
     contents: &mut Constructed<'_>,

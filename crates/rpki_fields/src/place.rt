@@ -25,7 +25,7 @@ pub enum Place {
     Providers(AspaPart),
 }
 
-/// The part that is wrong of octets that should be a certificate.
+/// The malformed part of octets that should be a certificate.
 fn cert_place(octets: &[u8]) -> Option<Place>
     ensures { IsPlace K.Certificate octets.now result }
 {
@@ -35,7 +35,7 @@ fn cert_place(octets: &[u8]) -> Option<Place>
     }
 }
 
-/// The part that is wrong of octets that should be a revocation list.
+/// The malformed part of octets that should be a revocation list.
 fn list_place(octets: &[u8]) -> Option<Place>
     ensures { IsPlace K.RevocationList octets.now result }
 {
@@ -45,7 +45,7 @@ fn list_place(octets: &[u8]) -> Option<Place>
     }
 }
 
-/// The part that is wrong of octets that should be the content of a manifest.
+/// The malformed part of octets that should be the content of a manifest.
 fn files_part(octets: &[u8]) -> Option<Place>
     ensures { IsFilesPart octets.now result }
 {
@@ -55,7 +55,7 @@ fn files_part(octets: &[u8]) -> Option<Place>
     }
 }
 
-/// The part that is wrong of octets that should be the content of a route origin attestation.
+/// The malformed part of octets that should be the content of a route origin attestation.
 fn origins_part(octets: &[u8]) -> Option<Place>
     ensures { IsOriginsPart octets.now result }
 {
@@ -65,7 +65,7 @@ fn origins_part(octets: &[u8]) -> Option<Place>
     }
 }
 
-/// The part that is wrong of octets that should be the content of an attestation of providers.
+/// The malformed part of octets that should be the content of an attestation of providers.
 fn providers_part(octets: &[u8]) -> Option<Place>
     ensures { IsProvidersPart octets.now result }
 {
@@ -75,7 +75,7 @@ fn providers_part(octets: &[u8]) -> Option<Place>
     }
 }
 
-/// The part that is wrong of octets that should be a manifest.
+/// The malformed part of octets that should be a manifest.
 fn files_place(octets: &[u8]) -> Option<Place>
     ensures { IsPlace K.FileList octets.now result }
 {
@@ -85,7 +85,7 @@ fn files_place(octets: &[u8]) -> Option<Place>
     }
 }
 
-/// The part that is wrong of octets that should be a route origin attestation.
+/// The malformed part of octets that should be a route origin attestation.
 fn origins_place(octets: &[u8]) -> Option<Place>
     ensures { IsPlace K.RouteOrigins octets.now result }
 {
@@ -95,7 +95,7 @@ fn origins_place(octets: &[u8]) -> Option<Place>
     }
 }
 
-/// The part that is wrong of octets that should be an attestation of providers.
+/// The malformed part of octets that should be an attestation of providers.
 fn providers_place(octets: &[u8]) -> Option<Place>
     ensures { IsPlace K.Providers octets.now result }
 {
@@ -105,7 +105,7 @@ fn providers_place(octets: &[u8]) -> Option<Place>
     }
 }
 
-/// The part that is wrong of octets that should be a signed object.
+/// The malformed part of octets that should be a signed object.
 fn other_place(octets: &[u8]) -> Option<Place>
     ensures { IsPlace K.OtherContent octets.now result }
 {
@@ -116,7 +116,7 @@ fn other_place(octets: &[u8]) -> Option<Place>
 }
 
 impl Place {
-    /// The part that is wrong of octets that should be an object of this kind: the leftmost. None where each part is
+    /// The malformed part of octets that should be an object of this kind: the leftmost. None where each part is
     /// well by itself, as where files of a manifest have the same name. Allocates nothing.
     pub fn of(kind: Kind, octets: &[u8]) -> Option<Place>
         ensures { IsPlace kind octets.now result }

@@ -67,7 +67,7 @@ fn item_fields(alloc: Global, fields: &[Field]) -> Result<Vec<u8>, AllocError>
     Ok(text)
 }
 
-/// Adds an item on a line, behind the label of the list.
+/// Adds an item on a line, after the label of the list.
 fn push_item_line(text: &mut Vec<u8>, label: &[u8], item: &Item) -> Result<(), AllocError>
     ensures { OnOk result (text.new.items ≡ text.old.items ++ item_line label.now item.now) }
 {

@@ -62,17 +62,17 @@ text_parts uris line key = record { uris = uris; line = line; key = key }
 abbrev pub key_digits : List (List ℕ) → List ℕ
 key_digits lines = flat_map (λ line. line) lines
 
--- the key of the lines behind the empty one, the first of which has this number
+-- the key of the lines after the empty one, the first of which has this number
 abbrev pub key_text : List (List ℕ) → ℕ → Result (List ℕ) TextError → Result TextParts LocatorError
 key_text uris number (Ok key) = Ok (text_parts uris number key)
 key_text uris number (Err e) = Err (OtherText number)
 
--- the key behind the URIs and the empty line, which has this number
+-- the key after the URIs and the empty line, which has this number
 abbrev pub key_part : List (List ℕ) → ℕ → List (List ℕ) → Result TextParts LocatorError
 key_part uris number [] = Err (NoKey number)
 key_part uris number (line ∷ lines) = key_text uris (number + 1) (decode_of standard (key_digits lines))
 
--- these URIs behind so many comments, and what follows them
+-- these URIs after so many comments, and what follows them
 abbrev pub uri_part : ℕ → List (List ℕ) → List (List ℕ) → Result TextParts LocatorError
 uri_part comments uris rest =
     if length uris == 0 then Err (NoUri (comments + 1))
@@ -113,7 +113,7 @@ IsHttpsOf line (Some uri) = (is_none (https_refusal line) ≡ true) × (uri_text
 abbrev pub AreUrisOf : List (List ℕ) → List (List ℕ) → Type 0
 AreUrisOf lines texts = (texts ≡ lines) × (prefix_len is_anchor_uri lines ≡ length lines)
 
--- the first of the lines that is none, by its number, where so many are in front of them
+-- the first of the lines that isn't one, by its number, where so many are in front of them
 abbrev pub IsFirstOther : List (List ℕ) → ℕ → LocatorError → Type 0
 IsFirstOther lines before (OtherUri line) =
     (nat_lt (prefix_len is_anchor_uri lines) (length lines) ≡ true)

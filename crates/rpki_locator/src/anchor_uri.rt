@@ -15,7 +15,7 @@ pub enum AnchorUri {
     Https(Https),
 }
 
-/// The HTTPS URI that the line is. None if it is none.
+/// The HTTPS URI that the line is. None if it isn't one.
 fn https_of(alloc: Global, line: &[u8]) -> Result<Option<AnchorUri>, AllocError>
     ensures { IfOk result (IsHttpsOf line.now) }
 {

@@ -47,7 +47,7 @@ fn count_filled(lines: &[&[u8]]) -> usize
     lines.iter().take_while(|line| !line.is_empty()).count()
 }
 
-/// The lines of a locator: how many comments there are, the lines behind them that aren't empty, and those that follow.
+/// The lines of a locator: how many comments there are, the lines after them that aren't empty, and those that follow.
 #[derive(Clone, Copy)]
 pub(crate) struct Sections<'a> {
     /// How many lines are comments.

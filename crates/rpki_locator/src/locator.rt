@@ -30,7 +30,7 @@ pub struct Locator {
 
 /// The URIs that the lines are.
 ///
-/// Returns `OtherUri` of the first that is none, where this many lines are in front of the first; `OutOfMemory` if
+/// Returns `OtherUri` of the first that isn't one, where this many lines are in front of the first; `OutOfMemory` if
 /// allocation fails.
 fn uris_of(alloc: Global, lines: &[&[u8]], before: usize) -> Result<Vec<AnchorUri>, LocatorError>
     requires { before + length lines.now < 2 ^ 64 }
@@ -98,7 +98,7 @@ impl Locator {
     /// 4), in any number of lines. A line ends with a line feed, in front of which a carriage return may be, or with
     /// the text. The URIs are rsync URIs of a single object, not of a folder, and https URIs.
     ///
-    /// The error is that of the first line that is wrong, by its number; then `OutOfMemory` if allocation fails.
+    /// The error is that of the first malformed line, by its number; then `OutOfMemory` if allocation fails.
     pub fn read(alloc: Global, text: &[u8]) -> Result<Locator, LocatorError>
         ensures ok { IfOk result (λ x. IsLocator text.now (map uri_text x.uris.items) x.key) }
         ensures err { IfErr result (IsLocatorError text.now) }

@@ -52,7 +52,7 @@ lengths-same : (n : ℕ) (a b : List ℕ) → n < 128
 lengths-same n a b short =
     let ge : n ≤ n = omega arith in rw (len-short n short, le-ltb n n ge, eq-eqb n n refl) refl
 
--- behind the one octet of the tag
+-- after the one octet of the tag
 behind-tag : (a b : List ℕ)
     → comes_before (tlv sequence true a) (tlv sequence true b)
     ≡ comes_before (length_octets (length a) ++ a) (length_octets (length b) ++ b)

@@ -1,4 +1,4 @@
--- Signed attributes that are written: where the content type stands, that they are values, and how many octets they
+-- Signed attributes that are written: where the content type is, that they are values, and how many octets they
 -- have.
 use Rattle.std.proofs.Common.{◌≡◌, ◌≤◌, ◌<◌, ◌+◌, ◌^◌, ℕ, Bool, true, false, List, [], ◌∷◌, ◌++◌, length, Option, None}
 use Rattle.std.proofs.Common.{Some, refl, sym, ap, subst, ◌∙◌, arith, lit<, length-append, append-nil}
@@ -31,7 +31,7 @@ use Rattle.rpki_objects.proofs.AttributesOrderLaws.{no-longer-is-before}
 pub not-both : (b : Bool) → b ≡ true → b ≡ false → ⊥
 not-both b p q = let z : true ≡ false = sym p ∙ q in cc
 
--- ---- where an attribute stands
+-- ---- where an attribute is
 
 module _ (x y : Attribute) (ys : List Attribute) where
   pub placed-behind : comes_before (attribute_octets x) (attribute_octets y) ≡ false
@@ -41,7 +41,7 @@ module _ (x y : Attribute) (ys : List Attribute) where
   pub placed-before : comes_before (attribute_octets x) (attribute_octets y) ≡ true → placed x (y ∷ ys) ≡ x ∷ (y ∷ ys)
   placed-before e = rw e refl
 
-  -- the octets of each, one after another
+  -- the octets of each, in sequence
   pub octets-behind : (b r : List ℕ) → comes_before (attribute_octets x) (attribute_octets y) ≡ false
       → b ≡ attribute_octets y → r ≡ listed_octets attribute_octets (placed x ys)
       → b ++ r ≡ listed_octets attribute_octets (placed x (y ∷ ys))

@@ -1,4 +1,4 @@
--- Readers in place: of a part, of what stands in it, and of parts one after another.
+-- Readers in place: of a part, of what is in it, and of parts in sequence.
 use Rattle.std.proofs.Common.{◌≡◌, ℕ, true, false, List, Option, None, Some, subst}
 use Rattle.rpki_der.specs.declared.error.DecodeError.{DecodeError}
 use Rattle.rpki_der.specs.declared.error.DecodeError.TheVariants.{OutOfMemory}

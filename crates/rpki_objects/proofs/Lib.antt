@@ -1,16 +1,15 @@
 -- Which lemma file answers which question.
 --
--- A list of entries that may be left out: CrlLaws. The extensions: ExtensionsLaws.
--- A value that stands for another: StandingForLaws. A revocation list in signed data: ListInLaws. Read in place:
--- entries, what is signed, that it is one value, lists: EntriesLaws, ListViewLaws, ListValueLaws, CrlViewLaws. Two
--- extensions: TwoLaws. The attribute of a type, and what attributes say: SoughtLaws. The signed attributes of a signer:
--- AttributesLaws. Readers in place of a part, and of what stands in it: InPlaceLaws. Attributes that are read one after
--- another: TogetherLaws. Signed objects that are read in place, and what is wrong with others: ObjectViewLaws,
--- ObjectWrongLaws.
--- Signed objects of one type: TypedObjectLaws.
--- What is written: WrittenLaws. A revocation list that is written, and that it is read: ListWritingLaws, ListReadLaws.
--- Signed attributes that are written: their order, that they are values, and that they are read: AttributesOrderLaws,
--- AttributesWritingLaws, AttributesReadLaws. Signed objects: ObjectWritingLaws, ObjectReadLaws.
+-- A list of entries that may be left out: CrlLaws. The extensions: ExtensionsLaws. A value that stands for another:
+-- StandingForLaws. A revocation list in signed data: ListInLaws. Read in place: entries, what is signed, that it is one
+-- value, lists: EntriesLaws, ListViewLaws, ListValueLaws, CrlViewLaws. Two extensions: TwoLaws. The attribute of a
+-- type, and what attributes say: SoughtLaws. The signed attributes of a signer: AttributesLaws. Readers in place of a
+-- part, and of what is in it: InPlaceLaws. Attributes that are read in sequence: TogetherLaws. Signed objects that are
+-- read in place, and what is wrong with others: ObjectViewLaws, ObjectWrongLaws. Signed objects of one type:
+-- TypedObjectLaws. What is written: WrittenLaws. A revocation list that is written, and that it is read:
+-- ListWritingLaws, ListReadLaws. Signed attributes that are written: their order, that they are values, and that they
+-- are read: AttributesOrderLaws, AttributesWritingLaws, AttributesReadLaws. Signed objects: ObjectWritingLaws,
+-- ObjectReadLaws.
 
 pub mod AttributesLaws
 pub mod AttributesOrderLaws

@@ -49,7 +49,7 @@ revoked-read (Some xs) b y h short e = record {
   two = e;
 }
 
--- ---- what stands behind the issuer
+-- ---- what follows the issuer
 
 pub revoked-short : (x : ListParts) → IsShortBehind x → length (revoked_octets x.revoked) < 2 ^ 32
 revoked-short x short =

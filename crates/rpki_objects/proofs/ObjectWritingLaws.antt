@@ -52,7 +52,7 @@ cms-value =
     algorithm-value rsa_encryption true (algorithm_octets rsa_encryption true) (lit< tt)
     (algorithm-spelled rsa_encryption true (lit< tt))
 
--- ---- five parts, one after another
+-- ---- five parts, in sequence
 
 five-few : (a b c d e : List ℕ)
     → length (a ++ (b ++ (c ++ (d ++ e)))) ≡ length a + (length b + (length c + (length d + length e)))

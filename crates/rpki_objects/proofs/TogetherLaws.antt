@@ -1,4 +1,4 @@
--- Attributes that are read one after another, and what they say together.
+-- Attributes that are read in sequence, and what they say together.
 use Rattle.std.proofs.Common.{◌≡◌, ◌∙◌, ◌+◌, ◌≤◌, ◌++◌, ℕ, Bool, true, false, List, [], ◌∷◌, length, Option, None, Some}
 use Rattle.std.proofs.Common.{refl, ap, subst, arith, length-append, append-nil, IsTrue}
 use Rattle.std.specs.Prelude.{◌||◌, ◌&&◌, if◌then◌else◌, bytes_eq}

@@ -1,4 +1,4 @@
--- What is written is spelled: parts, one after another, and a value around them.
+-- What is written is spelled: parts, in sequence, and a value around them.
 use Rattle.std.proofs.Common.{◌≡◌, ◌<◌, ◌^◌, ℕ, Bool, true, List, [], ◌∷◌, ◌++◌, map, length, refl, ap}
 use Rattle.std.proofs.Common.{arith, length-append}
 use Rattle.rpki_der.specs.Prelude.{TagName, IsTag, tlv, Format, around, then, SpellsEach}
@@ -15,7 +15,7 @@ pub written-around : {V : Type 0} (t : TagName) (P : Format V) (v : V) (c : List
     → P.spells v c → (around t P).spells v (tlv t true c)
 written-around t P v c tag short p = leaf-legal t true P.spells v c tag short p
 
--- values, one after another, each read as its normal form
+-- values, in sequence, each read as its normal form
 pub written-each : {V : Type 0} (G : V → List ℕ → Type 0) (P : V → Type 0) (normal : V → V) (octets : V → List ℕ)
     → ((v : V) → P v → G (normal v) (octets v))
     → (vs : List V) → EachHas P vs → SpellsEach G (map normal vs) (listed_octets octets vs)

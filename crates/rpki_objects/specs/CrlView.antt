@@ -1,4 +1,4 @@
--- Revocation lists that are read in place: what stands where, and which part is wrong (RFC 5280 5.1).
+-- Revocation lists that are read in place: what is where, and which part is wrong (RFC 5280 5.1).
 use Rattle.std.specs.Prelude.{◌≡◌, ◌⊎◌, ◌++◌, ◌||◌, ℕ, Bool, true, List, [], Option, None, Some, Result, Ok, Err}
 use Rattle.std.specs.Prelude.{nat_eq}
 use Rattle.rpki_der.specs.declared.error.DecodeError.{DecodeError}
@@ -39,11 +39,11 @@ pub data FirstPart {V : Type 0} (G : V → List ℕ → Type 0) (part : CrlPart)
 abbrev pub Keeps : Unit {0} → Entry → Unit {0} → Type 0
 Keeps from x to = to ≡ from
 
--- whether one of this serial number was found, behind one more
+-- whether one of this serial number was found, after one more
 abbrev pub Looks : ℕ → Bool → Entry → Bool → Type 0
 Looks n from x to = to ≡ (from || nat_eq x.0 n)
 
--- the error of what is to be entries, and isn't kept: that of the first that is none
+-- the error of what is to be entries, and isn't kept: that of the first that isn't one
 abbrev pub AreEntriesFault : List ℕ → DecodeError → Type 0
 AreEntriesFault = TakesNoMemory (RepeatedFault entry.spells entry.fault)
 
@@ -157,7 +157,7 @@ pub data IsCrlWrong (s : List ℕ) (q : CrlPart) : Type 0 where
 
 -- ---- a list, of whose signed part the header alone was read
 
--- a SEQUENCE of d, and of m behind it, is a list of these parts
+-- a SEQUENCE of d, and of m after it, is a list of these parts
 abbrev pub IsCrlBehind : List ℕ → List ℕ → CrlView → Type 0
 IsCrlBehind d m v = (s : List ℕ) → SpellsContents sequence true (d ++ m) s → (x : CrlParts) × IsCrlAt s v x
 

@@ -75,7 +75,7 @@ placed_where false v xs = xs
 abbrev pub attributes_contents : AttributeValues → List ℕ
 attributes_contents v = listed_octets attribute_octets (written_attributes v)
 
--- as they stand in the object, under the implicit tag 0 (RFC 5652 5.3)
+-- as they are in the object, under the implicit tag 0 (RFC 5652 5.3)
 abbrev pub attributes_octets : AttributeValues → List ℕ
 attributes_octets v = tlv attributes_tag true (attributes_contents v)
 

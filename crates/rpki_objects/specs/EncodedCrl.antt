@@ -77,7 +77,7 @@ extensions_octets x = tlv extensions_tag true (tlv sequence true (two_octets x))
 abbrev pub version_2 : List ℕ
 version_2 = tlv integer false (1 ∷ [])
 
--- what stands behind the issuer
+-- what follows the issuer
 abbrev pub behind_octets : ListParts → List ℕ
 behind_octets x =
     time_octets x.this_update
@@ -106,7 +106,7 @@ abbrev pub normal_revoked : Option (List Entry) → Option (List Entry)
 normal_revoked None = None
 normal_revoked (Some xs) = Some (map normal_entry xs)
 
--- what stands behind the issuer, as a format and as it is read
+-- what follows the issuer, as a format and as it is read
 abbrev pub Behind : Type 0
 Behind = DateTime × (DateTime × (Option (List Entry) × ListExtensions))
 

@@ -146,7 +146,7 @@ attributes_of x = record {
   };
 }
 
--- What is signed: the octets of the attributes as they came, but behind the tag of a SET, 31, in place of the implicit
+-- What is signed: the octets of the attributes as they came, but after the tag of a SET, 31, in place of the implicit
 -- tag, A0 (RFC 5652 5.4).
 abbrev pub message_of : List ℕ → List ℕ
 message_of [] = []

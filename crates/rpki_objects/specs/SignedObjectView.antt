@@ -1,4 +1,4 @@
--- Signed objects that are read in place: what stands where, and which part is wrong (RFC 5652 3, 5; RFC 6488 2).
+-- Signed objects that are read in place: what is where, and which part is wrong (RFC 5652 3, 5; RFC 6488 2).
 use Rattle.std.specs.Prelude.{◌≡◌, ◌++◌, ◌<◌, ℕ, Bool, true, List, [], Option, None, Some, Result, Ok, Err, length}
 use Rattle.rpki_der.specs.TagName.{TagName}
 use Rattle.rpki_der.specs.Prelude.{sequence, set, Accepts, Refuses, SpellsNothing, SpellsContents, this_number}
@@ -52,7 +52,7 @@ LastWrong G part s q = SpellsNothing G s × (q ≡ part)
 
 -- ---- the content
 
--- the content, whose octets are p, stands in front of these octets; h says which octets spell which part
+-- the content, whose octets are p, is in front of these octets; h says which octets spell which part
 pub record IsContentAt (x : ContentParts) (p : List ℕ) (h : encapsulated.spells (content_fields_of x) p)
     (behind : List ℕ) (v : ContentView) : Type 0 where
   pub content_type : IsSection v.content_type x.content_type (h.spelled.second ++ behind)
@@ -96,7 +96,7 @@ pub record AreTogether (strict : Bool) (v : AttributeValues) (c : List ℕ) : Ty
   pub each : each_attribute.spells attributes c
   pub say : AreSigned strict attributes v
 
--- the attributes, whose octets are p, stand in front of these octets; what is signed is made of their section
+-- the attributes, whose octets are p, are in front of these octets; what is signed is made of their section
 pub record AreAttributesAt (x : AttributesParts) (p behind : List ℕ) (v : SignedAttrsView) : Type 0 where
   pub section : IsSection v.octets p behind
   pub message : x.message ≡ message_of v.octets.octets.now

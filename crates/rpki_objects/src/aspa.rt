@@ -41,7 +41,7 @@ impl Aspa {
     /// Reads an attestation of providers: a signed object as [SignedObject::take_from] reads it, whose content has the
     /// type of one and is one (draft-ietf-sidrops-aspa-profile 2, 3), as [AsProviderAttestation::decode] reads it. An
     /// allocator copies the octets, and [Shared](rpki::der::Shared) shares them; requires that `keep` can keep parts of
-    /// what is left.
+    /// the rest.
     ///
     /// The errors are those of [SignedObject::take_from]; then `Content` with the text `another content type`; then
     /// those of [AsProviderAttestation::decode] for the content; `OutOfMemory` if allocation fails. An error leaves the

@@ -16,7 +16,7 @@ pub struct ContentView<'a> {
     pub content: Section<'a>,
 }
 
-/// The octets of the OCTET STRING that is all that is left.
+/// The octets of the OCTET STRING that is the whole rest.
 pub(crate) fn read_octets<'a>(rest: Constructed<'a>) -> Option<&'a [u8]>
     ensures { IsWholeOf (λ v. v.now) kept_octets.spells (left rest.entry) result }
 {
@@ -32,7 +32,7 @@ pub(crate) fn read_octets<'a>(rest: Constructed<'a>) -> Option<&'a [u8]>
     }
 }
 
-/// The octets of the content that is all that is left, under the explicit tag 0.
+/// The octets of the content that is the whole rest, under the explicit tag 0.
 fn read_content<'a>(rest: Constructed<'a>) -> Option<&'a [u8]>
     ensures { IsWholeOf (λ v. v.now) explicit_content.spells (left rest.entry) result }
 {
@@ -44,7 +44,7 @@ fn read_content<'a>(rest: Constructed<'a>) -> Option<&'a [u8]>
 
 impl<'a> ContentView<'a> {
     /// A content with its type, as [EncapsulatedContent::take_from](crate::EncapsulatedContent::take_from) reads it,
-    /// and where they stand in all that is left. Allocates nothing.
+    /// and where they are in the whole rest. Allocates nothing.
     pub(crate) fn take_from(cons: &mut Constructed<'a>) -> Option<ContentView<'a>>
         ensures { TakesContent (left cons.old) (left cons.new) result }
     {

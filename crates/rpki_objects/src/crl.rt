@@ -64,7 +64,7 @@ fn serials_of(alloc: Global, entries: &[CrlEntry]) -> Result<BTreeSet<Serial>, A
 impl Crl {
     /// A revocation list: signed data whose signed value is a [TbsCertList] that names the same algorithm
     /// (RFC 5280 5.1.1.2). No bit of the signature is unused. An allocator copies the signed value and the signature,
-    /// and [Shared](rpki::der::Shared) shares them; requires that `keep` can keep parts of what is left.
+    /// and [Shared](rpki::der::Shared) shares them; requires that `keep` can keep parts of the rest.
     ///
     /// The errors are those of signed data; then `Content` with the text `signature has unused bits`; then those of
     /// [TbsCertList::take_from] for what is signed; then `Content` with the text `signature algorithms differ`; and

@@ -134,7 +134,7 @@ fn read_two(contents: Constructed<'_>) -> Option<CrlExtensions>
     of_two(&first, &second)
 }
 
-/// What the extensions of a list say, which are all that is left, under their tag: as [CrlExtensions::take_from] reads
+/// What the extensions of a list say, which are the whole rest, under their tag: as [CrlExtensions::take_from] reads
 /// them. Allocates nothing.
 pub(crate) fn read_extensions(rest: Constructed<'_>) -> Option<CrlExtensions>
     ensures { IsWholeOf extensions_of extensions.spells (left rest.entry) result }
@@ -148,7 +148,7 @@ pub(crate) fn read_extensions(rest: Constructed<'_>) -> Option<CrlExtensions>
     read_two(contents)
 }
 
-/// The extensions that these contents are, one after another.
+/// The extensions that these contents are, in sequence.
 fn take_each_extension<K: Keep>(
     keep: K,
     contents: &mut Constructed<'_>,
@@ -198,7 +198,7 @@ fn take_known<K: Keep>(keep: K, cons: &mut Constructed<'_>) -> Result<CrlExtensi
 
 impl CrlExtensions {
     /// Reads the extensions of a revocation list, under the explicit context tag 0: an authority key identifier and a
-    /// number, in either order, neither critical (RFC 6487 5). Requires that `keep` can keep parts of what is left.
+    /// number, in either order, neither critical (RFC 6487 5). Requires that `keep` can keep parts of the rest.
     ///
     /// The errors are those of the tag, of the SEQUENCE in it, and of [ExtensionOctets::take_from] for what that holds;
     /// then `Content` with the text `extensions that no revocation list has`; then `Trailing`. An error leaves the

@@ -7,7 +7,7 @@ pub enum CrlPart {
     List,
     /// The value that is signed, as a value with everything nested in it.
     Signed,
-    /// The algorithm identifier behind what is signed.
+    /// The algorithm identifier after what is signed.
     Algorithm,
     /// The signature, and that nothing follows it.
     Signature,

@@ -23,7 +23,7 @@ pub struct CrlView<'a> {
     pub algorithm: Section<'a>,
     /// The octets of the signature.
     pub signature: Section<'a>,
-    /// What is signed; its sections stand in the octets that are signed.
+    /// What is signed; its sections are in the octets that are signed.
     pub tbs: TbsListView<'a>,
 }
 
@@ -67,7 +67,7 @@ fn read_behind<'a>(signed: &'a [u8], behind: Constructed<'a>) -> Result<CrlView<
 impl<'a> CrlView<'a> {
     /// A revocation list, and nothing else, as [Crl::decode](crate::Crl::decode) reads it. Allocates nothing.
     ///
-    /// The error is the part that is wrong: of the signed data the leftmost; then of what is signed the leftmost; then
+    /// The error is the malformed part: of the signed data the leftmost; then of what is signed the leftmost; then
     /// that both algorithm identifiers are the same.
     pub fn read(octets: &'a [u8]) -> Result<CrlView<'a>, CrlPart>
         ensures ok { IfOk result (λ v. (x : CrlParts) × IsCrlAt octets.now v x) }

@@ -50,7 +50,7 @@ fn take_content<K: Keep>(keep: K, cons: &mut Constructed<'_>) -> Result<Bytes, D
 impl EncapsulatedContent {
     /// Reads a content: a SEQUENCE of its type and, under the explicit tag 0, an OCTET STRING, and nothing else. An
     /// allocator copies the octets, and [Shared](rpki::der::Shared) shares them; requires that `keep` can keep parts of
-    /// what is left.
+    /// the rest.
     ///
     /// The errors are those of a SEQUENCE; then that of the first part that could not be read, or `Trailing` if more
     /// follows; `OutOfMemory` if allocation fails. An error leaves the cursor where it was.

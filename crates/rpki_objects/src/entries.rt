@@ -11,7 +11,7 @@ use crate::crl_entry::CrlEntry;
 use rpki::der::{Constructed, DecodeError, Section, Tag};
 use rpki::repository::x509::Serial;
 
-/// Whether what is left is entries, one after another.
+/// Whether the rest is entries, in sequence.
 fn are_entries(contents: Constructed<'_>) -> bool
     ensures { IsTrue result ↔ SpellsAny each_entry.spells tt (left contents.entry) }
 {
@@ -30,7 +30,7 @@ fn are_entries(contents: Constructed<'_>) -> bool
     read.is_ok()
 }
 
-/// The contents of the list of entries at the front; none, in front of all that is left, where no SEQUENCE is there.
+/// The contents of the list of entries at the front; none, in front of the whole rest, where no SEQUENCE is there.
 /// Moves past it.
 pub(crate) fn take_revoked<'a>(cons: &mut Constructed<'a>) -> Option<Section<'a>>
     ensures { TakesRevoked (left cons.old) (left cons.new) result }
@@ -55,7 +55,7 @@ pub(crate) fn take_revoked<'a>(cons: &mut Constructed<'a>) -> Option<Section<'a>
     }
 }
 
-/// Whether one of these entries, which stand one after another, has this serial number: the contents octets of the list
+/// Whether one of these entries, which are in sequence, has this serial number: the contents octets of the list
 /// of revoked certificates, as [CrlView](crate::CrlView) has them. All of them are read. Allocates nothing; takes a
 /// step an entry.
 ///

@@ -42,7 +42,7 @@ pub fn objects_read_back(
     SignedObject::decode(alloc, bytes, strict)
 }
 
-/// Parts that are wrong are equal exactly where they are one.
+/// Malformed parts are equal exactly where they are one.
 pub fn equal_parts_are_one()
     ensures list { (p q : WrongList) → IsTrue (⟦<CrlPart as PartialEq>⟧.eq p q) ↔ (p ≡ q) }
     ensures object { (p q : WrongObject) → IsTrue (⟦<ObjectPart as PartialEq>⟧.eq p q) ↔ (p ≡ q) }

@@ -1,8 +1,8 @@
-//! The objects of the RPKI that stand beside certificates: revocation lists (RFC 5280 5, in the profile of RFC 6487 5),
+//! The objects of the RPKI that are beside certificates: revocation lists (RFC 5280 5, in the profile of RFC 6487 5),
 //! and signed objects (RFC 5652, in the profile of RFC 6488).
 //!
 //! [Crl::decode] reads a list, and [Crl::contains] tells whether a certificate is on it. [SignedObject::decode] reads a
-//! signed object. [CrlView::read] and [SignedObjectView::read] say where the parts stand, without memory. [Manifest],
+//! signed object. [CrlView::read] and [SignedObjectView::read] say where the parts are, without memory. [Manifest],
 //! [Roa] and [Aspa] are the signed objects of one type each, and [Strictness] is which rules are asked strictly.
 #![tactic(auto)]
 

@@ -24,13 +24,13 @@ pub struct TbsListView<'a> {
     pub this_update: Time,
     /// When the next list is issued at the latest.
     pub next_update: Time,
-    /// The certificates that are revoked, one after another; none where the list of them is left out.
+    /// The certificates that are revoked, in sequence; none where the list of them is left out.
     pub revoked_certs: Section<'a>,
     /// What the extensions say.
     pub extensions: CrlExtensions,
 }
 
-/// The fields, which are all that is left.
+/// The fields, which are the whole rest.
 fn read_fields<'a>(contents: Constructed<'a>) -> Result<TbsListView<'a>, CrlPart>
     ensures ok { IfOk result (λ v. (t : ListParts) × (h : fields.spells (fields_of t) (left contents.entry))
         × IsListAt t (left contents.entry) h v) }
@@ -74,7 +74,7 @@ fn read_fields<'a>(contents: Constructed<'a>) -> Result<TbsListView<'a>, CrlPart
     }
 }
 
-/// The TBSCertList that these octets are; the sections stand in them.
+/// The TBSCertList that these octets are; the sections are in them.
 pub(crate) fn read_tbs<'a>(signed: Constructed<'a>) -> Result<TbsListView<'a>, CrlPart>
     ensures ok { IfOk result (λ v. (t : ListParts) × (h : tbs_cert_list.spells (fields_of t) (left signed.entry))
         × IsListAt t h.contents h.spelled v) }

@@ -44,7 +44,7 @@ fn content_of(alloc: Global, octets: &Bytes) -> Result<ManifestContent, DecodeEr
 impl Manifest {
     /// Reads a manifest: a signed object as [SignedObject::take_from] reads it, whose content has the type of a
     /// manifest and is one (RFC 9286 4.1), as [ManifestContent::decode] reads it. An allocator copies the octets, and
-    /// [Shared](rpki::der::Shared) shares them; requires that `keep` can keep parts of what is left.
+    /// [Shared](rpki::der::Shared) shares them; requires that `keep` can keep parts of the rest.
     ///
     /// The errors are those of [SignedObject::take_from]; then `Content` with the text `another content type`; then
     /// those of [ManifestContent::decode] for the content; `OutOfMemory` if allocation fails. An error leaves the

@@ -45,7 +45,7 @@ impl Roa {
     /// Reads a route origin attestation: a signed object as [SignedObject::take_from] reads it, whose content has the
     /// type of one and is one (RFC 9582 3, 4), as [RouteOriginAttestation::decode] reads it. Of the strictness the
     /// signed attributes and the order of the families are looked at. An allocator copies the octets, and
-    /// [Shared](rpki::der::Shared) shares them; requires that `keep` can keep parts of what is left.
+    /// [Shared](rpki::der::Shared) shares them; requires that `keep` can keep parts of the rest.
     ///
     /// The errors are those of [SignedObject::take_from]; then `Content` with the text `another content type`; then
     /// those of [RouteOriginAttestation::decode] for the content; `OutOfMemory` if allocation fails. An error leaves

@@ -17,7 +17,7 @@ use std::alloc::{AllocError, Global};
 /// The attributes that a signer signs.
 #[derive(Drop)]
 pub struct SignedAttrs {
-    /// What is signed: their octets as they came, but behind the tag of a SET in place of the implicit tag (RFC 5652
+    /// What is signed: their octets as they came, but after the tag of a SET in place of the implicit tag (RFC 5652
     /// 5.4).
     pub message: Bytes,
     /// The type of the content (RFC 5652 11.1).
@@ -30,7 +30,7 @@ pub struct SignedAttrs {
     pub binary_signing_time: Option<u64>,
 }
 
-/// The attributes that these contents are, one after another.
+/// The attributes that these contents are, in sequence.
 fn take_each_attribute<'a>(
     alloc: Global,
     contents: &mut Constructed<'a>,
@@ -61,7 +61,7 @@ fn take_attribute_list<'a>(
     )
 }
 
-/// What is signed of the attributes that stand in front of these octets.
+/// What is signed of the attributes that are in front of these octets.
 fn message_before(alloc: Global, octets: &[u8], following: &[u8]) -> Result<Bytes, AllocError>
     requires { length following.now ≤ length octets.now }
     ensures { IfOk result (λ b. (front : List ℕ) → octets.now ≡ front ++ following.now → b ≡ message_of front) }
@@ -79,9 +79,9 @@ impl SignedAttrs {
     /// Reads signed attributes, under the implicit tag 0: a content type and a message digest, once each, a signing
     /// time and a binary signing time, at most once each, and no others; each has one value (RFC 6488 2.1.6.4). If
     /// `strict`, the signing time has to be there, and the binary signing time is rejected (RFC 9589 4). The attributes
-    /// may stand in any order. What is signed and the content type are copied.
+    /// may be in any order. What is signed and the content type are copied.
     ///
-    /// The errors are those of the tag; then those of [AttributeView::take_from] for the first that is none; then
+    /// The errors are those of the tag; then those of [AttributeView::take_from] for the first that isn't one; then
     /// `Content` with the text `signed attributes that no signed object has`; and `OutOfMemory` if allocation fails. An
     /// error leaves the cursor where it was.
     pub fn take_from(

@@ -55,8 +55,8 @@ fn read_known<'a>(contents: Constructed<'a>, strict: bool) -> Option<KnownAttrib
 }
 
 impl<'a> SignedAttrsView<'a> {
-    /// Signed attributes, as [SignedAttrs::take_from](crate::SignedAttrs::take_from) reads them, and where they stand
-    /// in all that is left. Allocates nothing.
+    /// Signed attributes, as [SignedAttrs::take_from](crate::SignedAttrs::take_from) reads them, and where they are
+    /// in the whole rest. Allocates nothing.
     pub(crate) fn take_from(cons: &mut Constructed<'a>, strict: bool) -> Option<SignedAttrsView<'a>>
         ensures { TakesAttributes strict (left cons.old) (left cons.new) result }
     {

@@ -63,7 +63,7 @@ impl SignedObject {
     /// revocation lists; one signer, whose key is named by its identifier, with signed attributes as
     /// [SignedAttrs::take_from](crate::SignedAttrs::take_from) reads them, and without unsigned attributes. An
     /// allocator copies the octets, and [Shared](rpki::der::Shared) shares them; requires that `keep` can keep parts of
-    /// what is left.
+    /// the rest.
     ///
     /// The errors are those of a SEQUENCE; then that of the leftmost part that could not be read, of the parts in it,
     /// in turn, or `Trailing` if more follows; `OutOfMemory` if allocation fails. An error leaves the cursor where it
@@ -167,7 +167,7 @@ impl SignedObject {
         self.data.signer.signed_attrs.binary_signing_time
     }
 
-    /// What is signed: the attributes as they came, but behind the tag of a SET in place of the implicit tag (RFC 5652
+    /// What is signed: the attributes as they came, but after the tag of a SET in place of the implicit tag (RFC 5652
     /// 5.4).
     pub fn message(&self) -> &Bytes
         ensures { result.now ≡ self.now.signer.attributes.message }

@@ -20,7 +20,7 @@ use rpki_cert::objects::inside;
 pub struct SignerCertView<'a> {
     /// The octets of the certificate.
     pub octets: Section<'a>,
-    /// Its parts, whose sections stand in these octets.
+    /// Its parts, whose sections are in these octets.
     pub parts: CertView<'a>,
 }
 
@@ -55,7 +55,7 @@ fn take_certificate<'a>(cons: &mut Constructed<'a>) -> Result<SignerCertView<'a>
     }
 }
 
-/// The fields of signed data, which are all that is left.
+/// The fields of signed data, which are the whole rest.
 fn read_fields<'a>(
     contents: Constructed<'a>,
     strict: bool,
@@ -94,7 +94,7 @@ impl<'a> SignedObjectView<'a> {
     /// A signed object, and nothing else, as [SignedObject::decode](crate::SignedObject::decode) reads it, whose
     /// certificate has at most 64 extensions: see [CertView::read](rpki_cert::CertView::read). Allocates nothing.
     ///
-    /// The error is the part that is wrong: the leftmost, and of the certificate the one that its reader names.
+    /// The error is the malformed part: the leftmost, and of the certificate the one that its reader names.
     pub fn read(octets: &'a [u8], strict: bool) -> Result<SignedObjectView<'a>, ObjectPart>
         ensures ok { IfOk result (λ v. (x : ObjectParts) × IsObjectAt strict octets.now v x) }
         ensures err { IfErr result (λ q. IsObjectWrong strict octets.now q) }

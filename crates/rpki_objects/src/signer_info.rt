@@ -50,7 +50,7 @@ pub(crate) fn take_identifier(cons: &mut Constructed<'_>) -> Result<KeyIdentifie
 impl SignerInfo {
     /// Reads a signer: a SEQUENCE of the version 3, a key identifier, SHA-256, signed attributes, the algorithm of the
     /// signature and the signature, and nothing else. An allocator copies the octets, and
-    /// [Shared](rpki::der::Shared) shares them; requires that `keep` can keep parts of what is left.
+    /// [Shared](rpki::der::Shared) shares them; requires that `keep` can keep parts of the rest.
     ///
     /// The errors are those of a SEQUENCE; then that of the first part that could not be read, as
     /// [SignedAttrs::take_from] says it of the attributes, or `Trailing` if more follows; `OutOfMemory` if allocation

@@ -25,7 +25,7 @@ pub struct SignerView<'a> {
     pub signature: Section<'a>,
 }
 
-/// The fields, which are all that is left.
+/// The fields, which are the whole rest.
 fn read_fields<'a>(contents: Constructed<'a>, strict: bool) -> Result<SignerView<'a>, ObjectPart>
     ensures ok { IfOk result (λ v. IsSignerIn strict (left contents.entry) v) }
     ensures err { IfErr result (λ q. AreSignerFieldsWrong strict (left contents.entry) q) }
@@ -65,7 +65,7 @@ fn read_fields<'a>(contents: Constructed<'a>, strict: bool) -> Result<SignerView
     }
 }
 
-/// The one signer of the SET that is all that is left.
+/// The one signer of the SET that is the whole rest.
 pub(crate) fn read_signers<'a>(
     rest: Constructed<'a>,
     strict: bool,

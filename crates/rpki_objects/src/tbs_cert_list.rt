@@ -39,7 +39,7 @@ pub struct TbsCertList {
     pub extensions: CrlExtensions,
 }
 
-/// The entries that these contents are, one after another.
+/// The entries that these contents are, in sequence.
 fn take_each_entry(
     alloc: Global,
     contents: &mut Constructed<'_>,
@@ -66,7 +66,7 @@ fn take_opt_entries(
 impl TbsCertList {
     /// Reads what is signed: a SEQUENCE of the parts, and nothing else. A list without entries is taken, although it
     /// should be left out (RFC 5280 5.1.2.6), since authorities write one. An allocator copies what is kept of the
-    /// issuer, and [Shared](rpki::der::Shared) shares it; requires that `keep` can keep parts of what is left.
+    /// issuer, and [Shared](rpki::der::Shared) shares it; requires that `keep` can keep parts of the rest.
     ///
     /// The errors are those of a SEQUENCE; then that of the first part that could not be read, or `Trailing` if more
     /// follows; `OutOfMemory` if allocation fails. An error leaves the cursor where it was.

@@ -35,7 +35,7 @@ module _ {S : Type 0} (f : S → List ℕ → Result (S × List ℕ) ℕ) where
   fold-fuel (suc n) (suc m) st k (x ∷ xs) a b =
       fold-bind n m k xs (fold-fuel n m) (f st (x ∷ xs)) (omega arith) (omega arith)
 
-  -- what is left, after k values with this state, makes g
+  -- the rest, after k values with this state, makes g
   abbrev pub Makes : Result (S × ℕ) ℕ → S → ℕ → List ℕ → Type 0
   Makes g st k s = fold_n f (length s) st k s ≡ g
 

@@ -68,7 +68,7 @@ leaf_law view t C d s r (Ok x) ds bytes h =
     ) refl)
 leaf_law view t C d s r (Err e) ds bytes h = sym (leaf-failed t C d s e ds bytes h.kind)
 
--- what is left afterwards
+-- what remains afterwards
 pub leaf_moves : {X V : Type 0} (view : X → V) (t : TagName) (C : V → List ℕ → Type 0) (s r : List ℕ)
     (x : Result X DecodeError) → ReadsLeaf view t C s r x → Moves s r x
 leaf_moves view t C s r (Ok x) h = leaf-shorter t false C s (view x) r h.spells

@@ -1,4 +1,4 @@
--- A value, a tag in front and the end of what is left: the functions find what the relations of rpki_der say.
+-- A value, a tag in front and the end of the rest: the functions find what the relations of rpki_der say.
 use Rattle.std.proofs.Common.{◌≡◌, ◌≢◌, ℕ, ◌⊎◌, ◌<◌, ◌≤◌, Bool, true, false}
 use Rattle.std.proofs.Common.{List, [], ◌∷◌, ◌++◌, length, refl, sym, ap, ◌∙◌}
 use Rattle.std.proofs.Common.{inl, inr, arith, Result, Ok, Err, length-append, ◌&&◌, IsTrue}
@@ -163,7 +163,7 @@ pub value_law : {X : Type 0} (view : X → List ℕ) (t : TagName) (f : Bool) (s
 value_law view t f s r (Ok x) bytes h = sym (value-read t f s (view x) r h.spells)
 value_law view t f s r (Err e) bytes h = sym (value-failed t f s e bytes h.kind)
 
--- what is left afterwards
+-- what remains afterwards
 pub contents_moves : {X : Type 0} (view : X → List ℕ) (t : TagName) (f : Bool) (s r : List ℕ) (x : Result X DecodeError)
     → Reads view (SpellsContents t f) (IsContentsFault t f) s r x → Moves s r x
 contents_moves view t f s r (Ok x) h = contents-shorter t f s (view x) r h.spells

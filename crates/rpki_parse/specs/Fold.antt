@@ -1,8 +1,8 @@
--- Values, one after another, each read in the light of those before it (X.690 8.10, 8.12).
+-- Values, in sequence, each read in the light of those before it (X.690 8.10, 8.12).
 use Rattle.std.specs.Prelude.{ℕ, zero, suc, ◌+◌, List, [], ◌∷◌, Result, Ok, Err, if◌then◌else◌, length, nat_lt}
 use Rattle.rpki_parse.specs.Words.{bind}
 
--- k values were read, and n octets at most are left
+-- k values were read, and n octets at most remain
 abbrev pub fold_n : {S : Type 0} → (S → List ℕ → Result (S × List ℕ) ℕ) → ℕ → S → ℕ → List ℕ → Result (S × ℕ) ℕ
 fold_n f n state k [] = Ok (state, k)
 fold_n f zero state k (x ∷ xs) = Err 6

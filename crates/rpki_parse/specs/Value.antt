@@ -28,7 +28,7 @@ value_at t f s =
     then (if nat_lt (length h.1) h.0.length then Err 1 else Ok (take h.0.length h.1, drop h.0.length h.1))
     else Err 4)
 
--- nothing is left; else error 6
+-- nothing remains; else error 6
 unfoldable pub ended : List ℕ → Result (Unit {0}) ℕ
 ended [] = Ok tt
 ended (x ∷ xs) = Err 6

@@ -11,17 +11,17 @@ abbrev pub parsed : {X V : Type 0} → (X → V) → Result X DecodeError → Li
 parsed view (Ok x) r = Ok (view x, r)
 parsed view (Err e) r = Err (error_number e)
 
--- the same of a reader of all that is left
+-- the same of a reader of the whole rest
 abbrev pub kinds : {A : Type 0} → Result A DecodeError → Result A ℕ
 kinds (Ok x) = Ok x
 kinds (Err e) = Err (error_number e)
 
--- what is left of s by a reader of one value: less, and after an error all of it
+-- the rest of s by a reader of one value: less, and after an error all of it
 abbrev pub Moves : {X E : Type 0} → List ℕ → List ℕ → Result X E → Type 0
 Moves s r (Ok x) = length r < length s
 Moves s r (Err e) = r ≡ s
 
--- one after another: the first error ends all
+-- in sequence: the first error ends all
 abbrev pub bind : {A B E : Type 0} → Result A E → (A → Result B E) → Result B E
 bind (Ok x) K = K x
 bind (Err e) K = Err e

@@ -1,4 +1,4 @@
-//! Values of one type, one after another: the contents of a SEQUENCE OF or a SET OF (X.690 8.10, 8.12).
+//! Values of one type, in sequence: the contents of a SEQUENCE OF or a SET OF (X.690 8.10, 8.12).
 
 ghost use Rattle.std.specs.Prelude.{◌≡◌, ℕ, List, Result};
 ghost use Rattle.rpki_der.specs.Cursor.{left};
@@ -25,7 +25,7 @@ pub trait Step {
         ensures moves { Moves (left cons.old) (left cons.new) result };
 }
 
-/// What is known of all values that are left, and how many they are, from what is known first. There may be none.
+/// What is known of all remaining values, and how many they are, from what is known first. There may be none.
 ///
 /// Returns the error of the first value that isn't there.
 #[inline(always)]

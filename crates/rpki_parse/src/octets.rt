@@ -13,7 +13,7 @@ fn are_bytes(octets: &[u8]) -> usize
     octets.len()
 }
 
-/// How many octets are left, each of which is below 256: what the laws of the readers ask for.
+/// How many octets remain, each of which is below 256: what the laws of the readers ask for.
 #[inline(always)]
 pub(crate) fn bytes_left(cons: &Constructed<'_>) -> usize
     ensures { AreBytes (left cons.now) }

@@ -12,7 +12,7 @@ use crate::text::{take_printable, take_utf8};
 use crate::value::has_tag;
 use rpki_der::{Constructed, DecodeError, Tag};
 
-/// A NULL OPTIONAL: None where what is left doesn't begin with the identifier octets of a NULL, in either form.
+/// A NULL OPTIONAL: None where the rest doesn't begin with the identifier octets of a NULL, in either form.
 pub fn take_opt_null(cons: &mut Constructed<'_>) -> Result<Option<()>, DecodeError>
     ensures reads { parsed (λ x. x) result (left cons.new) ≡ optional_at null (leaf_at null null_in) (left cons.old) }
     ensures unchanged { IfErr result (λ _. left cons.new ≡ left cons.old) }
@@ -24,7 +24,7 @@ pub fn take_opt_null(cons: &mut Constructed<'_>) -> Result<Option<()>, DecodeErr
     Ok(Some(()))
 }
 
-/// A BOOLEAN DEFAULT FALSE (X.690 11.5: the default value is never written): false where what is left doesn't begin
+/// A BOOLEAN DEFAULT FALSE (X.690 11.5: the default value is never written): false where the rest doesn't begin
 /// with the identifier octets of a BOOLEAN, in either form.
 ///
 /// The errors are those of [take_bool]; `Content` also for a FALSE that is written.

@@ -1,4 +1,4 @@
-//! Errors that name the part that is wrong.
+//! Errors that name the malformed part.
 
 ghost use Rattle.std.specs.Prelude.{◌≡◌};
 ghost use Rattle.rpki_parse.specs.Words.{kinds, named};

@@ -48,7 +48,7 @@ pub fn take_set<'a>(cons: &mut Constructed<'a>) -> Result<Constructed<'a>, Decod
     cons.take_set()
 }
 
-/// Whether what is left begins with the identifier octets of this tag, in either form.
+/// Whether the rest begins with the identifier octets of this tag, in either form.
 #[inline(always)]
 pub fn has_tag(cons: &Constructed<'_>, tag: Tag) -> bool
     ensures { result ≡ tagged tag (left cons.now) }
@@ -57,7 +57,7 @@ pub fn has_tag(cons: &Constructed<'_>, tag: Tag) -> bool
     cons.has_tag(tag)
 }
 
-/// Returns Ok if nothing is left, else `Trailing`: the last step of a reader of whole octets, or of whole contents.
+/// Returns Ok if nothing remains, else `Trailing`: the last step of a reader of whole octets, or of whole contents.
 #[inline(always)]
 #[tactic(auto, using(crate::proofs::ValueLaws::end_law))]
 pub fn finish(cons: Constructed<'_>) -> Result<(), DecodeError>

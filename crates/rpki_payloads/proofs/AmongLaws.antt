@@ -58,12 +58,12 @@ module _ {X : Type 0} (all rest following : List X) (first : X) (P : X → Type 
   is-first left is p =
       left.1 (subst (λ r. One r P) (sym is) (first, head-in first following, p))
 
--- none is left
+-- none remains
 pub none-left : {X : Type 0} (all rest : List X) (P : X → Type 0) → IsLeft all rest P → rest ≡ [] → One all P → ⊥
 none-left all rest P left is o =
     let k = subst (λ r. One r P) is (left.0 o) in none-in k.0 k.1
 
--- ---- what is kept of a list, one after another
+-- ---- what is kept of a list, in sequence
 
 -- kept are those in front of the rest that Out isn't true of
 pub record IsKeptOf {X : Type 0} (Out : X → Type 0) (all rest kept : List X) : Type 0 where

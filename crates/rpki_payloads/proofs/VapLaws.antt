@@ -7,7 +7,7 @@ use Rattle.rpki_contents.specs.Aspa.{AspaParts, aspa_parts}
 use Rattle.rpki_payloads.specs.declared.vap.CustomerProvider.{CustomerProvider}
 use Rattle.rpki_payloads.specs.Vap.{put, run, vaps}
 
--- of two runs, one after another, the same customer or not
+-- of two runs, in sequence, the same customer or not
 joins : (v w : CustomerProvider) (ws : List CustomerProvider) (b : Bool) → (v.customer == w.customer) ≡ b
     → (w.customer == v.customer) ≡ b → (b ≡ true → w.customer ≡ v.customer)
     → vaps (w ∷ ws) ≡ aspa_parts w.customer (w.provider ∷ map (λ v. v.provider) (take (run w.customer ws) ws))

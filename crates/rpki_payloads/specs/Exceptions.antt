@@ -46,7 +46,7 @@ pub record IsFirstOther {A B : Type 0} (R : A → B → Type 0) (all : List A) (
   pub there : slice_get all i ≡ Some other
   pub none : (y : B) → R other y → ⊥
 
--- what is left under each locator, and then what is added
+-- the rest under each locator, and then what is added
 abbrev pub AreExcepted : Exceptions → List ℕ → List PayloadParts → List PayloadParts → Type 0
 AreExcepted e name old new =
     (left : List PayloadParts) × (added : PayloadParts) × AreEach (IsWithout e) old left × IsAsserted e name added

@@ -36,7 +36,7 @@ abbrev pub is_of : Option (List ℕ) → RouterKey → Bool
 is_of None k = true
 is_of (Some identifier) k = bytes_eq k.identifier identifier
 
--- what is left of the AS numbers of a key without this one: those below it, and those above it
+-- the rest of the AS numbers of a key without this one: those below it, and those above it
 abbrev pub below_number : ℕ → RouterKey → List RouterKey
 below_number n k = if nat_lt k.first n then router_key k.first (n - 1) k.identifier k.info ∷ [] else []
 
@@ -53,7 +53,7 @@ without_number (Some n) k =
 abbrev pub left_by : KeyFilter → RouterKey → List RouterKey
 left_by f k = if is_of f.identifier k then without_number f.asn k else k ∷ []
 
--- what filters leave, one after another
+-- what filters leave, in sequence
 abbrev pub left_by_all : List KeyFilter → List RouterKey → List RouterKey
 left_by_all [] keys = keys
 left_by_all (f ∷ fs) keys = left_by_all fs (flat_map (left_by f) keys)

@@ -6,7 +6,7 @@ use Rattle.rpki_payloads.specs.declared.tally.Tally.{Tally}
 use Rattle.rpki_payloads.specs.declared.timed.TimedVrp.{TimedVrp}
 use Rattle.rpki_payloads.specs.Payloads.{PayloadParts}
 
--- an octet of the value of a label: a line feed as `\n`, a quotation mark and a backslash behind a backslash
+-- an octet of the value of a label: a line feed as `\n`, a quotation mark and a backslash after a backslash
 abbrev pub escaped : ℕ → List ℕ
 escaped octet =
     if octet == 10 then 92 ∷ 110 ∷ []

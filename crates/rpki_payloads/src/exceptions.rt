@@ -49,7 +49,7 @@ impl Exceptions {
         Ok(Payloads::new(name, vrps, timed, pairs, keys, one.tally()))
     }
 
-    /// What is left under each locator.
+    /// The rest under each locator.
     fn all_without(&self, alloc: Global, all: &[Payloads]) -> Result<Vec<Payloads>, AllocError>
         ensures { IfOk result (λ left. AreEach (IsWithout self.now) all.now left.items) }
     {

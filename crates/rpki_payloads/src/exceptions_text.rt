@@ -103,7 +103,7 @@ impl<T: Drop> From<AllocFailed<T>> for ExceptionsError {
     }
 }
 
-/// A filter of prefixes (RFC 8416 3.3.1). None if it is none.
+/// A filter of prefixes (RFC 8416 3.3.1). None if it isn't one.
 fn prefix_filter_of(value: &Value) -> Option<PrefixFilter>
     ensures { Finds (IsPrefixFilter (view value.now)) result }
 {
@@ -144,7 +144,7 @@ fn key_filter_with(asn: Option<u32>, identifier: Option<[u8; 20]>) -> Option<Key
     Some(KeyFilter { asn, identifier })
 }
 
-/// A filter of the keys of routers (RFC 8416 3.3.2). None if it is none.
+/// A filter of the keys of routers (RFC 8416 3.3.2). None if it isn't one.
 fn key_filter_of(alloc: Global, value: &Value) -> Result<Option<KeyFilter>, AllocError>
     ensures { IfOk result (λ o. Finds (IsKeyFilter (view value.now)) o) }
 {
@@ -180,7 +180,7 @@ pub(crate) fn vrp_with(prefix: Prefix, longest: Option<u32>, as_id: u32) -> Opti
     })
 }
 
-/// A prefix that is added (RFC 8416 3.4.1). None if it is none.
+/// A prefix that is added (RFC 8416 3.4.1). None if it isn't one.
 fn prefix_assertion_of(value: &Value) -> Option<Vrp>
     ensures { Finds (IsPrefixAssertion (view value.now)) result }
 {
@@ -215,7 +215,7 @@ fn info_in(alloc: Global, value: &Value) -> Result<Option<Bytes>, AllocError>
     }
 }
 
-/// A key of a router that is added (RFC 8416 3.4.2). None if it is none.
+/// A key of a router that is added (RFC 8416 3.4.2). None if it isn't one.
 fn key_assertion_of(alloc: Global, value: &Value) -> Result<Option<RouterKey>, AllocError>
     ensures { IfOk result (λ o. Finds (IsKeyAssertion (view value.now)) o) }
 {

@@ -89,7 +89,7 @@ fn length_of(field: &str) -> Option<u32>
     }
 }
 
-/// The payload of these fields. None if it is none.
+/// The payload of these fields. None if it isn't one.
 fn vrp_of(number: &str, text: &str, digits: &str) -> Option<Vrp>
     ensures { Finds (AreFields number.now text.now digits.now) result }
 {

@@ -20,7 +20,7 @@ filled size = omega arith
 pub few-unused : (size : ℕ) → unused_bits size < 8
 few-unused size = omega arith
 
--- the octets hold the number and the zeros behind it
+-- the octets hold the number and the zeros after it
 pub held : (x : Address) → x.number < 2 ^ x.size → x.number * 2 ^ unused_bits x.size < 256 ^ octet_count x.size
 held x below =
     let u = unused_bits x.size in
@@ -29,7 +29,7 @@ held x below =
     let less : x.number * 2 ^ u < 2 ^ x.size * 2 ^ u = mul-lt-mul_of_pos_right below (pow_pos u) in
     rw whole less
 
--- the bits of the last octet that are left over are zeros
+-- the bits of the last octet left over are zeros
 zeros-left : (n u : ℕ) → u < 8 → n * 2 ^ u % 256 % 2 ^ u ≡ 0
 zeros-left n u few =
     let h : n * 2 ^ u % 2 ^ (8 - u + u) % 2 ^ u ≡ n * 2 ^ u % 2 ^ u = mod-mod-pow (n * 2 ^ u) (8 - u) u in

@@ -104,7 +104,7 @@ numbers-back b some lt false e =
       stands = record { low = refl; high = refl; ascends = omega (arith, some, other) };
     }))
 
--- ---- a block, and blocks one after another
+-- ---- a block, and blocks in sequence
 
 pub block-back : (kind : ResourceKind) (b : Block) → IsBlockOf kind b → (block_of kind).spells b (block_octets kind b)
 block-back (Addresses family) b h = prefix-back (width family) b (width-most family) h.0 h.1

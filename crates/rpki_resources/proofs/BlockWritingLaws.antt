@@ -154,7 +154,7 @@ pub first-octets : (kind : ResourceKind) (rest bs : List Block) (b : Block) → 
     → blocks_octets kind rest ≡ block_octets kind b ++ blocks_octets kind bs
 first-octets kind rest bs b is = ap (blocks_octets kind) is
 
--- a beginning of what is left was written
+-- a beginning of the rest was written
 pub beginning-left : (a b c : Option (List ℕ)) (octets rest ys more : List ℕ) → AppendsAllBut a b octets rest
     → rest ≡ ys ++ more
     → AppendsBeginning b c ys → AppendsBeginning a c octets

@@ -142,7 +142,7 @@ as-apart b d r s some lt some' lt' false false p q e =
     (as-pair-short integer integer d.low d.high).1 e in
     (same-block b d v.0 v.1, v.2)
 
--- ---- a block, and blocks one after another
+-- ---- a block, and blocks in sequence
 
 block-apart : (kind : ResourceKind) (b d : Block) (r s : List ℕ) → IsBlockOf kind b → IsBlockOf kind d
     → block_octets kind b ++ r ≡ block_octets kind d ++ s → (b ≡ d) × (r ≡ s)

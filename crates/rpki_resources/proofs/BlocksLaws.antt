@@ -42,7 +42,7 @@ begins-before a b ws bs h ca cb f =
     let from : a.low ≤ b.low = among-from b.low a ws ca (f b.low (inl (omega arith, cb.0))) in
     omega arith
 
--- nor one that goes on behind it, where it begins in it
+-- nor one that goes on after it, where it begins in it
 pub ends-behind : (a b : Block) (ws bs : List Block) → b.low ≤ a.high → a.high < b.high → AreCanonical (a ∷ ws)
     → IsSubset (b ∷ bs) (a ∷ ws) → ⊥
 ends-behind a b ws bs low high ca f =

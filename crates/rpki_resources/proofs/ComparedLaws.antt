@@ -16,7 +16,7 @@ use Rattle.rpki_resources.proofs.FollowLaws.{SoFar, at-start, next-read, next-wr
 use Rattle.rpki_resources.proofs.FollowLaws.{block-ascends, following-blocks, following-canonical, blocks-following}
 use Rattle.rpki_resources.proofs.FollowLaws.{blocks-some}
 
--- ---- what is left of one list
+-- ---- the rest of one list
 
 abbrev pub Followings : ResourceKind → ℕ → List ℕ → Type 0
 Followings kind last s = (bs : List Block) × SpellsFollowing kind (Some last) bs s
@@ -77,7 +77,7 @@ module _ (kind : ResourceKind) (s : List ℕ) where
                 (subst (λ (y : Block). SpellsFollowing kind (Some y.high) ds l.0) is.0 l.2),
           )
 
--- the blocks xs of s were read, the last of which is b, and r is left
+-- the blocks xs of s were read, the last of which is b, and r remains
 pub record ReadTo (kind : ResourceKind) (s : List ℕ) (xs : List Block) (b : Block) (r : List ℕ) : Type 0 where
   pub so : SoFar kind s (Some b.high) r xs
   pub some : s ≢ []

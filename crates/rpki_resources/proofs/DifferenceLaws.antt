@@ -11,7 +11,7 @@ use Rattle.rpki_resources.proofs.MergeLaws.{among-append, put-before, some-among
 abbrev pub Lacks : ℕ → List Block → List Block → ℕ → Type 0
 Lacks from xs ys n = IsAmong n xs × (from ≤ n) × (IsAmong n ys → ⊥)
 
--- what was found, and what is left of both lists from a number on
+-- what was found, and the rest of both lists from a number on
 pub record Lacking (one other found xs ys : List Block) (from : ℕ) : Type 0 where
   pub xs_are : AreCanonical xs
   pub ys_are : AreCanonical ys
@@ -37,7 +37,7 @@ below-lacks n (y ∷ ys) c b (inr r) = let far : suc y.high < n =
     among-past y.high n ys c.1 c.2 r in omega (arith, far, b, c.0)
 
 module _ (one other found xs ys : List Block) (from : ℕ) (m : Lacking one other found xs ys from) where
-  -- the gap that was found, and what is left from another number on, is what was left
+  -- the gap that was found, and the rest from another number on, is what remained
   module _ (x : Block) (later : List Block) (ex : xs ≡ x ∷ later) (o : Option Block) (gap : IsGap x from ys o) where
     of-gap : (n : ℕ) → IsAmong n (blocks_of o) → Lacks from xs ys n
     of-gap n h =
@@ -84,7 +84,7 @@ module _ (one other found xs ys : List Block) (from : ℕ) (m : Lacking one othe
           subst AreCanonical (sym (append_assoc found (blocks_of o) ms))
           (m.room (blocks_of o ++ ms) (before ms c a) all)
 
-    -- the block of the one is done with: the other has none, or one that ends behind it
+    -- the block of the one is done with: the other has none, or one that ends after it
     module _ (done : (n : ℕ) → IsIn n x → (IsAmong n ys → ⊥) → IsBelow n ys) where
       block-forth : (n : ℕ) → Lacks from xs ys n → IsAmong n (blocks_of o) ⊎ Lacks from later ys n
       block-forth n h = step (subst (IsAmong n) ex h.0) where
@@ -176,7 +176,7 @@ module _ (one other found xs ys : List Block) (from : ℕ) (m : Lacking one othe
     canonical = subst AreCanonical (append-nil found) (m.room [] tt (λ n a. absurd a));
   }
 
--- where the block of the other ends behind that of the one, or there is none
+-- where the block of the other ends after that of the one, or there is none
 pub done-behind : (x y : Block) (ys others : List Block) → ys ≡ y ∷ others → x.high ≤ y.high → (n : ℕ) → IsIn n x
     → (IsAmong n ys → ⊥) → IsBelow n ys
 done-behind x y ys others e le n i not = subst (IsBelow n) (sym e) (step (split n y.low)) where

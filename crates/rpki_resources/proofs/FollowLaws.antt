@@ -78,7 +78,7 @@ block-never AsNumbers =
 pub block-no-memory : (kind : ResourceKind) (s : List ℕ) (e : DecodeError) → (block_of kind).fault s e → e ≢ OutOfMemory
 block-no-memory kind s e h z = block-never kind s (subst ((block_of kind).fault s) z h)
 
--- ---- a block that may stand behind a number
+-- ---- a block that may follow a number
 
 as-block : (kind : ResourceKind) (last : Option ℕ) (s : List ℕ) (b : Block) (r : List ℕ)
     → Spells (SpellsNext kind last) s b r → Spells (block_of kind).spells s b r
@@ -131,7 +131,7 @@ next-some kind last b r h =
       none [] q e = refl
       none (y ∷ ys) q e = absurd (cc)
 
--- ---- blocks, each behind the one before, are blocks in canonical form
+-- ---- blocks, each after the one before, are blocks in canonical form
 
 abbrev FollowsFirst : Option ℕ → List Block → Type 0
 FollowsFirst last [] = Unit {0}
@@ -186,7 +186,7 @@ pub blocks-following : (kind : ResourceKind) (bs : List Block) (c : List ℕ) �
     → SpellsFollowing kind None bs c
 blocks-following kind bs c h = put-together kind None bs c h.each h.canonical (first-anywhere bs)
 
--- a block, and blocks that stand behind it
+-- a block, and blocks that follow it
 pub following-canonical : (kind : ResourceKind) (b : Block) (bs : List Block) (c : List ℕ) → b.low ≤ b.high
     → SpellsFollowing kind (Some b.high) bs c → AreCanonical (b ∷ bs)
 following-canonical kind b bs c up h = let k =
@@ -197,7 +197,7 @@ blocks-some kind bs c h = some-octets kind bs c (blocks-following kind bs c h) h
 
 -- ---- a loop that reads one block after another
 
--- the blocks xs of s were read, the last of which ends with this number, and r is left
+-- the blocks xs of s were read, the last of which ends with this number, and r remains
 pub record SoFar (kind : ResourceKind) (s : List ℕ) (last : Option ℕ) (r : List ℕ) (xs : List Block) : Type 0 where
   pub forth : (ds : List Block) → SpellsFollowing kind last ds r → SpellsFollowing kind None (xs ++ ds) s
   pub back : (es : List Block) → SpellsFollowing kind None es s

@@ -18,7 +18,7 @@ use Rattle.rpki_resources.proofs.ComposingLaws.{standing-refused}
 use Rattle.rpki_resources.specs.Blocks.{AreCanonical}
 use Rattle.rpki_resources.specs.InPlace.{Octets, Holds, HoldsOnly, Rest, IsLeft, Gives}
 
--- the blocks that x holds are xs, and those that are left of them
+-- the blocks that x holds are xs, and the rest of them
 abbrev pub Kept : Octets → List Block → Rest → Type 0
 Kept x xs rest = (bs : List Block) → Holds x bs → (ds : List Block) × IsLeft rest ds × (bs ≡ xs ++ ds)
 

@@ -5,7 +5,7 @@
 -- Bits, prefixes and ranges of addresses; AS numbers: OctetsLaws, AddressLaws, PrefixLaws, RangeLaws, AsNumberLaws.
 -- How readings are put together: a part and others that its value says: ThenByLaws; two ends, and that nothing is
 -- allocated: ComposingLaws.
--- Blocks one behind another, counted, given by a cursor and kept: FollowLaws, ViewLaws, KeptLaws.
+-- Blocks in sequence, counted, given by a cursor and kept: FollowLaws, ViewLaws, KeptLaws.
 -- Choices and families; that reading them takes no memory: ExtensionLaws, FamilyLaws, NoMemoryLaws.
 -- What a list is written as, by its prefixes and ranges: ListTextLaws. As what a text is read: AsReadLaws, IpReadLaws,
 -- AddressTextLaws; of a list ListReadLaws; that it is read back ListReadBackLaws.

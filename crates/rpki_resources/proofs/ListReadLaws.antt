@@ -39,7 +39,7 @@ one-part (x ∷ xs) h = elim (eqb_tells x 44) [
       ∙ ap (onto_first x) (one-part xs (λ i lt e. h (suc i) (omega (arith, lt)) e))
 ]
 
--- ---- the loop: what the parts that are left say, all say
+-- ---- the loop: what the remaining parts say, all say
 
 pub record Reading (kind : ResourceKind) (text : List ℕ) (found : List Block) (left : Option (List ℕ)) : Type 0 where
   pub accepted : (bs : List Block) → AreBlockTexts kind (parts_of_rest left) bs

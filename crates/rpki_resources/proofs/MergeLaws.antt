@@ -21,7 +21,7 @@ among-append n (x ∷ xs) ys =
       ],
     )
 
--- what was found of both lists, and what is left of them
+-- what was found of both lists, and the rest of them
 pub record Merging (one other found xs ys : List Block) : Type 0 where
   pub xs_are : AreCanonical xs
   pub ys_are : AreCanonical ys
@@ -57,7 +57,7 @@ overlap-swapped x y o h = record {
   canonical = h.canonical;
 }
 
--- what is found in one block and goes before what is found behind it
+-- what is found in one block and goes before what is found after it
 pub put-before : (x : Block) (later ms : List Block) (o : Option Block) → AreCanonical (x ∷ later)
     → ((n : ℕ) → IsAmong n (blocks_of o) → IsIn n x) → AreCanonical (blocks_of o) → AreCanonical ms
     → IsSubset ms later → AreCanonical (blocks_of o ++ ms)

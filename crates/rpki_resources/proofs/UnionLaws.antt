@@ -70,7 +70,7 @@ grows before b top may near le ge is = record {
   inside n a (inr from) (inl over) (inl t) = let no : ⊥ = omega (arith, over, a.1, t) in absurd no
   inside n a (inr from) (inl over) (inr t) = inr (from, omega (arith, a.1, t))
 
--- ---- what was found, the open block, and what is left of both lists
+-- ---- what was found, the open block, and the rest of both lists
 
 pub record Uniting (one other found : List Block) (before : Block) (xs ys : List Block) : Type 0 where
   pub xs_are : AreCanonical xs

@@ -285,7 +285,7 @@ module _ (s n m : List ℕ) where
         (record { front = l.first; parts = l.parts; spelled = l.one.value })
 
   module _ (a : Accepts (SpellsContents sequence true) s n m) where
-    -- what stands in front, and what follows it
+    -- what is in front, and what follows it
     in-front : (x : AddressFamily × ChoiceView) (q : List ℕ) → Spells SpellsNamed s x q
         → (q ≡ m) × family_parts.spells x n
     in-front x q h =

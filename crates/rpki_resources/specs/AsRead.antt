@@ -26,7 +26,7 @@ after_s (Some rest) = after_letter 83 115 rest
 abbrev pub without_as : List ℕ → List ℕ
 without_as text = or_else (after_s (after_letter 65 97 text)) text
 
--- Decimal digits of a number below 2^32, behind `AS` or not. As the language reads numbers, a plus may stand in front
+-- Decimal digits of a number below 2^32, after `AS` or not. As the language reads numbers, a plus may be in front
 -- of the digits, and zeros.
 pub record IsAsnText (text : List ℕ) (a : Asn) : Type 0 where
   pub digits : IsNumeral 10 (without_leading_plus (without_as text))

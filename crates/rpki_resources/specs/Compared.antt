@@ -43,7 +43,7 @@ IsUntoldOfEither inner outer = IsUntold inner.v4 outer.v4 ⊎ IsUntold inner.v6 
 
 -- ---- of octets
 
--- both octets are blocks that may stand after a number, or there are none; and that either are not
+-- both octets are blocks that may be after a number, or there are none; and that either are not
 abbrev pub BothFollow : ResourceKind → ℕ → List ℕ → ℕ → List ℕ → Type 0
 BothFollow kind m s n t =
     ((bs : List Block) × SpellsFollowing kind (Some m) bs s) × ((bs : List Block) × SpellsFollowing kind (Some n) bs t)

@@ -22,7 +22,7 @@ octet_count size = (size + 7) / 8
 abbrev pub unused_bits : ℕ → ℕ
 unused_bits size = 8 * octet_count size - size
 
--- the bits, and zeros for those that are left over
+-- the bits, and zeros for those left over
 abbrev pub address_bits : Address → Bits
 address_bits x = bits_of (unused_bits x.size) (low_octets (octet_count x.size) (x.number * 2 ^ unused_bits x.size))
 
@@ -94,7 +94,7 @@ abbrev pub as_block_octets : Block → List ℕ
 as_block_octets b =
     if b.low == b.high then as_number_octets b.low else pair_octets (as_number_octets b.low) (as_number_octets b.high)
 
--- ---- a block of a kind, and blocks one after another
+-- ---- a block of a kind, and blocks in sequence
 
 -- numbers of the kind, one at least
 abbrev pub IsBlockOf : ResourceKind → Block → Type 0

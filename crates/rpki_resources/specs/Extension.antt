@@ -81,19 +81,19 @@ pub data AreFamilies (x : IpResourcesView) (c : List ℕ) : Type 0 where
   BothFamilies : (v4 v6 : ChoiceView) → x ≡ families v4 v6 → SpellsBoth SpellsNamed SpellsNamed (Ipv4, v4) (Ipv6, v6) c
       → AreFamilies x c
 
--- what is wrong behind the second family: it isn't IP version 6; else something follows
+-- what is wrong after the second family: it isn't IP version 6; else something follows
 abbrev pub IsAfterSecondFault : AddressFamily × ChoiceView → List ℕ → DecodeError → Type 0
 IsAfterSecondFault (Ipv4, v) r e = IsContentError e
 IsAfterSecondFault (Ipv6, v) r e = IsEndFault r e
 
--- IP version 6, behind IP version 4
+-- IP version 6, after IP version 4
 abbrev pub second_family : Format ChoiceView
 second_family = record {
   spells = λ v c. SpellsNamed (Ipv6, v) c;
   fault = FirstFault named_family.spells named_family.fault IsAfterSecondFault;
 }
 
--- what is wrong behind the first family: behind IP version 6 something follows; behind IP version 4 the second is wrong
+-- what is wrong after the first family: after IP version 6 something follows; after IP version 4 the second is wrong
 abbrev pub IsAfterFirstFault : AddressFamily × ChoiceView → List ℕ → DecodeError → Type 0
 IsAfterFirstFault (Ipv4, v) r e = (r ≢ []) × second_family.fault r e
 IsAfterFirstFault (Ipv6, v) r e = IsEndFault r e

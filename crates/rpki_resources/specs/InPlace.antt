@@ -42,7 +42,7 @@ Counts kind s (Err e) = SpellsNothing (AreBlocks kind) s × (blocks kind).fault 
 
 -- ---- a cursor over blocks
 
--- what is left of them, and the highest number that was given
+-- the rest of them, and the highest number that was given
 pub record Rest : Type 0 where
   pub kind : ResourceKind
   pub last : Option ℕ
@@ -51,11 +51,11 @@ pub record Rest : Type 0 where
 abbrev pub rest_of : ResourceKind → Option ℕ → List ℕ → Rest
 rest_of kind last octets = record { kind = kind; last = last; octets = octets }
 
--- these blocks are left
+-- these blocks remain
 abbrev pub IsLeft : Rest → List Block → Type 0
 IsLeft x bs = SpellsFollowing x.kind x.last bs x.octets
 
--- of the blocks that were left the first was given, and the others are left now
+-- of the remaining blocks the first was given, and the others remain now
 abbrev pub Gives : List Block → Option Block → Rest → Type 0
 Gives [] found after = (found ≡ None) × IsLeft after []
 Gives (b ∷ bs) found after = (found ≡ Some b) × IsLeft after bs

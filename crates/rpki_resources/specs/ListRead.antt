@@ -26,7 +26,7 @@ abbrev pub family_of_block : IpBlock → AddressFamily
 family_of_block (PrefixBlock p) = family_of p.addr
 family_of_block (RangeBlock r) = family_of r.min
 
--- The numbers of a block of addresses. The highest address of a prefix has ones behind the bits that are shared.
+-- The numbers of a block of addresses. The highest address of a prefix has ones after the bits that are shared.
 abbrev pub ip_numbers : IpBlock → Block
 ip_numbers (PrefixBlock p) =
     record {
@@ -61,7 +61,7 @@ IsBlockTextError AsNumbers text OutOfMemory = ⊥
 abbrev pub parts_at_commas : List ℕ → List (List ℕ)
 parts_at_commas text = slice_split (λ c. c == 44) text
 
--- those of what is left of a text; none where nothing is
+-- those of the rest of a text; none where nothing is
 abbrev pub parts_of_rest : Option (List ℕ) → List (List ℕ)
 parts_of_rest None = []
 parts_of_rest (Some text) = parts_at_commas text
@@ -73,7 +73,7 @@ AreBlockTexts kind [] (b ∷ bs) = ⊥
 AreBlockTexts kind (part ∷ parts) [] = ⊥
 AreBlockTexts kind (part ∷ parts) (b ∷ bs) = IsBlockText kind (trim part) b × AreBlockTexts kind parts bs
 
--- The error is that of the first part that writes none. Allocation fails only behind a part that writes one.
+-- The error is that of the first part that writes none. Allocation fails only after a part that writes one.
 abbrev pub AreBlockTextsError : ResourceKind → List (List ℕ) → ParseBlocksError → Type 0
 AreBlockTextsError kind [] e = ⊥
 AreBlockTextsError kind (part ∷ parts) e =

@@ -27,18 +27,18 @@ abbrev pub Follows : Option ℕ → Block → Type 0
 Follows None b = Unit {0}
 Follows (Some high) b = suc high < b.low
 
--- a block that may stand behind that number
+-- a block that may follow that number
 pub record SpellsNext (kind : ResourceKind) (last : Option ℕ) (b : Block) (p : List ℕ) : Type 0 where
   pub block : (block_of kind).spells b p
   pub follows : Follows last b
 
--- blocks, each of which may stand behind the one before it
+-- blocks, each of which may follow the one before it
 abbrev pub SpellsFollowing : ResourceKind → Option ℕ → List Block → List ℕ → Type 0
 SpellsFollowing kind last [] c = c ≡ []
 SpellsFollowing kind last (b ∷ bs) c =
     (rest : List ℕ) × Spells (SpellsNext kind last) c b rest × SpellsFollowing kind (Some b.high) bs rest
 
--- no block is there, and the error is that of a block; or one is there, and may not stand behind that number
+-- no block is there, and the error is that of a block; or one is there, and may not follow that number
 pub data IsNextFault (kind : ResourceKind) (last : Option ℕ) (s : List ℕ) (e : DecodeError) : Type 0 where
   InBlock : Refuses (block_of kind).spells s → (block_of kind).fault s e → IsNextFault kind last s e
   OutOfOrder : (b : Block) (r : List ℕ) → Accepts (block_of kind).spells s b r → (Follows last b → ⊥)

@@ -59,7 +59,7 @@ pub record IsPrefixOf (family : AddressFamily) (p : Prefix) (low high : ℕ) : T
 abbrev pub IsBlockOfFamily : AddressFamily → Block → Type 0
 IsBlockOfFamily family block = (block.low ≤ block.high) × (block.high < 2 ^ width family)
 
--- b has these addresses: as a prefix, or as a range that is none
+-- b has these addresses: as a prefix, or as a range that isn't one
 abbrev pub IsIpBlockOf : AddressFamily → IpBlock → Block → Type 0
 IsIpBlockOf family (PrefixBlock p) block = IsPrefixOf family p block.low block.high
 IsIpBlockOf family (RangeBlock r) block =

@@ -19,7 +19,7 @@ pub record MayGrow (before b : Block) : Type 0 where
   pub order : before.low ≤ b.low
   pub some : b.low ≤ b.high
 
--- Their numbers are those of a closed block, where there is one, and of an open one, which doesn't begin behind either.
+-- Their numbers are those of a closed block, where there is one, and of an open one, which doesn't begin after either.
 -- What was canonical with the first at its end is so with the other two.
 pub record IsGrown (before b : Block) (closed : Option Block) (last : Block) : Type 0 where
   pub numbers : (n : ℕ) → (IsAmong n (blocks_of closed) ⊎ IsIn n last) ↔ (IsIn n before ⊎ IsIn n b)

@@ -102,7 +102,7 @@ impl Blocks {
         Some(Blocks { items })
     }
 
-    /// The set of the numbers of these blocks, which may stand in any order, overlap, and be empty. It takes n log n
+    /// The set of the numbers of these blocks, which may be in any order, overlap, and be empty. It takes n log n
     /// steps.
     ///
     /// Returns `AllocError` if allocation fails, only where there is a block.

@@ -16,7 +16,7 @@ use crate::listed::take_next;
 use crate::unread::{Unread, find_as, find_ip};
 use rpki_der::Constructed;
 
-/// Whether all of the octets are blocks that may stand after this number, or there are none.
+/// Whether all of the octets are blocks that may be after this number, or there are none.
 fn are_following(octets: Constructed<'_>, kind: ResourceKind, last: u128) -> bool
     ensures { IsTrue result ↔ ((bs : List Block) × SpellsFollowing kind (Some last) bs (left octets.entry)) }
 {
@@ -49,7 +49,7 @@ fn holds(outer: Block, inner: Block) -> bool
     outer.low <= inner.low && inner.high <= outer.high
 }
 
-/// The answer, where each of both octets are blocks that may stand after a number, or there are none.
+/// The answer, where each of both octets are blocks that may be after a number, or there are none.
 fn answered(
     answer: bool,
     kind: ResourceKind,

@@ -76,7 +76,7 @@ fn take_named<'a>(
     )
 }
 
-/// The resources of IP version 6, which stand behind those of IP version 4.
+/// The resources of IP version 6, which follow those of IP version 4.
 fn take_second<'a>(contents: &mut Constructed<'a>) -> Result<ChoiceView<'a>, DecodeError>
     ensures { TakesAll (λ v. v) second_family (left contents.old) (left contents.new) result }
 {

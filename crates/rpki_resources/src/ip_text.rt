@@ -53,7 +53,7 @@ impl Display for AddressRange {
     }
 }
 
-/// A block of addresses: a prefix, or a range that is none.
+/// A block of addresses: a prefix, or a range that isn't one.
 #[derive(Clone, Copy, Debug, PartialEq, Eq)]
 pub enum IpBlock {
     /// A prefix.

@@ -105,7 +105,7 @@ fn block_of_text(kind: ResourceKind, text: &str) -> Result<Block, ParseBlocksErr
     }
 }
 
-/// What stands before the first comma of a text, and what stands after it, where there is one.
+/// What is before the first comma of a text, and what is after it, where there is one.
 fn first_part(text: &str) -> (&str, Option<&str>)
     ensures { parts_at_commas text.now ≡ result.0.now ∷ parts_of_rest (option_map (λ t. t.now) result.1) }
 {

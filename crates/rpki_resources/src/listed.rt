@@ -1,4 +1,4 @@
-//! Blocks in canonical form, one after another (RFC 3779 2.2.3.5, 2.2.3.6, 3.2.3.3, 3.2.3.4).
+//! Blocks in canonical form, in sequence (RFC 3779 2.2.3.5, 2.2.3.6, 3.2.3.3, 3.2.3.4).
 
 ghost use Rattle.std.specs.Prelude.{◌↔◌, IsTrue};
 ghost use Rattle.rpki_der.specs.Prelude.{left, Takes};
@@ -30,7 +30,7 @@ fn follows(last: Option<u128>, block: Block) -> bool
     }
 }
 
-/// A block of the kind that may stand behind one whose highest number is this.
+/// A block of the kind that may follow one whose highest number is this.
 pub fn take_next(
     cons: &mut Constructed<'_>,
     kind: ResourceKind,

@@ -116,7 +116,7 @@ fn take_ends(contents: &mut Constructed<'_>, family: AddressFamily) -> Result<Bl
     }
 }
 
-/// A block of addresses: a prefix, or a range that is none.
+/// A block of addresses: a prefix, or a range that isn't one.
 pub fn take_block(cons: &mut Constructed<'_>, family: AddressFamily) -> Result<Block, DecodeError>
     ensures { Takes (λ b. b) (block (width family)) (left cons.old) (left cons.new) result }
 {

@@ -10,7 +10,7 @@ use crate::canonical::begins_past;
 use crate::merge::push_some;
 use std::alloc::{AllocError, Global};
 
-/// A block, and what is left of two lists without it.
+/// A block, and the rest of two lists without it.
 #[derive(Drop)]
 struct Next<'a> {
     block: Block,

@@ -71,7 +71,7 @@ fn count_blocks(octets: &[u8], kind: ResourceKind) -> Result<usize, DecodeError>
 }
 
 impl<'a> BlocksView<'a> {
-    /// The blocks of the kind that are all that is left, in canonical form, one at least. It takes no memory.
+    /// The blocks of the kind that are the whole rest, in canonical form, one at least. It takes no memory.
     ///
     /// The error is that of the leftmost block that isn't there; `Content` for a block that isn't in canonical form, or
     /// where there is none.
@@ -126,7 +126,7 @@ impl<'a> BlocksView<'a> {
 }
 
 impl<'a> BlockCursor<'a> {
-    /// The next block; None where none is left.
+    /// The next block; None where none remains.
     pub fn next_block(&mut self) -> Option<Block>
         ensures given { (bs : List Block) → IsLeft self.old bs → Gives bs result self.new }
         ensures shorter { IfSome result (λ _. length self.new.octets < length self.old.octets) }

@@ -168,7 +168,7 @@ fn is_kept(alloc: Global, kind: Kind, octets: &[u8], expected: Found) -> bool {
     }
 }
 
-/// Whether the contents at this cursor are what is expected, in place; what is left is expected to be `Trailing`.
+/// Whether the contents at this cursor are what is expected, in place; the rest is expected to be `Trailing`.
 fn is_in_place(kind: Kind, octets: &[u8], expected: Found) -> bool {
     let mut cons = Constructed::from_slice(octets);
     let found = match kind {

@@ -17,7 +17,7 @@ use Rattle.rpki_text.proofs.RelativeLaws.{relative-other-module}
 use Rattle.rpki_text.proofs.BelowLaws.{AtOrBelow, relative-path_left, path_left-root, path_left-same, path_left-below}
 use Rattle.rpki_text.proofs.BelowLaws.{path_left-some, named-open}
 
--- below a base that has no slash last, the path is the base, a slash and what is left
+-- below a base that has no slash last, the path is the base, a slash and the rest
 below-open : (path b p : List ℕ) → is_dir b ≡ false → 0 < length p → path_left path (pieces b) ≡ Some p
     → path ≡ (b ++ 47 ∷ []) ++ p
 below-open path b p o l h = by_cases (path_left-some path b p h) where
@@ -29,7 +29,7 @@ below-open path b p o l h = by_cases (path_left-some path b p h) where
       let is : r ≡ p = cc in
       e ∙ sym (append_assoc b (47 ∷ []) r) ∙ ap (λ x. (b ++ 47 ∷ []) ++ x) is
 
--- a path that is left of another, put after it with a slash between, is that other
+-- the rest of a path after another, put after it with a slash between, is that path
 pub path-back : (path base p : List ℕ) → names_refusal (segments base) ≡ None → 0 < length p
     → path_left path (segments base) ≡ Some p → with_slash base ++ p ≡ path
 path-back path base p good l h = by_cases (slash-cases base) where

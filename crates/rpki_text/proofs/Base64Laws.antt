@@ -49,7 +49,7 @@ pub appends-taken : (old new : Option (List ℕ)) (out text : List ℕ) (n k : �
     → Appends old new (take k out) → Appends old new text
 appends-taken old new out text n k e s h = subst (λ (t : List ℕ). Appends old new t) (ap (λ j. take j out) s ∙ e) h
 
--- where nothing is left, all is encoded
+-- where nothing remains, all is encoded
 pub all-encoded : (e : GeneralPurpose) (written all rest : List ℕ) → rest ≡ []
     → written ++ encode_of e rest ≡ encode_of e all → written ≡ encode_of e all
 all-encoded e written all rest none h =

@@ -34,7 +34,7 @@ join-append (p ∷ q ∷ ps) qs f k =
 bytes-eq-is : (u v : List ℕ) → bytes_eq u v ≡ true → u ≡ v
 bytes-eq-is u v h = (bytes_eq-Decides u v).0 h
 
--- what is left comes after the prefix
+-- the rest comes after the prefix
 pub strip_prefix-is : (us vs left : List (List ℕ)) → strip_prefix us vs ≡ Some left → us ≡ vs ++ left
 strip_prefix-is us [] left h = cc
 strip_prefix-is [] (v ∷ vs) left h = cc

@@ -102,7 +102,7 @@ is_dir-joined t p = by_cases (slash-cases t) where
       rw e (ap (λ s. is_dir (s ++ p)) (with_slash-dir (f ++ 47 ∷ []) (is_dir-push-slash f)) ∙ ap is_dir
       (append_assoc f (47 ∷ []) p) ∙ is_dir-at-slash f p)
 
--- ---- what is left of a list of names
+-- ---- the rest of a list of names
 
 option-or-append : (o r s : Option Error) → option_or o r ≡ None → (r ≡ None → s ≡ None) → option_or o s ≡ None
 option-or-append None r s h k = k h
@@ -165,7 +165,7 @@ take-kept f y z n k h =
     take-append-le k (drop n f) w (omega arith) in
     part z ∙ sym (part y)
 
--- a cut text: what stands before its path ends with a slash
+-- a cut text: what is before its path ends with a slash
 pub record Head (t : List ℕ) (m p : ℕ) : Type 0 where
   pub head : List ℕ
   pub long : length head + 1 ≡ p

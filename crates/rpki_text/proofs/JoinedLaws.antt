@@ -1,4 +1,4 @@
--- A text with a path joined to it, by whether a slash stands between them.
+-- A text with a path joined to it, by whether a slash is between them.
 use Rattle.std.proofs.Common.{◌≡◌, ℕ, ◌<◌, false, not, List, [], ◌++◌, length, sym}
 use Rattle.std.proofs.Common.{ap, ◌∙◌}
 use Rattle.std.proofs.lemmas.List.{append-nil}

@@ -18,7 +18,7 @@ use Rattle.rpki_text.specs.RsyncText.{authority_of, module_name_of, path_of, IsR
 use Rattle.rpki_text.specs.RsyncText.{rsync_refusal, path_refusal, names_refusal}
 use Rattle.rpki_text.proofs.UriLaws.{module-places, after-first-drop, refuses-nothing}
 
--- a list with a slash is what stands before it, the slash, and what follows
+-- a list with a slash is what is before it, the slash, and what follows
 at-slash : (s : List ℕ) → position_or_len is_slash s < length s
     → s ≡ before_first is_slash s ++ codes "/" ++ after_first is_slash s
 at-slash s h =

@@ -8,7 +8,7 @@ use Rattle.rpki_text.specs.Segments.{segments}
 use Rattle.rpki_text.specs.RsyncText.{piece_refusal, names_refusal, path_refusal, rsync_refusal}
 use Rattle.rpki_text.specs.HttpsText.{https_refusal}
 
--- an error that is none, or another than an allocation failure
+-- an error that isn't one, or another than an allocation failure
 abbrev pub NoMemory : Option Error → Type 0
 NoMemory o = o ≡ Some OutOfMemory → ⊥
 

@@ -18,7 +18,7 @@ use Rattle.rpki_text.proofs.JoinLaws.{segments-closed}
 abbrev pub is_odd : ℕ → ℕ → Bool
 is_odd before b = is_slash before && (is_slash b || b == 46)
 
--- no slash or dot follows a slash, where another octet stands before the list
+-- no slash or dot follows a slash, where another octet is before the list
 abbrev pub are_ordinary : ℕ → List ℕ → Bool
 are_ordinary before [] = true
 are_ordinary before (b ∷ bs) = not (is_odd before b) && are_ordinary b bs
@@ -108,7 +108,7 @@ not-false : (v : Bool) → not v ≡ true → v ≡ false
 not-false true e = cc
 not-false false e = refl
 
--- nothing is wrong with a segment that begins so, and then with the path where nothing is wrong behind its slash
+-- nothing is wrong with a segment that begins so, and then with the path where nothing is wrong after its slash
 good-first : (b : ℕ) (bs : List ℕ) → length (b ∷ bs) < 256 → is_odd 47 b ≡ false
     → (position_or_len is_slash (b ∷ bs) < length (b ∷ bs) → names_refusal (segments (after_first is_slash (b ∷ bs))) ≡
     None)

@@ -96,7 +96,7 @@ root-is_dir : (t : List ℕ) → segments t ≡ [] → is_dir t ≡ true
 unfolding segments is_dir
 root-is_dir t h = no-names (pieces t) h
 
--- ---- what stands before the first slash
+-- ---- what is before the first slash
 
 front-no_slash : (xs : List ℕ) (n : ℕ) → n ≡ position_or_len is_slash xs → list_any is_slash (take n xs) ≡ false
 front-no_slash [] n e = rw e refl

@@ -1,4 +1,4 @@
--- Where the parts of a text stand, by the places where it is cut.
+-- Where the parts of a text are, by the places where it is cut.
 use Rattle.std.proofs.Common.{◌≡◌, ◌≤◌, ℕ, ◌-◌, ◌+◌, true, List, ◌++◌, length, take, drop, slice_range, sym, ap, ◌∙◌}
 use Rattle.std.proofs.Common.{arith, le_refl, take_all}
 use Rattle.std.specs.List.{list_all}

@@ -1,4 +1,4 @@
--- Where the parts of an rsync text stand.
+-- Where the parts of an rsync text are.
 use Rattle.std.proofs.Common.{◌≡◌, ℕ, ◌+◌, ◌-◌, ◌<◌, ◌≤◌, Bool, true, false, cond, not, ◌&&◌, ◌||◌, nat_lt, nat_le}
 use Rattle.std.proofs.Common.{List, [], ◌∷◌, length, take, drop, Some, None, sym, refl, ap, ◌∙◌, arith}
 use Rattle.std.specs.List.{position_or_len, before_first, after_first, list_any, list_all}
@@ -26,7 +26,7 @@ pub after-first-drop : (n : ℕ) (t : List ℕ)
     → after_first is_slash (drop n t) ≡ drop (n + (position_or_len is_slash (drop n t) + 1)) t
 after-first-drop n t = drop-drop (position_or_len is_slash (drop n t) + 1) n t
 
--- the module stands where two slashes with something before each do
+-- the module is where two slashes with something before each do
 pub has_module-places : (t : List ℕ) (a m : ℕ) → a ≡ position_or_len is_slash (drop 8 t)
     → m ≡ position_or_len is_slash (drop (9 + a) t)
     → has_module t ≡ (nat_lt 0 a && nat_lt 0 m && nat_lt m (length (drop (9 + a) t)))

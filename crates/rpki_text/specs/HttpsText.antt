@@ -98,8 +98,8 @@ without_slash path = if ends_in_slash path then take (length path - 1) path else
 abbrev pub up_to_slash : List ℕ → List ℕ
 up_to_slash path = take (length path - suffix_len (λ b. not (is_slash b)) path) path
 
--- the path above: one last slash dropped, and then everything after the last slash that is left; none where nothing is
--- left
+-- the path above: one last slash dropped, and then everything after the last remaining slash; none where nothing
+-- remains
 unfoldable pub path_above : List ℕ → Option (List ℕ)
 path_above path = if nat_lt 0 (length (without_slash path)) then Some (up_to_slash (without_slash path)) else None
 
@@ -110,7 +110,7 @@ unfoldable pub https_parent_of : List ℕ → Option (List ℕ)
 https_parent_of text = option_map (λ path. take (8 + length (https_authority text)) text ++ path)
     (path_above (https_path text))
 
--- the parent of a text ends there: what stands before the path, and so much of the path as is above it
+-- the parent of a text ends there: what is before the path, and so much of the path as is above it
 pub record IsHttpsParentEnd (text : List ℕ) (end : ℕ) : Type 0 where
   pub len : ℕ
   pub at : end ≡ 8 + length (https_authority text) + len

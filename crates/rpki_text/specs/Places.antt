@@ -1,4 +1,4 @@
--- Where the parts of a text stand in it.
+-- Where the parts of a text are in it.
 use Rattle.std.specs.Prelude.{◌≡◌, ◌≤◌, ◌<◌, ℕ, List, length, slice_range, Some}
 use Rattle.std.specs.declared.ops.Range.{Range}
 use Rattle.rpki_text.specs.RsyncText.{uri_of, relative}
@@ -9,7 +9,7 @@ pub record IsPartAt (text : List ℕ) (range : Range ℕ) (part : List ℕ) : Ty
   pub within : range.end ≤ length text
   pub octets : slice_range text range.start range.end ≡ part
 
--- the path from v to u stands in the text of u, at this range, which is the end of the text
+-- the path from v to u is in the text of u, at this range, which is the end of the text
 pub record IsRelativeAt (u v : List ℕ) (range : Range ℕ) : Type 0 where
   pub path : List ℕ
   pub leads : relative (uri_of u) (uri_of v) ≡ Some path

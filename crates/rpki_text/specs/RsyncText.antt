@@ -26,7 +26,7 @@ abbrev pub names_refusal : List (List ℕ) → Option Error
 names_refusal [] = None
 names_refusal (name ∷ more) = option_or (piece_refusal name) (names_refusal more)
 
--- what is wrong with what stands after the scheme, or with a path that is joined
+-- what is wrong with what is after the scheme, or with a path that is joined
 unfoldable pub path_refusal : List ℕ → Option Error
 path_refusal path = if nat_le 3072 (length path) then Some LongUri else names_refusal (segments path)
 
@@ -112,7 +112,7 @@ strip_prefix us [] = Some us
 strip_prefix [] (v ∷ vs) = None
 strip_prefix (u ∷ us) (v ∷ vs) = if bytes_eq u v then strip_prefix us vs else None
 
--- the path that is left of a path after these segments, if it begins with them
+-- the remaining path of a path after these segments, if it begins with them
 unfoldable pub path_left : List ℕ → List (List ℕ) → Option (List ℕ)
 path_left path names = option_map (λ left. path_text left (is_dir path)) (strip_prefix (segments path) names)
 
@@ -237,7 +237,7 @@ abbrev pub same_module_of : List ℕ → List ℕ → Bool
 same_module_of s t =
     bytes_eq (lowercase (authority_of s)) (lowercase (authority_of t)) && bytes_eq (module_name_of s) (module_name_of t)
 
--- the module name begins there, behind the authority, and the path behind the module name
+-- the module name begins there, after the authority, and the path after the module name
 abbrev pub StartAt : List ℕ → ℕ → ℕ → Type 0
 StartAt text name path = (name ≡ 9 + position_or_len is_slash (drop 8 text))
     × (path ≡ name + position_or_len is_slash (drop name text) + 1)

@@ -1,5 +1,5 @@
 //! Laws of the definitions. Each function does nothing, and its contract is the law that it is named for; the laws of
-//! single calls stand on those calls.
+//! single calls rest on those calls.
 
 ghost use Rattle.rpki_text.specs.Laws.{OneMeaning, EqualParts, EqualParents, EqualModuleAndPath, OneHttpsMeaning};
 ghost use Rattle.rpki_text.specs.Laws.{EqualHttpsParts, EqualHttpsParents};

@@ -25,8 +25,8 @@ abbrev pub HasNoTime : List ℕ → Type 0
 HasNoTime s = (x : TagName × Bool × List ℕ) × (r : List ℕ) × Spells (SpellsWanted IsPrimitive) s x r
     × ((t : DateTime) → ReadsAs x.0 x.2 t → ⊥)
 
--- The first error: that of the header; then the constructed form, of any tag; then contents that are longer than what
--- is left; then a primitive value, of any tag, that is no time.
+-- The first error: that of the header; then the constructed form, of any tag; then contents that are longer than the
+-- rest; then a primitive value, of any tag, that is no time.
 abbrev pub IsTimeFault : List ℕ → DecodeError → Type 0
 IsTimeFault s Truncated = IsWantedFault IsPrimitive s Truncated
 IsTimeFault s BadTag = IsWantedFault IsPrimitive s BadTag

@@ -35,7 +35,7 @@ pub fn few_octets_are_written()
     ensures period { (p : Period) → length (period_octets p) ≤ 36 }
 {}
 
-/// What is written of a serial number is read as itself, and what follows is left; and what is read is written as the
+/// What is written of a serial number is read as itself, and what follows remains; and what is read is written as the
 /// same octets.
 pub fn serials_read_back(cons: &mut Constructed<'_>) -> Result<Serial, DecodeError>
     ensures read { (n : ℕ) (rest : List ℕ) → n < 2 ^ 159 → left cons.old ≡ serial_octets n ++ rest
@@ -82,7 +82,7 @@ pub fn texts_read_back()
     ensures window { (y : ℤ) → (is_utc_year y ≡ true) ↔ IsUtcYear y }
 {}
 
-/// What is written of a time is read as the time without parts of a second, and what follows is left: always, where
+/// What is written of a time is read as the time without parts of a second, and what follows remains: always, where
 /// the year chooses the text; always, as generalized time; and as UTC time exactly in the years 1950 to 2049.
 pub fn times_read_back(cons: &mut Constructed<'_>) -> Result<Time, DecodeError>
     ensures varied { (t : Civil) (r : List ℕ) → IsTimeYear t.date.year → left cons.old ≡ time_octets t ++ r
@@ -101,7 +101,7 @@ pub fn times_written_the_same()
         → (time_octets t ≡ time_octets u) ↔ (cut t ≡ cut u) }
 {}
 
-/// What is written of a period is read as the period without parts of a second, and what follows is left.
+/// What is written of a period is read as the period without parts of a second, and what follows remains.
 pub fn periods_read_back(cons: &mut Constructed<'_>) -> Result<Validity, DecodeError>
     ensures { (p : Period) (rest : List ℕ) → AreTimeYears p → left cons.old ≡ period_octets p ++ rest
         → (result ≡ Ok (cut_period p)) × (left cons.new ≡ rest) }

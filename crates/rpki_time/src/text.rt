@@ -18,7 +18,7 @@ fn digits(number: u8) -> [u8; 2]
     [b'0' + number / 10, b'0' + number % 10]
 }
 
-/// The number whose two decimal digits stand at the place; None if other octets do.
+/// The number whose two decimal digits are at the place; None if other octets do.
 fn pair_at(text: &[u8], at: usize) -> Option<u32>
     requires { at + 1 < length text.now }
     ensures value { IfSome result (IsPairAt text.now at) }
@@ -113,7 +113,7 @@ impl Time {
     }
 }
 
-/// The time in the year whose month, day, hour, minute and second stand from the place on, then Z; None if they do not.
+/// The time in the year whose month, day, hour, minute and second are from the place on, then Z; None if they do not.
 fn tail_at(year: u32, text: &[u8], at: usize) -> Option<Time>
     requires fits { length text.now ≡ at + 11 }
     requires year { year < 10_000 }

@@ -74,7 +74,7 @@ impl Time {
         Ok(time)
     }
 
-    /// As [Time::take_from] where what is left begins with the identifier octets of one of the two tags, in either
+    /// As [Time::take_from] where the rest begins with the identifier octets of one of the two tags, in either
     /// form; else None.
     pub fn take_opt_from(cons: &mut Constructed<'_>) -> Result<Option<Time>, DecodeError>
         ensures { ReadsWhere HasTimeTag (λ t. t) SpellsTime IsTimeFault (left cons.old) (left cons.new) result }

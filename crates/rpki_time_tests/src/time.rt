@@ -138,7 +138,7 @@ fn string_of(alloc: Global, octets: &'static [u8]) -> Result<Captured, AllocErro
     Captured::from_values(alloc, &string)
 }
 
-/// What the reader returns on these octets, which follow the header of an OCTET STRING; and how many are left.
+/// What the reader returns on these octets, which follow the header of an OCTET STRING; and how many remain.
 fn read(
     alloc: Global,
     reader: Reader,

@@ -1,4 +1,4 @@
--- Whether an authority has issued a list: what is asked, one after another.
+-- Whether an authority has issued a list: what is asked, in sequence.
 use Rattle.std.proofs.Common.{◌≡◌, Result, Ok, Err, inl, inr}
 use Rattle.jiff.specs.Types.{DateTime}
 use Rattle.rpki.specs.declared.repository.error.ValidationError.{ValidationError}

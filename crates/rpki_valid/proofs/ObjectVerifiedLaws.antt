@@ -1,4 +1,4 @@
--- Whether a signed object is valid: what is asked, one after another.
+-- Whether a signed object is valid: what is asked, in sequence.
 use Rattle.std.proofs.Common.{◌≡◌, ℕ, List, Option, Result, Ok, Err, inl, inr}
 use Rattle.jiff.specs.Types.{DateTime}
 use Rattle.rpki.specs.declared.repository.error.ValidationError.{ValidationError}

@@ -25,7 +25,7 @@ use Rattle.rpki_valid.specs.ErrorTexts.{no_addresses_text, inherited_addresses_t
 use Rattle.rpki_valid.specs.ErrorTexts.{prefix_outside_text, no_numbers_text, inherited_numbers_text}
 use Rattle.rpki_valid.specs.ErrorTexts.{addresses_beside_text, customer_outside_text}
 
--- ---- rules, one after another
+-- ---- rules, in sequence
 
 -- the rule is broken, and the error has this text
 abbrev pub IsBroken : Type 0 → List ℕ → ValidationError → Type 0

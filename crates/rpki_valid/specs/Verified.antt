@@ -51,8 +51,9 @@ pub record IsLink (profile : Profile) (strict : Bool) (asked : Option Staleness)
   pub unrevoked : IsUnrevokedBy by.rsa by.ecdsa by.sha1 asked issuer.cert.tbs at x.cert
   pub resources : HasResources x.cert.tbs.extensions issuer.resources x.resources
 
--- what all certificates of a path are held to: the key of its trust anchor, which a locator names (RFC 8630 2); which
--- rules are asked strictly, that of names among them; and how many authorities there are at most below the trust anchor
+-- what all certificates of a path are checked against: the key of its trust anchor, which a locator names (RFC 8630 2);
+-- which rules are asked strictly, that of names among them; and how many authorities there are at most below the trust
+-- anchor
 pub record Terms : Type 0 where
   pub key : KeyParts
   pub strictness : Strictness
@@ -83,8 +84,8 @@ pub data IsAuthorityAt (terms : Terms) (asked : Option Staleness) (by : Checkers
       → IsLink Ca terms.strictness.names asked by at issuer x → IsAuthorityAt terms asked by at m x
 
 -- an authority that was verified: its certificate, its resources, the period in which all certificates of its path are
--- valid, what they are held to, the steps up to the trust anchor, what was asked of lists, and what their signatures
--- were checked with
+-- valid, what they are checked against, the steps up to the trust anchor, what was asked of lists, and what their
+-- signatures were checked with
 pub record Verified : Type 1 where
   pub cert : CertParts
   pub resources : ResourceSet

@@ -50,7 +50,7 @@ fn verify_rules(aspa: &Aspa, held: &ResourceSet) -> Result<(), ValidationError>
 /// customer (draft-ietf-sidrops-aspa-profile 4). Whether the object is signed, and its certificate is valid, is not
 /// looked at: see [verify_object_signature](crate::verify_object_signature) and [CurrentCrl::process_aspa].
 ///
-/// The error is `Verification` of the first rule that is broken, behind `draft-ietf-sidrops-aspa-profile 4: `: `no AS
+/// The error is `Verification` of the first rule that is broken, after `draft-ietf-sidrops-aspa-profile 4: `: `no AS
 /// numbers`; `inherited AS numbers`; `addresses beside AS numbers`; `customer outside of the resources`; or
 /// `OutOfMemory` if allocation fails.
 pub fn verify_own_aspa(aspa: &Aspa, alloc: Global) -> Result<(), ValidationError>

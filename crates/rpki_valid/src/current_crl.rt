@@ -136,7 +136,7 @@ impl<'p, P: Provider> ResourceCert<'p, P> {
     /// RFC 6487 5), the list was issued by the moment, and the next one was not due before it, unless a stale list is
     /// accepted. Allocates nothing.
     ///
-    /// The error is `Verification` of the first that doesn't hold: the period, as of [verify_period]; then, behind `RFC
+    /// The error is `Verification` of the first that doesn't hold: the period, as of [verify_period]; then, after `RFC
     /// 5280 6.3.3: `, `bad signature`; `issuer name mismatch`; `authority key identifier mismatch`; `issued later`;
     /// `stale list`.
     pub fn crl<'a>(
@@ -240,7 +240,7 @@ impl<'a, 'p, P: Provider> CurrentCrl<'a, 'p, P> {
 
     /// Tests that the certificate has the profile of a certification authority (RFC 6487 4), that the verified
     /// authority has issued it, that its list doesn't have it, and that it and all of the path to the trust anchor is
-    /// valid at the moment of the list. It is held to the terms of the path.
+    /// valid at the moment of the list. It is checked against the terms of the path.
     ///
     /// Its resources are settled under the issuer's, by its own policy: with that of RFC 6484 they are what it claims,
     /// which the issuer has to have (RFC 6487 7.2); with that of RFC 8360 they are so much of it as the issuer has

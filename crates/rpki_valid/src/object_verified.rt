@@ -80,7 +80,7 @@ fn verify_attributes<P: Provider>(
 /// the certificate's key, of RSA, as the provider says (RFC 6488 3, RFC 5652 5.4, 5.6). Whose certificate it is,
 /// isn't looked at: see [CurrentCrl::verify_object]. Allocates nothing.
 ///
-/// The error is `Verification` of the first that doesn't hold, behind `RFC 6488 3: `: `content type mismatch`; `message
+/// The error is `Verification` of the first that doesn't hold, after `RFC 6488 3: `: `content type mismatch`; `message
 /// digest mismatch`; then that of a malformed subject key identifier, or `subject key identifier mismatch`; `bad
 /// signature`.
 pub fn verify_object_signature<P: Provider>(

@@ -49,7 +49,7 @@ fn verify_rules(roa: &Roa, alloc: Global, held: &ResourceSet) -> Result<(), Vali
 /// each prefix (RFC 9582 5). Whether the object is signed, and its certificate is valid, is not looked at: see
 /// [verify_object_signature](crate::verify_object_signature) and [CurrentCrl::process_roa].
 ///
-/// The error is `Verification` of the first rule that is broken, behind `RFC 9582 5: `: `no addresses`; `inherited
+/// The error is `Verification` of the first rule that is broken, after `RFC 9582 5: `: `no addresses`; `inherited
 /// addresses`; `AS numbers beside prefixes`; `prefix outside of the resources`; or `OutOfMemory` if allocation fails.
 pub fn verify_own_roa(roa: &Roa, alloc: Global) -> Result<(), ValidationError>
     ensures { ChecksOwnRules (KeepsOwnOriginRules roa.now) (IsOwnOriginError roa.now) result }

@@ -1,9 +1,9 @@
-//! What the certificates of a path are held to.
+//! What the certificates of a path are checked against.
 
 use rpki::crypto::PublicKey;
 use rpki_objects::Strictness;
 
-/// What all certificates of a path are held to.
+/// What all certificates of a path are checked against.
 #[derive(Clone, Copy, Drop)]
 pub struct Terms<'p> {
     /// The key of the trust anchor, which a locator names (RFC 8630 2).

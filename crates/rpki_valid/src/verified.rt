@@ -171,14 +171,14 @@ impl<'p, P: Provider> ResourceCert<'p, P> {
         self.period
     }
 
-    /// What its path is held to, and all that it issues.
+    /// What its path is checked against, and all that it issues.
     pub fn terms(&self) -> Terms<'p>
         ensures { terms_in result ≡ self.now.terms }
     {
         self.terms
     }
 
-    /// Which rules its path was held to strictly, and what it issues will be.
+    /// Which rules its path was checked against strictly, and what it issues will be.
     pub fn strictness(&self) -> Strictness
         ensures { result ≡ self.now.terms.strictness }
     {
@@ -214,8 +214,8 @@ impl<'p, P: Provider> ResourceCert<'p, P> {
     }
 
     /// Tests that the certificate is a trust anchor: it has the profile of one (RFC 6487 4), its own key has signed it,
-    /// which is the key that its locator names (RFC 8630 3), and it is valid at the moment. All below it is held to the
-    /// terms too. Its resources are those that it lists.
+    /// which is the key that its locator names (RFC 8630 3), and it is valid at the moment. All below it is checked
+    /// against the terms too. Its resources are those that it lists.
     ///
     /// The errors are those of [TbsCert::inspect_ta](rpki_cert::TbsCert::inspect_ta); then those of
     /// [verify_issued](crate::verify_issued); then `Verification` with the text `RFC 8630 3: key is not that of the

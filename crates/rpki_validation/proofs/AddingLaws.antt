@@ -49,7 +49,7 @@ pub record IsAdded {V : Type 0} (Left All : V → Type 0) (old now : List V) : T
   pub only : (v : V) → Contains now v → Contains old v ⊎ All v
   pub kept : (v : V) → Contains old v → Contains now v
 
--- of what is left, the one is here, the other comes later
+-- of the rest, the one is here, the other comes later
 pub record IsSplit {V : Type 0} (Left Here Later : V → Type 0) : Type 0 where
   pub cases : (v : V) → Left v → Here v ⊎ Later v
   pub here : (v : V) → Here v → Left v
@@ -249,7 +249,7 @@ module _ {X : Type 0} (rsa ecdsa : X → Check) (sha1 sha256 : X → List ℕ �
   abbrev CaCert : Holder → List ℕ → Type 0
   CaCert = IsCertHere rsa ecdsa sha1 sha256 c Ca
 
-  -- of what files say, what those say that are left is still to be added
+  -- of what files say, what the rest say is still to be added
   pub record AreLeft (files rest : List ListedFile) (octets more : List (List ℕ)) (old now : Found X) : Type 0 where
     pub origins : IsAdded (λ v. IsSaidAmong (codes ".roa") (Origin v) rest more)
         (λ v. IsSaidAmong (codes ".roa") (Origin v) files octets) old.origins now.origins
@@ -302,7 +302,7 @@ module _ {X : Type 0} (rsa ecdsa : X → Check) (sha1 sha256 : X → List ℕ �
         below = λ may. taken-end _ _ _ _ _ _ (alike-none _ (λ x. none (codes ".cer") (CaCert x))) (before.below may);
       }
 
-      -- no file is left
+      -- no file remains
       pub files-end : length rest ≡ 0 → AddsFiles rsa ecdsa sha1 sha256 c files octets old now
       files-end short = none-left (λ end P. no-file end P rest more short)
 

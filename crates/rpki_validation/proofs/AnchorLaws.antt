@@ -92,9 +92,9 @@ module _ (published : Published) (basis : Basis) (uri : AnchorUri) where
     inl (none, refl),
   )
 
--- ---- URIs, one after another
+-- ---- URIs, in sequence
 
--- why there is none among all: what the last reason is where none is left, else the reason for the rest
+-- why there is none among all: what the last reason is where none remains, else the reason for the rest
 abbrev pub IsWhyAfter : Published → Basis → List AnchorUri → List AnchorUri → Reason → Type 0
 IsWhyAfter published basis uris [] last = IsNoAnchor published basis uris last
 IsWhyAfter published basis uris (uri ∷ following) last =

@@ -1,4 +1,4 @@
--- The octets of files, one after another.
+-- The octets of files, in sequence.
 use Rattle.std.proofs.Common.{◌≡◌, ℕ, List, [], ◌∷◌, ◌++◌, length, refl, sym, ap, subst, ◌∙◌, arith, inl, inr}
 use Rattle.std.proofs.Common.{append_assoc, append-nil}
 use Rattle.rpki_contents.specs.ListedFile.{ListedFile}

@@ -78,7 +78,7 @@ module _ {T : Type 0} (period : Period) where
     by (inl k) = inl k
     by (inr k) = let m = mapped ys v k in inr (f v m.0 m.1)
 
--- ---- files, one after another
+-- ---- files, in sequence
 
 module _ {X : Type 0} (rsa ecdsa : X → Check) (sha1 sha256 : X → List ℕ → List ℕ) (c : InForce X)
     (files : List ListedFile) (octets : List (List ℕ)) where

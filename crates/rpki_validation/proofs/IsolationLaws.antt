@@ -1,4 +1,4 @@
--- What stands elsewhere has no part in the payloads of an authority.
+-- What is elsewhere has no part in the payloads of an authority.
 use Rattle.std.proofs.Common.{◌∙◌, ℕ, Bool, List, IsTrue, sym}
 use Rattle.rpki_contents.specs.ListedFile.{ListedFile}
 use Rattle.rpki_contents.specs.declared.route_origin.RouteOrigin.{RouteOrigin}

@@ -4,18 +4,18 @@
 --   issuer's: OneResourceLaws, OneHolderLaws.
 -- What a step finds, and why it stops; steps over the layer below: FindingLaws, StepLaws.
 -- The moment as the period of an authority's path; what an authority has issued is one: MomentLaws, IssuedLaws.
--- The octets of files, one after another; what stands where an authority publishes: FilesLaws, PlaceLaws,
+-- The octets of files, in sequence; what is where an authority publishes: FilesLaws, PlaceLaws,
 --   PublicationLaws.
 -- The first trust anchor of a locator: AnchorLaws.
 -- A walk by levels looks at exactly what is reached; that is an authority: LevelsLaws, ReachedLaws.
 -- What is alike publishes and issues the same: AlikeLaws.
--- What is met and taken for the next level, one after another: MetLaws, NextLaws, TakingLaws.
+-- What is met and taken for the next level, in sequence: MetLaws, NextLaws, TakingLaws.
 -- What octets say under a list, what files say, what the point of an authority says is added: HereLaws (names of files:
 --   EndingLaws), AddingLaws, VisitLaws.
--- Notes of pairs, one after another: NotingLaws. What is rejected of files and of a point, and of authorities one after
---   another: RejectedLaws, RejectsLaws. How long payloads hold: HeldLaws.
+-- Notes of pairs, in sequence: NotingLaws. What is rejected of files and of a point, and of authorities in
+--   sequence: RejectedLaws, RejectsLaws. How long payloads hold: HeldLaws.
 -- The walk, and that what it tells is exactly what is valid: WalkLaws.
--- Payloads are signed down from the key of the locator; what stands elsewhere has no part in them: SignedDownLaws,
+-- Payloads are signed down from the key of the locator; what is elsewhere has no part in them: SignedDownLaws,
 --   IsolationLaws.
 
 pub mod OneResourceLaws

@@ -18,7 +18,7 @@ use Rattle.rpki_validation.proofs.MetLaws.{head_of, same-numbers, tail_of}
 
 -- ---- those of a level
 
--- those behind which there is one more
+-- those after which there is one more
 module _ {X : Type 0} (level : List (Authority X)) (a : Authority X) where
   pub of-push : (x : Holder) → IsOf level x → IsOf (level ++ (a ∷ [])) x
   of-push x h = (h.0, Contains-append_left level (a ∷ []) h.0 h.1, h.2)

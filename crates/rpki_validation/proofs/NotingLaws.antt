@@ -66,7 +66,7 @@ module _ {A B : Type 0} where
   pair-none P (a ∷ xs) [] short = tt
   pair-none P (a ∷ xs) (b ∷ ys) short = absurd (omega (arith, short))
 
--- what is added is of the pairs in front of those that are left
+-- what is added is of the pairs in front of the rest
 pub record AddsUpTo {A B V : Type 0} (Of : A → B → V → Type 0) (xs rest : List A) (ys more : List B) (old now : List V)
     : Type 0 where
   pub any : (v : V) → AnyPair (λ a b. Of a b v) rest more → AnyPair (λ a b. Of a b v) xs ys
@@ -85,7 +85,7 @@ module _ {A B V : Type 0} (Of : A → B → V → Type 0) (xs : List A) (ys : Li
           (λ v k. before.any v (inl k)) before.each h;
     }
 
--- for each pair in front of those that are left something is right, or noted
+-- for each pair in front of the rest something is right, or noted
 pub record NotesUpTo {A B V : Type 0} (Right : A → B → Type 0) (Note : A → B → V → Type 0) (xs rest : List A)
     (ys more : List B) (old now : List V) : Type 0 where
   pub adds : AddsUpTo Note xs rest ys more old now
@@ -122,7 +122,7 @@ module _ {A B V : Type 0} (Right : A → B → Type 0) (Note : A → B → V →
       kept = within-then old now (now ++ v ∷ []) before.kept (within-push now v);
     }
 
-  -- no pair is left
+  -- no pair remains
   module _ (rest : List A) (more : List B) (now : List V) (before : NotesUpTo Right Note xs rest ys more old now) where
     notes-end : EachPair (Settled now) rest more → Notes Right Note xs ys old now
     notes-end h = record {

@@ -84,7 +84,7 @@ such-whole G R one says s v w h k =
 cons-is : {V : Type 0} (x y : V) (xs ys : List V) → x ≡ y → xs ≡ ys → x ∷ xs ≡ y ∷ ys
 cons-is x y xs ys p q = λ i. p i ∷ q i
 
--- values, one after another
+-- values, in sequence
 module _ {V : Type 0} (G : V → List ℕ → Type 0) (one : IsOneFront G)
     (some : (s : List ℕ) (v : V) (r : List ℕ) → s ≡ [] → Spells G s v r → ⊥) where
   each-one : IsOneWhole (SpellsEach G)

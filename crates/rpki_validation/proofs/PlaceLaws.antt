@@ -53,7 +53,7 @@ module _ (G : Option (List ℕ) → List ℕ → Type 0) (t : TbsParts) where
 -- ---- basic constraints
 
 module _ (strict : Bool) (t : TbsParts) where
-  -- a rule of a profile, by the rules in front of it and those behind
+  -- a rule of a profile, by the rules in front of it and those after
   one-of : (xs ys : List CertRule) (rule : CertRule) → All (Obeys strict t) (xs ++ rule ∷ ys) → Obeys strict t rule
   one-of [] ys rule h = h 0 rule (omega arith)
   one-of (x ∷ xs) ys rule h = one-of xs ys rule (λ k d lt. h (suc k) d (omega (arith, lt)))

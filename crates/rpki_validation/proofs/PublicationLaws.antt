@@ -1,4 +1,4 @@
--- What stands where an authority publishes is one thing.
+-- What is where an authority publishes is one thing.
 use Rattle.std.proofs.Common.{◌≡◌, ◌≢◌, ◌∙◌, ℕ, Bool, List, Option, Some, None, refl, sym, ap, subst}
 use Rattle.rpki_der.specs.declared.error.DecodeError.{DecodeError}
 use Rattle.rpki_der.specs.Prelude.{Format, IsWholeFault, SpellsNothing, UnlessMemory}

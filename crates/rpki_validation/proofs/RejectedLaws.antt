@@ -41,7 +41,7 @@ pub ok-always : {R E : Type 0} (A : Type 0) (r : Result R E) → A → IfOk r (�
 ok-always A (Ok x) a = a
 ok-always A (Err e) a = tt
 
--- ---- files, one after another
+-- ---- files, in sequence
 
 module _ {X : Type 0} (rsa ecdsa : X → Check) (sha1 sha256 : X → List ℕ → List ℕ) (c : InForce X)
     (folder : List ℕ) (files : List ListedFile) (octets : List (List ℕ)) where

@@ -1,4 +1,4 @@
--- What is rejected of authorities, one after another, and level after level.
+-- What is rejected of authorities, in sequence, and level after level.
 use Rattle.std.proofs.Common.{◌≡◌, ◌⊎◌, ◌++◌, ◌∙◌, ◌<◌, ◌≤◌, inl, inr, ℕ, suc, List, [], ◌∷◌, ap, arith, refl, subst}
 use Rattle.std.specs.List.{Contains}
 use Rattle.std.proofs.lemmas.List.Elements.{Contains-append_left, Contains-push, Contains-push_cases}

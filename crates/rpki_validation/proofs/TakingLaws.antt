@@ -1,4 +1,4 @@
--- Adding to lists, and taking for the next level, one after another.
+-- Adding to lists, and taking for the next level, in sequence.
 use Rattle.std.proofs.Common.{◌⊎◌, inl, inr, List}
 use Rattle.std.specs.List.{Contains}
 use Rattle.rpki_validation.specs.Levels.{Either}

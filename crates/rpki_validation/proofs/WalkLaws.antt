@@ -1,4 +1,4 @@
--- The walk: the authorities of a level one after another, and level after level.
+-- The walk: the authorities of a level in sequence, and level after level.
 use Rattle.std.proofs.Common.{◌≡◌, ◌⊎◌, ◌++◌, ◌∙◌, ◌<◌, ◌≤◌, ◌+◌, inl, inr, ℕ, suc, List, [], ◌∷◌, Option, Some, ap}
 use Rattle.std.proofs.Common.{subst, sym, refl, arith, append_assoc, append-nil, codes, length}
 use Rattle.std.proofs.lemmas.List.Elements.{Contains-append_left, Contains-append_right}
@@ -296,7 +296,7 @@ module _ {X : Type 0} (rsa ecdsa : X → Check) (sha1 sha256 : X → List ℕ �
         rejected = rejected-then;
       }
 
-  -- none is left
+  -- none remains
   module _ (rest : List (Authority X)) (o : Outcome) (met : List Mark) (next : List (Authority X))
       (none : length rest ≡ 0) (before : IsUpTo rest o met next) where
     nothing : (xs : List (Authority X)) → length xs ≡ 0 → xs ≡ []
@@ -428,7 +428,7 @@ module _ (published : Published) (basis : Basis) (IsFirst : Holder → Type 0) w
           kept = taking.kept;
         }
 
-    -- no authority is left: what was told is all
+    -- no authority remains: what was told is all
     pub told-all : (k deepest : ℕ) (o : Outcome) (met : List Mark) (next : List (Authority X)) → k ≤ deepest
         → ((x : Holder) → IsOf next x → ⊥) → IsWalked (suc k) o met next
         → AreToldBy published basis IsFirst (suc deepest) o
@@ -669,7 +669,7 @@ module _ {X : Type 0} (rsa ecdsa : X → Check) (sha1 sha256 : X → List ℕ �
   abbrev Top' : Holder → Type 0
   Top' = Only (holder_of anchor)
 
-  -- after some levels, so many of which are left
+  -- after some levels, so many of which remain
   pub record IsLevelOf (left : ℕ) (o : Outcome) (met : List Mark) (next : List (Authority X)) : Type 0
     where
       pub steps : ℕ
@@ -812,7 +812,7 @@ module _ {X : Type 0} (rsa ecdsa : X → Check) (sha1 sha256 : X → List ℕ �
         (walked-here published k more).levels (λ y m. none-in' next e m.0 m.1) h.0 x h.2)
         (rejected-here published k)
 
-    -- none is left
+    -- none remains
     pub level-deepest : left ≡ 0 → Where known (λ published.
         AreToldBy published Of (IsOf (anchor ∷ [])) (suc anchor.terms.deepest) p)
     level-deepest e published k =

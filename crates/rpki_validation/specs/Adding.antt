@@ -152,7 +152,7 @@ module _ {X : Type 0} (rsa ecdsa : X → Check) (sha1 sha256 : X → List ℕ �
       (SaysOrigin published basis x) (SaysProviders published basis x) (SaysRouter published basis x)
       (IsBelow published basis x) old new))
 
-  -- the same, one after another, of a walk that ends where allocation fails
+  -- the same, in sequence, of a walk that ends where allocation fails
   abbrev pub AddsOrigins : {E : Type 0} → List (Payload RouteOrigin) → List (Payload RouteOrigin)
       → Result (Unit {0}) E → Type 0
   AddsOrigins old new r =

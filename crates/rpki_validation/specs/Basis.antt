@@ -7,8 +7,8 @@ use Rattle.rpki_valid.specs.declared.staleness.Staleness.TheVariants.{Refused}
 use Rattle.rpki_valid.specs.CrlIssued.{InForce}
 use Rattle.rpki_valid.specs.Verified.{Authority, Checkers, Holder, Terms, Verified, checkers_by, holder}
 
--- what all certificates of a path are held to: the key of the trust anchor, whether names are looked at, how many
--- authorities there are at most below the trust anchor; what signatures and digests are; and the moment
+-- what all certificates of a path are checked against: the key of the trust anchor, whether names are looked at, how
+-- many authorities there are at most below the trust anchor; what signatures and digests are; and the moment
 pub record Basis : Type 1 where
   pub terms : Terms
   pub by : Checkers

@@ -14,7 +14,7 @@ use Rattle.rpki_validation.specs.Publication.{HasManifest, HasRepository}
 use Rattle.rpki_validation.specs.Reached.{IsBelow, IsFirstAnchor}
 use Rattle.rpki_validation.specs.Snapshot.{Published}
 
--- the same was fetched for locators, and the same stands at these URIs
+-- the same was fetched for locators, and the same is at these URIs
 pub record AgreeAt (own : RsyncUri → Bool) (one other : Published) : Type 0 where
   pub anchors : (text : List ℕ) → one.anchors text ≡ other.anchors text
   pub objects : (uri : RsyncUri) → IsTrue (own uri) → one.objects uri ≡ other.objects uri
@@ -37,7 +37,7 @@ pub record CountsAt (own : RsyncUri → Bool) (published : Published) (basis : B
   pub itself : PublishesAt own x
 
 -- Of two snapshots that agree at the URIs of such an authority and of those above it, each has its payloads. Whatever
--- stands elsewhere.
+-- is elsewhere.
 abbrev pub AreOriginsIsolated : {X : Type 0} → (X → Check) → (X → Check) → (X → List ℕ → List ℕ)
     → (X → List ℕ → List ℕ) → X → Type 0
 AreOriginsIsolated rsa ecdsa sha1 sha256 provider =

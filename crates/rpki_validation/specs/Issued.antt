@@ -42,7 +42,7 @@ pub record IsObjectIn {C : Type 0} (F : Format (TypedParts C)) (Rules : TypedPar
   pub held : ResourceSet
   pub valid : IsProcessed (IsIssuedObject basis issuer list x.object) (Rules x) held
 
--- octets that are none: no object of F, with the error of that; or one that isn't valid, or breaks a rule
+-- octets that aren't one: no object of F, with the error of that; or one that isn't valid, or breaks a rule
 abbrev pub IsNoObjectIn : {C : Type 0} → Format (TypedParts C) → (TypedParts C → ResourceSet → ValidationError → Type 0)
     → Basis → Holder → CrlParts → List ℕ → Reason → Type 0
 IsNoObjectIn {C} F Wrong basis issuer list octets =

@@ -1,4 +1,4 @@
--- What stands where an authority publishes: its manifest, and its revocation list. Nothing of it is verified yet (RFC
+-- What is where an authority publishes: its manifest, and its revocation list. Nothing of it is verified yet (RFC
 -- 9286 6.2 to 6.5).
 use Rattle.std.specs.Prelude.{◌≡◌, ◌≢◌, ℕ, Bool, false, List, [], ◌∷◌, filter, nat_eq, Option, Some, None, codes}
 use Rattle.std.specs.List.{ends_with}
@@ -34,7 +34,7 @@ SaysNoUri G t = HasUri subject_info_access G t.extensions None
 abbrev pub SaysOther : (Option (List ℕ) → List ℕ → Type 0) → TbsParts → Type 0
 SaysOther G t = HasNone subject_info_access false G t.extensions
 
--- ---- what stands at a URI
+-- ---- what is at a URI
 
 -- this value, and nothing else
 pub record ValueAt {V : Type 0} (published : Published) (F : Format V) (uri : RsyncUri) (v : V) : Type 0 where
@@ -42,7 +42,7 @@ pub record ValueAt {V : Type 0} (published : Published) (F : Format V) (uri : Rs
   pub stands : published.objects uri ≡ Some octets
   pub spells : F.spells v octets
 
--- A file of a manifest, in this folder: octets with its digest stand under its name, and the URI is not too long (RFC
+-- A file of a manifest, in this folder: octets with its digest are under its name, and the URI is not too long (RFC
 -- 9286 6.4, 6.5).
 pub record StandsAs (published : Published) (sha256 : List ℕ → List ℕ) (folder : List ℕ) (file : ListedFile)
     (octets : List ℕ) : Type 0 where
@@ -71,7 +71,7 @@ only (x ∷ y ∷ zs) = None
 abbrev pub list_file : List ListedFile → Option ListedFile
 list_file files = only (filter is_list files)
 
--- the manifest's list: its file stands there, and is a list
+-- the manifest's list: its file is there, and is a list
 pub record IsListOn (published : Published) (sha256 : List ℕ → List ℕ) (folder : List ℕ) (files : List ListedFile)
     (list : CrlParts) : Type 0 where
   pub file : ListedFile
@@ -91,7 +91,7 @@ pub record PublicationParts : Type 0 where
 abbrev pub publication : List ℕ → TypedParts ManifestParts → CrlParts → PublicationParts
 publication folder manifest list = record { folder = folder; manifest = manifest; list = list }
 
--- The certificate names the folder and the manifest. At the manifest's URI stands the manifest, and in the folder its
+-- The certificate names the folder and the manifest. At the manifest's URI is the manifest, and in the folder its
 -- list.
 pub record IsPublication (published : Published) (sha256 : List ℕ → List ℕ) (strict : Bool) (t : TbsParts)
     (p : PublicationParts) : Type 0 where
@@ -130,7 +130,7 @@ IsNoManifestPlace t (MalformedCert q) = ⊥
 IsNoManifestPlace t (Malformed e) = ⊥
 IsNoManifestPlace t (Invalid e) = SaysOther (SpellsRsyncAccess rpki_manifest) t
 
--- nothing stands at the URI; or what stands there is none of F, with this error
+-- nothing is at the URI; or what is there is none of F, with this error
 abbrev pub IsNoValue : {V : Type 0} → Published → Format V → RsyncUri → Reason → Type 0
 IsNoValue published F uri MissingAnchor = ⊥
 IsNoValue published F uri NoRepository = ⊥
@@ -149,7 +149,7 @@ IsNoValue published F uri (Invalid e) = ⊥
 abbrev pub IsNoFileUri : List ℕ → ListedFile → Reason → Type 0
 IsNoFileUri folder file reason = (join_refusal folder file.0 ≢ None) × (reason ≡ LongUri)
 
--- of a file of a manifest: its URI would be no URI, or too long; nothing stands there; or octets with another digest
+-- of a file of a manifest: its URI would be no URI, or too long; nothing is there; or octets with another digest
 abbrev pub IsNoFile : Published → (List ℕ → List ℕ) → List ℕ → ListedFile → Reason → Type 0
 IsNoFile published sha256 folder file MissingAnchor = ⊥
 IsNoFile published sha256 folder file NoRepository = ⊥

@@ -23,7 +23,7 @@ pub record IsAnchorIn (basis : Basis) (octets : List ℕ) (x : Holder) : Type 0 
   pub spells : SpellsCert x.cert octets
   pub root : IsRoot basis.terms basis.by basis.at x
 
--- octets that are none: no certificate, with the error of that; or one that is no such trust anchor
+-- octets that aren't one: no certificate, with the error of that; or one that is no such trust anchor
 abbrev pub IsNoAnchorIn : Basis → List ℕ → Reason → Type 0
 IsNoAnchorIn basis octets =
     IsCertReason (IsDecodedPart octets)
@@ -35,7 +35,7 @@ pub record IsAnchorAt (published : Published) (basis : Basis) (uri : AnchorUri) 
   pub fetched : published.anchors (uri_text uri) ≡ Some octets
   pub anchor : IsAnchorIn basis octets x
 
--- nothing was fetched from it; or octets that are none
+-- nothing was fetched from it; or octets that aren't one
 abbrev pub IsNoAnchorAt : Published → Basis → AnchorUri → Reason → Type 0
 IsNoAnchorAt published basis uri reason =
     ((published.anchors (uri_text uri) ≡ None) × (reason ≡ MissingAnchor))

@@ -98,7 +98,7 @@ pub record AreRejectedBy (published : Published) (basis : Basis) (IsFirst IsTop 
 abbrev pub IsBelowOne : {X : Type 0} → Published → Basis → List (Authority X) → Authority X → Type 0
 IsBelowOne published basis = OneOf (IsChild published basis)
 
--- a fact of authorities, each so many steps below the trust anchor, that are held to one thing
+-- a fact of authorities, each so many steps below the trust anchor, that are checked against one thing
 abbrev pub OfSisters : {X : Type 0} → DateTime → List (Authority X) → (Terms → X → ℕ → Type 0) → Type 0
 OfSisters {X} at level P =
     (terms : Terms) (provider : X) (k : ℕ) → AreSisters terms provider at k level → P terms provider k

@@ -61,8 +61,8 @@ fn anchor_at<'p, S: Snapshot, P: Provider>(
 }
 
 /// The trust anchor of a locator at the moment: of its URIs, in their order, that of the first from which one was
-/// fetched (RFC 8630 3). Its path is the certificate alone, which is held to the terms: the key of the locator is its
-/// own.
+/// fetched (RFC 8630 3). Its path is the certificate alone, which is checked against the terms: the key of the locator
+/// is its own.
 ///
 /// The error is that of the last URI, or `MissingAnchor` where there is none; or `OutOfMemory` if allocation fails.
 pub fn anchor_of<'p, S: Snapshot, P: Provider>(

@@ -23,7 +23,7 @@ pub fn payloads_are_signed_down<P: Provider>(_provider: &P)
 {}
 
 /// An authority harms only itself and what is below it: two snapshots that agree at the URIs where an authority and
-/// those above it publish give it the same payloads, whatever stands elsewhere.
+/// those above it publish give it the same payloads, whatever is elsewhere.
 pub fn payloads_are_isolated<P: Provider>(_provider: &P)
     ensures origins { AreOriginsIsolated P.rsa_of P.ecdsa_of P.sha1_of P.sha256_of _provider.now }
     ensures providers { AreProvidersIsolated P.rsa_of P.ecdsa_of P.sha1_of P.sha256_of _provider.now }

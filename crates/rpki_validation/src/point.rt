@@ -41,7 +41,7 @@ pub fn verify_publication<'a, 'p, P: Provider>(
     Ok(current)
 }
 
-/// The octets of the files of a manifest, which stand in the folder, in their order (RFC 9286 6.4, 6.5).
+/// The octets of the files of a manifest, which are in the folder, in their order (RFC 9286 6.4, 6.5).
 ///
 /// The error is that of the first that isn't there: `LongUri`, `MissingFile` or `OtherFile`; or `OutOfMemory` if
 /// allocation fails.

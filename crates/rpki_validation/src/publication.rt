@@ -1,4 +1,4 @@
-//! What stands where an authority publishes: its manifest, and its revocation list (RFC 9286 6.2 to 6.5).
+//! What is where an authority publishes: its manifest, and its revocation list (RFC 9286 6.2 to 6.5).
 
 ghost use Rattle.std.specs.Prelude.{◌≡◌, IfOk};
 ghost use Rattle.std.specs.Option.{option_copied};
@@ -21,7 +21,7 @@ use rpki_valid::{ResourceCert, verify_file};
 use std::alloc::Global;
 use std::marker::Model;
 
-/// What stands where an authority publishes: its manifest, and its revocation list. Nothing of it is verified.
+/// What is where an authority publishes: its manifest, and its revocation list. Nothing of it is verified.
 #[derive(Drop)]
 pub struct Publication {
     folder: Rsync,
@@ -57,7 +57,7 @@ pub(crate) fn manifest_place(alloc: Global, tbs: &TbsCert) -> Result<Rsync, Stop
     }
 }
 
-/// The manifest that stands at the URI.
+/// The manifest that is at the URI.
 fn manifest_at<S: Snapshot>(
     alloc: Global,
     snapshot: &S,
@@ -112,7 +112,7 @@ pub(crate) fn file_uri(alloc: Global, folder: &Rsync, file: &FileAndHash) -> Res
     }
 }
 
-/// The octets of the file, which stand in the folder (RFC 9286 6.4, 6.5).
+/// The octets of the file, which are in the folder (RFC 9286 6.4, 6.5).
 pub(crate) fn file_octets<S: Snapshot, P: Provider>(
     alloc: Global,
     snapshot: &S,
@@ -156,7 +156,7 @@ fn list_on<S: Snapshot, P: Provider>(
 }
 
 impl Publication {
-    /// What stands in the snapshot where the authority publishes (RFC 6487 4.8.8.1). Nothing of it is verified.
+    /// What is in the snapshot where the authority publishes (RFC 6487 4.8.8.1). Nothing of it is verified.
     ///
     /// The errors are `NoRepository`; `NoManifest`; `Missing`, or `Malformed` of the manifest; `NoList`; `LongUri`,
     /// `MissingFile` or `OtherFile` of the revocation list, or `Malformed` of it; or `OutOfMemory` if allocation fails.

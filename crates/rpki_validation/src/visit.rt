@@ -1,4 +1,4 @@
-//! What stands in the point of one authority.
+//! What is in the point of one authority.
 
 ghost use Rattle.std.specs.Prelude.{◌≡◌, ◌++◌, map, IfOk, IfErr};
 ghost use Rattle.rpki_valid.specs.CrlIssued.{CountsAt};

@@ -21,7 +21,7 @@ use rpki_locator::AnchorUri;
 use rpki_valid::{ResourceCert, Terms};
 use std::alloc::{AllocError, Global};
 
-/// Looks at the authorities of a level, one after another: what their points say is added, and the authorities below
+/// Looks at the authorities of a level, in sequence: what their points say is added, and the authorities below
 /// them. Requires that all of each one's path is valid at the moment.
 ///
 /// Returns `AllocError` if allocation fails.

@@ -22,7 +22,7 @@ pub enum Change {
     Follow,
     /// The last is another.
     Last,
-    /// These stand in place of those.
+    /// These are in place of those.
     Octets(&'static str, &'static str),
 }
 

@@ -16,7 +16,7 @@ pub enum Change {
     Remove,
     /// Its last octet is another.
     LastOctet,
-    /// The object at this number stands in its place.
+    /// The object at this number is in its place.
     Exchange(usize),
 }
 

@@ -1,4 +1,4 @@
--- What is left of a list after its first element.
+-- The rest of a list after its first element.
 use Rattle.std.proofs.Common.{◌≡◌, ◌↔◌, ℕ, ◌<◌, List, [], ◌∷◌, ◌++◌, length, drop, ap, arith}
 use Rattle.std.specs.Prelude.{Option, Some, None, IsSome, option_to_list}
 

@@ -1,4 +1,4 @@
--- Extensions, one after another, as they are read and written.
+-- Extensions, in sequence, as they are read and written.
 use Rattle.std.proofs.Common.{◌≡◌, ◌≢◌, ℕ, true, List, [], ◌∷◌, ◌++◌, refl, sym, ap, subst, ◌∙◌, append_assoc}
 use Rattle.std.proofs.lemmas.List.{append-nil}
 use Rattle.rpki_der.specs.declared.error.DecodeError.{DecodeError}
@@ -12,7 +12,7 @@ use Rattle.rpki.specs.ExtensionFault.{extension, captured_extension}
 use Rattle.rpkibasic.specs.Fault.{refusal}
 use Rattle.rpkibasic.specs.Run.{SpellsOnly, SpellsExtensions, StopsAt, IsExtensionFault, UnlessMemory}
 
--- these extensions were read, and what is left is extensions exactly where the whole is, after these
+-- these extensions were read, and the rest is extensions exactly where the whole is, after these
 pub record HaveRead (input : List ℕ) (xs : List ExtensionParts) (rest : List ℕ) : Type 0 where
   pub front : List ℕ
   pub parts : input ≡ front ++ rest
@@ -64,7 +64,7 @@ one-more input rest left xs x some h a = record {
           subst (SpellsExtensions zs) one.1 k.2,
         )
 
--- nothing is left
+-- nothing remains
 pub all-extensions : (input rest : List ℕ) (xs : List ExtensionParts) → rest ≡ [] → HaveRead input xs rest
     → SpellsOnly SpellsExtensions xs input
 all-extensions input rest xs end h =
@@ -75,7 +75,7 @@ all-extensions input rest xs end h =
     go ys [] e k = e ∙ append-nil xs
     go ys (z ∷ zs) e k = absurd (nowhere rest z k.0 end k.1)
 
--- no extension begins what is left
+-- no extension begins the rest
 nothing-left : (rest : List ℕ) → (rest ≡ [] → ⊥) → Refuses SpellsExtension rest → (zs : List ExtensionParts)
     → SpellsExtensions zs rest → ⊥
 nothing-left rest some none [] k = some k

@@ -111,7 +111,7 @@ IsRefusedText wrong Input = ⊥
 IsRefusedText wrong Usage = ⊥
 IsRefusedText wrong Output = ⊥
 
--- extensions, one after another
+-- extensions, in sequence
 abbrev pub SpellsExtensions : List ExtensionParts → List ℕ → Type 0
 SpellsExtensions = SpellsEach SpellsExtension
 
@@ -119,12 +119,12 @@ SpellsExtensions = SpellsEach SpellsExtension
 abbrev pub written_extensions : List ExtensionParts → List ℕ
 written_extensions xs = flat_map written_extension xs
 
--- The input is extensions, one after another, and the text is what is written of each.
+-- The input is extensions, in sequence, and the text is what is written of each.
 abbrev pub AreExtensions : List ℕ → List ℕ → Type 0
 AreExtensions input text = (xs : List ExtensionParts) × SpellsOnly SpellsExtensions xs input
     × (text ≡ written_extensions xs)
 
--- After extensions stand octets that no extension begins, and the reader of one rejects them so; and so the input isn't
+-- After extensions are octets that no extension begins, and the reader of one rejects them so; and so the input isn't
 -- extensions.
 pub record StopsAt (input : List ℕ) (e : DecodeError) : Type 0 where
   pub front : List ℕ

@@ -17,6 +17,6 @@ rows_of table = map row_of table
 abbrev pub is_row : (bits message signature : List ℕ) → Row → Bool
 is_row bits message signature row = bytes_eq row.0 bits && bytes_eq row.1 message && bytes_eq row.2 signature
 
--- the three stand in a row of the table
+-- the three are in a row of the table
 abbrev pub stands : List Row → (bits message signature : List ℕ) → Bool
 stands table bits message signature = list_any (is_row bits message signature) table

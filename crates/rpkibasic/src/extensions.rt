@@ -1,4 +1,4 @@
-//! Extensions, one after another.
+//! Extensions, in sequence.
 
 ghost use Rattle.std.specs.Prelude.{◌≡◌, MatchResult, IfOk};
 ghost use Rattle.rpkibasic.specs.Run.{Answers, SpellsOnly, SpellsExtensions, written_extensions, UnlessMemory};
@@ -12,7 +12,7 @@ use rpki::der::{Constructed, Shared, Values};
 use rpki::repository::x509::CertExtension;
 use std::alloc::{AllocError, Global};
 
-/// The extensions that the input is, one after another to its end.
+/// The extensions that the input is, in sequence to its end.
 fn extensions(alloc: Global, input: Vec<u8>) -> Result<Vec<CertExtension>, Fault>
     ensures { MatchResult result (λ all. SpellsOnly SpellsExtensions all.items input.items)
         (λ f. UnlessMemory f (IsExtensionFault input.items f)) }

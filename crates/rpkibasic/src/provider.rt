@@ -14,7 +14,7 @@ pub type Row = (Vec<u8>, Vec<u8>, Vec<u8>);
 /// A provider that computes digests by SHA-1 and SHA-256 (FIPS 180-4), and looks signatures up in a table.
 ///
 /// It computes no signature: RSA and ECDSA signatures verify exactly where the bits, the message and the signature
-/// stand together in a row.
+/// are together in a row.
 #[derive(Drop)]
 pub struct BenchProvider {
     table: Vec<Row>,
@@ -38,7 +38,7 @@ impl BenchProvider {
         BenchProvider { table }
     }
 
-    /// Whether the three stand in a row of the table.
+    /// Whether the three are in a row of the table.
     fn has(&self, bits: &[u8], message: &[u8], signature: &[u8]) -> bool
         ensures { result ≡ stands self.now bits.now message.now signature.now }
     {

@@ -103,7 +103,7 @@ fn run_over(alloc: Global, words: &[&str], input: &[u8]) -> Result<Seen, AllocEr
     })
 }
 
-/// The parts, one after another.
+/// The parts, in sequence.
 fn joined(alloc: Global, parts: &[&[u8]]) -> Result<Vec<u8>, AllocError> {
     let mut all = Vec::new(alloc);
     for part in parts {
@@ -363,7 +363,7 @@ fn faults_of_arguments(rt: HostRuntime) {
     assert!(rt; text, "a word that is no text");
 }
 
-/// Puts the header of a SEQUENCE of so many octets before them, in octets that stand in reverse.
+/// Puts the header of a SEQUENCE of so many octets before them, in octets that are in reverse.
 fn wrap_reversed(octets: &mut Vec<u8>) -> Result<(), AllocError> {
     let length = octets.len();
     if length >= 65_536 {

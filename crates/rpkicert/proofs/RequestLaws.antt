@@ -7,7 +7,7 @@ use Rattle.rpkicert.specs.declared.profile.Inspection.{Inspection}
 use Rattle.rpkicert.specs.Request.{Asked, asked, is_given, form_of, named_inspection, some_files, request_of, files}
 use Rattle.rpkicert.specs.Request.{wanted_in}
 
--- what is left of a list after its first element
+-- the rest of a list after its first element
 pub drop-next : {A : Type 0} (old new : List A) (next : Option A) (n : ℕ) → n ≡ length old
     → old ≡ option_to_list next ++ new → IsSome next ↔ (0 < n) → drop 1 old ≡ new
 drop-next [] new None n size is some = is

@@ -1,4 +1,4 @@
--- What an object is held to: each check by its clause, and the first that isn't so.
+-- What an object is checked against: each check by its clause, and the first that isn't so.
 use Rattle.std.proofs.Common.{◌≡◌, ◌∙◌, refl, sym, subst, inl, inr}
 use Rattle.std.proofs.lemmas.Bool.{false≢true}
 use Rattle.std.specs.Prelude.{◌⊎◌, Bool, true, false, if◌then◌else◌, Option, Result, Ok, Err, IsErr, IsErrAnd}
@@ -60,7 +60,7 @@ by-both clause P E a x b y checked r p q h e =
     let k = by-clause clause (WhereBoth P a b) (λ e. HasBoth (λ s t. E s t e) a b) checked r h e in
     rw (p, q) at k
 
--- ---- checks, one after another
+-- ---- checks, in sequence
 
 -- a fault that was handed on
 abbrev IsTried : Result (Unit {0}) Fault → Fault → Type 0

@@ -14,7 +14,7 @@ same-tail : (x y : CertRule) (xs ys : List CertRule) → x ∷ xs ≡ y ∷ ys �
 same-tail x y xs ys e = cc
 
 module _ (strict : Bool) (t : TbsParts) where
-  -- rules that are broken, behind rules that are obeyed
+  -- rules that are broken, after rules that are obeyed
   same-rule : (before after first rest : List CertRule) (rule other : CertRule)
       → before ++ rule ∷ after ≡ first ++ other ∷ rest → All (Obeys strict t) before → All (Obeys strict t) first
       → (Obeys strict t rule → ⊥) → (Obeys strict t other → ⊥) → rule ≡ other

@@ -36,7 +36,7 @@ no_file = said (codes "no file") [] []
 
 -- ---- the options
 
--- nothing is left of a word, or `=` and a value
+-- nothing remains of a word, or `=` and a value
 abbrev pub is_end : List ℕ → Bool
 is_end [] = true
 is_end (octet ∷ octets) = nat_eq octet 61
@@ -89,7 +89,7 @@ abbrev pub wrong_value : (option value : List ℕ) → Option (List ℕ)
 wrong_value option value =
     if bytes_eq option (codes "--profile") && not (is_some (profile_of value)) then Some (no_profile value) else None
 
--- of a word that names this option, behind these words
+-- of a word that names this option, after these words
 abbrev pub wrong_named : (before : List (List ℕ)) → (option word : List ℕ) → Option (List ℕ)
 wrong_named before option word =
     if is_among before option then Some (twice option)
@@ -97,12 +97,12 @@ wrong_named before option word =
     else if takes_value option then wrong_value option (drop (length option + 1) word)
     else Some (a_value option)
 
--- of a word that is an option, behind these words
+-- of a word that is an option, after these words
 abbrev pub wrong_option : (before : List (List ℕ)) → (word : List ℕ) → Option (List ℕ) → Option (List ℕ)
 wrong_option before word None = Some (unknown word)
 wrong_option before word (Some option) = wrong_named before option word
 
--- of a word behind these words, of which the last may await it
+-- of a word after these words, of which the last may await it
 abbrev pub wrong_next : (before : List (List ℕ)) → (word : List ℕ) → Option (List ℕ) → Option (List ℕ)
 wrong_next before word None = if is_option word then wrong_option before word (option_in word) else None
 wrong_next before word (Some option) = if is_option word then Some (no_value option) else wrong_value option word
@@ -116,7 +116,7 @@ wrong_last words None =
 abbrev pub wrong_at_end : List (List ℕ) → List ℕ
 wrong_at_end words = wrong_last words (awaited words)
 
--- of words behind these; behind `--` are files alone (POSIX, Base Definitions 12.2, guideline 10)
+-- of words after these; after `--` are files alone (POSIX, Base Definitions 12.2, guideline 10)
 unfoldable pub wrong_behind : (before words : List (List ℕ)) → List ℕ
 wrong_behind before [] = wrong_at_end before
 wrong_behind before (word ∷ words) =

@@ -54,7 +54,7 @@ clause_text C.Anchor = codes "RFC 8630 2.3"
 clause_text C.Certificate = codes "RFC 6487 7.2"
 clause_text C.List = codes "RFC 5280 6.3.3"
 
--- the text of a signature that isn't good, behind its section, if that is there
+-- the text of a signature that isn't good, after its section, if that is there
 abbrev pub bad_text : List ℕ
 bad_text = codes "bad signature"
 
@@ -65,7 +65,7 @@ text_in e = unwrap_or (validation_text e) []
 abbrev pub is_bad_signature : ValidationError → Bool
 is_bad_signature e = ends_with nat_eq (text_in e) bad_text
 
--- what is wrong with a clause that is broken, behind a section: that of the text, or else that of the clause
+-- what is wrong with a clause that is broken, after a section: that of the text, or else that of the clause
 abbrev pub clause_told : Clause → List ℕ → List ℕ
 clause_told clause said = if has_section said then said else clause_text clause ++ codes ": " ++ said
 

@@ -18,7 +18,7 @@ use Rattle.rpkicert.specs.Profiled.{IsProfiled, IsUnprofiled}
 use Rattle.rpkicert.specs.Pem.{octets_of}
 use Rattle.rpkicert.specs.Fault.{most_octets}
 
--- the object is held to something, and is a certificate of an algorithm that the RPKI doesn't use
+-- the object is checked against something, and is a certificate of an algorithm that the RPKI doesn't use
 abbrev pub is_outside : TermParts → Object → Bool
 is_outside terms x =
     (is_some terms.inspection || is_some terms.issuer || is_some terms.moment) && is_some (objection_to x)
@@ -31,7 +31,7 @@ Finding = Result (List ℕ × Object) Fault
 pub record IsObject (octets : List ℕ) (x : Object) : Type 0 where
   pub is : IsOf (kind_of octets) octets x
 
--- the octets are no object of the kind that they tell: the error, and the place of the part that is wrong
+-- the octets are no object of the kind that they tell: the error, and the place of the malformed part
 pub record IsNoObject (octets : List ℕ) (kind : Kind) (place : Option Place) (e : DecodeError) : Type 0 where
   pub told : kind ≡ kind_of octets
   pub memory : e ≢ der.OutOfMemory
@@ -111,7 +111,7 @@ IsRead None (Err (Unverified clause e)) = ⊥
 IsRead None (Err NoCertificate) = ⊥
 IsRead None (Err OtherAlgorithm) = ⊥
 
--- What reading to the end gives where these octets are left; a reader may fail.
+-- What reading to the end gives where these octets remain; a reader may fail.
 abbrev pub IsReadFrom : List ℕ → Result (List ℕ) Fault → Type 0
 IsReadFrom octets (Ok read) = (read ≡ octets) × (length octets ≤ most_octets)
 IsReadFrom octets (Err (Unreadable cause)) = Unit {0}

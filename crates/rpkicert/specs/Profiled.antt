@@ -51,7 +51,7 @@ checklist_type = 42 ∷ 134 ∷ 72 ∷ 134 ∷ 247 ∷ 13 ∷ 1 ∷ 9 ∷ 16 ∷
 abbrev pub end_profile : ObjectParts → Profile
 end_profile o = if bytes_eq o.content.content_type checklist_type then DetachedEe else Ee
 
--- whether names are held to the profile: as is asked for, or strictly
+-- whether names are checked against the profile: as is asked for, or strictly
 abbrev pub is_strict : Option Inspection → Bool
 is_strict None = true
 is_strict (Some inspection) = inspection.strict
@@ -59,7 +59,7 @@ is_strict (Some inspection) = inspection.strict
 abbrev pub inspection_by : Bool → Profile → Inspection
 inspection_by strict profile = record { profile = profile; strict = strict }
 
--- how the certificate of the signer is held to its profile
+-- how the certificate of the signer is checked against its profile
 abbrev pub own_inspection : Option Inspection → Object → Option Inspection
 own_inspection asked x = option_map (λ o. inspection_by (is_strict asked) (end_profile o)) (signed_of x)
 

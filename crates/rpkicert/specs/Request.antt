@@ -65,7 +65,8 @@ profile_of word =
     else if bytes_eq word (codes "router") then Some Router
     else None
 
--- how certificates are held to the profile that was named, if one was; without one there are no names to be lax of
+-- how certificates are checked against the profile that was named, if one was; without one there are no names to be lax
+-- of
 abbrev pub named_inspection : (lax : Bool) → Option (List ℕ) → Option (Option Inspection)
 named_inspection true None = None
 named_inspection false None = Some None
@@ -78,8 +79,8 @@ some_files None = None
 some_files (Some []) = None
 some_files (Some (file ∷ files)) = Some (file ∷ files)
 
--- how objects are printed, whether only a verdict is, how certificates are held to a profile, the file of the issuer,
--- the text of the moment, and the files
+-- how objects are printed, whether only a verdict is, how certificates are checked against a profile, the file of the
+-- issuer, the text of the moment, and the files
 pub record Asked : Type 0 where
   pub form : Form
   pub check : Bool

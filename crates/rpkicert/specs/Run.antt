@@ -72,7 +72,7 @@ IsIssuerOf holds None (Some t) = ⊥
 IsIssuerOf holds (Some name) None = ⊥
 IsIssuerOf holds (Some name) (Some t) = IsIssuer holds name (Ok t)
 
--- objects are held to what is asked for
+-- objects are checked against what is asked for
 pub record AreTerms (holds : Holds) (a : Asked) (terms : TermParts) : Type 0 where
   pub inspection : terms.inspection ≡ a.inspection
   pub issuer : IsIssuerOf holds a.issuer terms.issuer
@@ -101,14 +101,15 @@ pub data IsDenied (holds : Holds) (a : Asked) (text : List ℕ) : Type 0 where
 abbrev pub Sees : Holds → (check : Bool) → Form → TermParts → List ℕ → ShownParts → Type 0
 Sees holds check form terms name s = IfSome (holds name) (λ source. IsSeenOf check form terms name source s)
 
--- The run of what is asked for: of the files, held to the terms; or nothing but why there are none, with the status 2.
+-- The run of what is asked for: of the files, checked against the terms; or nothing but why there are none, with the
+-- status 2.
 pub data IsRunOf (holds : Holds) (old new was is : Option (List ℕ)) (status : ℕ) (a : Asked) : Type 0 where
   Held : (terms : TermParts) → AreTerms holds a terms
       → IsRun (Sees holds a.check a.form terms) a.files old new was is status → IsRunOf holds old new was is status a
   Denied : (text : List ℕ) → IsDenied holds a text → Appends old new [] → Prints was is text 2 status
       → IsRunOf holds old new was is status a
 
--- the run of the files, held to these terms
+-- the run of the files, checked against these terms
 abbrev pub RunsOver : Holds → (old new was is : Option (List ℕ)) → ℕ → Asked → TermParts → Type 0
 RunsOver holds old new was is status a terms = IsRun (Sees holds a.check a.form terms) a.files old new was is status
 
@@ -117,7 +118,7 @@ pub record IsDeniedBy (old new was is : Option (List ℕ)) (status : ℕ) (text 
   pub kept : Appends old new []
   pub told : (said : List ℕ) × ((said ≡ text) ⊎ (said ≡ memory_text)) × Prints was is said 2 status
 
--- the run of the files, held to this issuer; or why it is none
+-- the run of the files, checked against this issuer; or why it is none
 abbrev pub RunsBy : Holds → (old new was is : Option (List ℕ)) → ℕ → Asked → (name : List ℕ) → Option DateTime
     → Result TbsParts Fault → Type 0
 RunsBy holds old new was is status a name moment (Ok t) =

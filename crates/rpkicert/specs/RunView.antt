@@ -10,7 +10,7 @@ use Rattle.rpkicert.specs.Run.{Holds, IsMoment, IsRunOf, RunsOver, RunsBy, issue
 use Rattle.rpkicert.specs.Terms.{term_parts}
 use Rattle.rpkicert.specs.TermsView.{terms_of}
 
--- over files whose objects are held to these terms
+-- over files whose objects are checked against these terms
 abbrev pub RunsOn : Holds → (old new was is : Option (List ℕ)) → ℕ → Request → Terms → Type 0
 RunsOn holds old new was is status r terms = RunsOver holds old new was is status (asked_of r) (terms_of terms)
 

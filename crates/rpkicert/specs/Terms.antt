@@ -1,5 +1,5 @@
--- What an object is held to: by itself, and to a certificate that has to be its issuer and a moment, where these are
--- asked for.
+-- What an object is checked against: by itself, and to a certificate that has to be its issuer and a moment, where
+-- these are asked for.
 use Rattle.std.specs.Prelude.{◌≡◌, ◌⊎◌, ◌≤ℤ◌, Bool, Option, Some, None, option_map, codes, bytes_eq}
 use Rattle.std.specs.Prelude.{if◌then◌else◌}
 use Rattle.jiff.specs.Types.{DateTime}
@@ -38,7 +38,7 @@ pub record TermParts : Type 0 where
 abbrev pub term_parts : Option Inspection → Option TbsParts → Option DateTime → TermParts
 term_parts inspection issuer moment = record { inspection = inspection; issuer = issuer; moment = moment }
 
--- an object is held to nothing
+-- an object is checked against nothing
 abbrev pub no_terms : TermParts
 no_terms = term_parts None None None
 

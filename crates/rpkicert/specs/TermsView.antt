@@ -1,4 +1,4 @@
--- What clauses see of what an object is held to.
+-- What clauses see of what an object is checked against.
 use Rattle.std.specs.Prelude.{◌≡◌, ◌⊎◌, Option, option_map, Result, Ok, Err, MatchResult, if◌then◌else◌}
 use Rattle.rpki.specs.declared.repository.error.ValidationError.{ValidationError}
 use Rattle.rpkicert.specs.declared.fault.Clause.{Clause}

@@ -37,7 +37,7 @@ part_text rule = []
 abbrev pub has_section : List ℕ → Bool
 has_section text = starts_with nat_eq text (codes "RFC ") || starts_with nat_eq text (codes "draft-")
 
--- an error behind the section of its rule: an error that has none is that of a name, or of an extension that is
+-- an error after the section of its rule: an error that has none is that of a name, or of an extension that is
 -- malformed or not as critical as it has to be
 abbrev pub with_section : CertRule → List ℕ → List ℕ
 with_section rule said = if has_section said then said else part_text rule ++ said

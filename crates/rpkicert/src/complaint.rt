@@ -18,7 +18,7 @@ use std::alloc::{AllocError, Global};
 struct Wrong<'a> {
     /// What is said in front of the word.
     front: &'static [u8],
-    /// The word that is wrong, or none.
+    /// The malformed word, or none.
     word: &'a [u8],
     /// What is said after it.
     behind: &'static [u8],
@@ -42,7 +42,7 @@ fn is(word: &[u8], text: &[u8]) -> bool
     word == text
 }
 
-/// Whether nothing is left of a word, or the sign of equality and a value.
+/// Whether nothing remains of a word, or the sign of equality and a value.
 fn is_end(rest: &[u8]) -> bool
     ensures { result ≡ is_end rest.now }
 {
@@ -52,7 +52,7 @@ fn is_end(rest: &[u8]) -> bool
     }
 }
 
-/// Whether the word is this option, perhaps with a value behind the sign of equality.
+/// Whether the word is this option, perhaps with a value after the sign of equality.
 fn is_of(option: &[u8], word: &[u8]) -> bool
     ensures { result ≡ is_of option.now word.now }
 {
@@ -150,7 +150,7 @@ fn wrong_value<'a>(option: &[u8], value: &'a [u8]) -> Option<Wrong<'a>>
     None
 }
 
-/// What is wrong with a word that names the option, behind these words.
+/// What is wrong with a word that names the option, after these words.
 fn wrong_named<'a>(before: &[String], option: &'a [u8], word: &'a [u8]) -> Option<Wrong<'a>>
     ensures { option_map text_of result ≡ wrong_named (texts_of before.now) option.entry.now word.entry.now }
 {
@@ -166,7 +166,7 @@ fn wrong_named<'a>(before: &[String], option: &'a [u8], word: &'a [u8]) -> Optio
     Some(said(b"", option, b" takes no value"))
 }
 
-/// What is wrong with a word that is an option, behind these words.
+/// What is wrong with a word that is an option, after these words.
 fn wrong_option<'a>(before: &[String], word: &'a [u8]) -> Option<Wrong<'a>>
     ensures { option_map text_of result ≡ wrong_option (texts_of before.now) word.entry.now (option_in word.entry.now) }
 {
@@ -176,7 +176,7 @@ fn wrong_option<'a>(before: &[String], word: &'a [u8]) -> Option<Wrong<'a>>
     }
 }
 
-/// What is wrong with a word behind these words.
+/// What is wrong with a word after these words.
 fn wrong_next<'a>(before: &'a [String], word: &'a [u8]) -> Option<Wrong<'a>>
     ensures { option_map text_of result
         ≡ wrong_next (texts_of before.entry.now) word.entry.now (awaited (texts_of before.entry.now)) }

@@ -121,7 +121,8 @@ pub enum Fault {
     Unverified(Clause, ValidationError),
     /// It is to have a profile, or to be an issuer, and neither is nor has a certificate.
     NoCertificate,
-    /// It is held to something, or is to be an issuer, and is a certificate of an algorithm that the RPKI doesn't use.
+    /// It is checked against something, or is to be an issuer, and is a certificate of an algorithm that the RPKI
+    /// doesn't use.
     OtherAlgorithm,
 }
 
@@ -158,7 +159,7 @@ pub fn is_bad_signature(alloc: Global, e: ValidationError) -> Result<bool, Alloc
     Ok(said.as_bytes().ends_with(b"bad signature"))
 }
 
-/// That the clause is broken, and how, behind one section: most texts have that of their rule, and others get the
+/// That the clause is broken, and how, after one section: most texts have that of their rule, and others get the
 /// clause's.
 fn unverified_text(alloc: Global, clause: Clause, e: ValidationError) -> Result<String, AllocError>
     ensures { IfOk result (λ text. string_bytes text ≡ clause_told clause (text_in e)) }

@@ -58,7 +58,7 @@ fn kept(alloc: Global, octets: &[u8]) -> Result<Box<Object>, Fault>
     }
 }
 
-/// Whether the object is held to something, and is a certificate of an algorithm that the RPKI doesn't use.
+/// Whether the object is checked against something, and is a certificate of an algorithm that the RPKI doesn't use.
 fn is_outside(terms: &Terms<'_>, object: &Object) -> bool
     ensures { result ≡ is_outside (terms_of terms.now) object.now }
 {
@@ -87,8 +87,9 @@ fn held(alloc: Global, terms: &Terms<'_>, octets: Vec<u8>) -> Result<Found, Faul
 /// of its signer; a revocation list has none.
 ///
 /// Returns `Malformed` for a text that isn't one certificate; `Refused` for octets that are no object of the kind that
-/// they tell; `Violated` and `NoCertificate` as [profiled]; `Unverified` as [verify]; `OtherAlgorithm` where it is held
-/// to something, and is a certificate of an algorithm that the RPKI doesn't use; `OutOfMemory` if allocation fails.
+/// they tell; `Violated` and `NoCertificate` as [profiled]; `Unverified` as [verify]; `OtherAlgorithm` where it is
+/// checked against something, and is a certificate of an algorithm that the RPKI doesn't use; `OutOfMemory` if
+/// allocation fails.
 pub fn found_in(alloc: Global, terms: &Terms<'_>, input: Vec<u8>) -> Result<Found, Fault>
     ensures { FindsIn (terms_of terms.now) input.items (finding_of result) }
 {
@@ -98,7 +99,8 @@ pub fn found_in(alloc: Global, terms: &Terms<'_>, input: Vec<u8>) -> Result<Foun
     }
 }
 
-/// The object in the file of this name, which is held to no profile, issuer or moment, so that it can be an issuer.
+/// The object in the file of this name, which is checked against no profile, issuer or moment, so that it can be an
+/// issuer.
 ///
 /// Returns `Unreadable` and `TooLarge` as [Sources::read]; else the errors of [found_in], but for `NoCertificate` and
 /// `OtherAlgorithm`.

@@ -34,12 +34,12 @@ pub fn profile_of(word: &[u8]) -> Option<Profile>
     }
 }
 
-/// How a certificate is held to a profile.
+/// How a certificate is checked against a profile.
 #[derive(Clone, Copy, Debug, PartialEq, Eq)]
 pub struct Inspection {
     /// The profile.
     pub profile: Profile,
-    /// Whether the names are held to theirs.
+    /// Whether the names are checked against theirs.
     pub strict: bool,
 }
 
@@ -54,8 +54,8 @@ fn end_profile(object: &SignedObject) -> Profile
     Profile::Ee
 }
 
-/// How the certificate of the object's signer is held to its profile, where it is a signed object: as the certificate
-/// is held to the one that is asked for, or strictly.
+/// How the certificate of the object's signer is checked against its profile, where it is a signed object: as the
+/// certificate is checked against the one that is asked for, or strictly.
 fn own_inspection(asked: Option<Inspection>, object: &Object) -> Option<Inspection>
     ensures { result ≡ own_inspection asked object.now }
 {

@@ -19,7 +19,7 @@ pub struct Request<'m, 'a> {
     pub form: Form,
     /// Whether only a verdict is printed.
     pub check: bool,
-    /// How certificates are held to a profile, if they are.
+    /// How certificates are checked against a profile, if they are.
     pub inspection: Option<Inspection>,
     /// The name of the file of the issuer.
     pub issuer: Option<&'a str>,
@@ -115,8 +115,8 @@ fn form_of(json: bool) -> Form
     if json { Form::Json } else { Form::Text }
 }
 
-/// How a certificate is held to the profile of this name, if one is named. None if there is no profile of that name, or
-/// none is named that names are not to be held to.
+/// How a certificate is checked against the profile of this name, if one is named. None if there is no profile of that
+/// name, or none is named that names are not to be checked against.
 fn named_inspection(lax: bool, name: Option<&str>) -> Option<Option<Inspection>>
     ensures { result ≡ named_inspection lax (option_map (λ name. name.now) name.entry) }
 {

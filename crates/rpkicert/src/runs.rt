@@ -53,8 +53,8 @@ fn write_shown<W: Write, F: Write>(
     }
 }
 
-/// Shows each of the files, in order, whose objects are held to these terms, and returns the greatest exit status; 2 if
-/// the output or the faults fail.
+/// Shows each of the files, in order, whose objects are checked against these terms, and returns the greatest exit
+/// status; 2 if the output or the faults fail.
 fn show_each<S: Sources, W: Write, F: Write>(
     alloc: Global,
     request: &Request<'_, '_>,
@@ -124,8 +124,8 @@ fn deny<F: Write>(text: Result<Vec<u8>, AllocError>, err: &mut F) -> u8
     }
 }
 
-/// Shows the files, whose objects are held to the profile that is asked for, to this issuer, and to this moment.
-/// Returns the exit status.
+/// Shows the files, whose objects are checked against the profile that is asked for, to this issuer, and to this
+/// moment. Returns the exit status.
 fn show_held<S: Sources, W: Write, F: Write>(
     alloc: Global,
     request: &Request<'_, '_>,
@@ -146,8 +146,8 @@ fn show_held<S: Sources, W: Write, F: Write>(
     show_each(alloc, request, &terms, sources, out, err)
 }
 
-/// Shows the files, whose objects are held to what is asked for, to the certificate that was found, and to this moment;
-/// or that what was found is none. Returns the exit status.
+/// Shows the files, whose objects are checked against what is asked for, to the certificate that was found, and to this
+/// moment; or that what was found is none. Returns the exit status.
 fn show_issued<S: Sources, W: Write, F: Write>(
     alloc: Global,
     request: &Request<'_, '_>,
@@ -167,8 +167,8 @@ fn show_issued<S: Sources, W: Write, F: Write>(
     }
 }
 
-/// Shows the files, whose objects are held to what is asked for at this moment, which is the one that is asked for; or
-/// why the issuer that is asked for is none. Returns the exit status.
+/// Shows the files, whose objects are checked against what is asked for at this moment, which is the one that is asked
+/// for; or why the issuer that is asked for is none. Returns the exit status.
 fn show_at<S: Sources, W: Write, F: Write>(
     alloc: Global,
     request: &Request<'_, '_>,
@@ -189,8 +189,8 @@ fn show_at<S: Sources, W: Write, F: Write>(
     }
 }
 
-/// Shows the files, whose objects are held to what is asked for; or why the moment or the issuer that is asked for is
-/// none. Returns the exit status.
+/// Shows the files, whose objects are checked against what is asked for; or why the moment or the issuer that is asked
+/// for is none. Returns the exit status.
 fn show_all<S: Sources, W: Write, F: Write>(
     alloc: Global,
     request: &Request<'_, '_>,
@@ -248,8 +248,8 @@ fn answer<S: Sources, W: Write, F: Write>(
 /// `--help` and `--version` print a text. Else each file that the words name is shown, in order: the object that it is
 /// by its fields and items, and a fault by a line among the faults; with `--check` a line for either to the output. A
 /// text with several certificates is shown as so many files. If the words name an issuer that is no certificate, or a
-/// moment that is none, only that is told, among the faults. Of other words what is wrong with them first, and how the
-/// program is used.
+/// moment that isn't one, only that is told, among the faults. Of other words what is wrong with them first, and how
+/// the program is used.
 ///
 /// The status is 0 if all is well; 1 if a file is no such object, breaks a rule of its own, violates the profile, is of
 /// another issuer, or holds at another time; 2 if one can't be read, without the issuer or the moment, for other words,

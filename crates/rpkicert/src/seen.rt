@@ -48,7 +48,7 @@ fn add(all: &mut Shown, one: &Shown) -> Result<(), AllocError>
 }
 
 /// What is shown of each of the certificates in a file, whose texts these are: as if it were a file of its own, with
-/// its number behind the name.
+/// its number after the name.
 fn seen_each(
     alloc: Global,
     check: bool,
@@ -92,7 +92,7 @@ fn seen_input(
     seen_in(alloc, check, form, terms, name, input)
 }
 
-/// What is shown of the file of this name, whose objects are held to these terms: of all of it; of each of the
+/// What is shown of the file of this name, whose objects are checked against these terms: of all of it; of each of the
 /// certificates in it, where it is a text with several; or why it can't be read.
 ///
 /// Returns `AllocError` if allocation fails.

@@ -1,4 +1,4 @@
-//! What an object is held to: its own rules, an issuer and a moment.
+//! What an object is checked against: its own rules, an issuer and a moment.
 
 ghost use Rattle.std.specs.Prelude.{◌≡◌, MatchResult, option_map};
 ghost use Rattle.std.specs.Option.{option_copied};
@@ -26,7 +26,7 @@ use rpki_objects::Crl;
 use rpki_valid::{unverified, verify_issued, verify_period};
 use std::alloc::Global;
 
-/// What an object is held to.
+/// What an object is checked against.
 #[derive(Clone, Copy)]
 pub struct Terms<'a> {
     /// The profile of its certificate.

@@ -52,7 +52,7 @@ pub fn has_section(text: &[u8]) -> bool
 
 impl Violation {
     /// What a person reads of it: the section of the rule, and what is wrong. The text of a rule has both; the error of
-    /// a name, or of an extension that is malformed or not as critical as it has to be, has neither, and is put behind
+    /// a name, or of an extension that is malformed or not as critical as it has to be, has neither, and is put after
     /// the section and what it is the error of.
     ///
     /// Returns `AllocError` if allocation fails.

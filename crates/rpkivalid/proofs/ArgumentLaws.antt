@@ -1,8 +1,8 @@
--- What is left of the arguments behind the first.
+-- The rest of the arguments after the first.
 use Rattle.std.proofs.Common.{◌≡◌, ◌↔◌, ℕ, ◌<◌, List, [], ◌∷◌, ◌++◌, length, drop, ap, arith}
 use Rattle.std.specs.Prelude.{Option, Some, None, IsSome, option_to_list}
 
--- what is left of a list after its first element
+-- the rest of a list after its first element
 pub drop-next : {A : Type 0} (old new : List A) (next : Option A) (n : ℕ) → n ≡ length old
     → old ≡ option_to_list next ++ new → IsSome next ↔ (0 < n) → drop 1 old ≡ new
 drop-next [] new None n size is some = is

@@ -1,4 +1,4 @@
--- What is said under locators, one after another.
+-- What is said under locators, in sequence.
 use Rattle.std.proofs.Common.{◌≡◌, ℕ, Bool, true, false, List, [], ◌∷◌, ◌++◌, length, refl, sym, subst}
 use Rattle.std.proofs.Common.{append_assoc, append-nil, arith}
 use Rattle.std.specs.Prelude.{◌&&◌}

@@ -1,4 +1,4 @@
--- What is found under a locator, from what is valid under it; and under several, one after another.
+-- What is found under a locator, from what is valid under it; and under several, in sequence.
 use Rattle.std.proofs.Common.{◌≡◌, ◌↔◌, ◌∙◌, ℕ, Bool, true, false, List, [], ◌∷◌, ◌++◌, length, refl, sym, subst, ap}
 use Rattle.std.proofs.Common.{append_assoc, append-nil, arith, ◌⊎◌, inl, inr}
 use Rattle.std.proofs.lemmas.List.Elements.{Contains-append_left, Contains-append_right, Contains-append_cases}

@@ -1,6 +1,6 @@
 -- Which lemma file answers which question.
 --
--- What is left of arguments, what words ask for: ArgumentLaws, RequestLaws. Paths of objects: PathLaws. Locators in
+-- The rest of arguments, what words ask for: ArgumentLaws, RequestLaws. Paths of objects: PathLaws. Locators in
 -- files: LocatorLaws. What is found under locators: FoundLaws. What is said under them:
 -- ToldLaws, RefusedLaws, ExplainedLaws, ComparedLaws. A run: RunLaws.
 

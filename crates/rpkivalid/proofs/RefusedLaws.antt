@@ -1,4 +1,4 @@
--- What is said of rejections, one after another.
+-- What is said of rejections, in sequence.
 use Rattle.std.proofs.Common.{◌≡◌, ℕ, List, [], ◌∷◌, ◌++◌, length, refl, sym, subst, append_assoc, append-nil, arith}
 use Rattle.std.specs.Prelude.{Option, Some, None, IfSome}
 use Rattle.std.specs.List.{flat_map}

@@ -26,8 +26,8 @@ use Rattle.rpkivalid.specs.Ends.{AreTimed}
 use Rattle.rpkivalid.specs.Locators.{Holds, NamedParts}
 use Rattle.rpkivalid.specs.Paths.{copy_in}
 
--- what is held to under a locator with this key: the provider's signatures and digests, the rules that are asked
--- strictly, so many authorities below the trust anchor, and the moment
+-- what paths are checked against under a locator with this key: the provider's signatures and digests, the rules that
+-- are asked strictly, so many authorities below the trust anchor, and the moment
 abbrev pub basis_with : {X : Type 0} → (X → Check) → (X → Check) → (X → List ℕ → List ℕ) → (X → List ℕ → List ℕ) → X
     → (strictness : Strictness) → DateTime → ℕ → KeyParts → Basis
 basis_with rsa ecdsa sha1 sha256 provider strictness at depth key =

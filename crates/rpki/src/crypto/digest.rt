@@ -60,7 +60,7 @@ impl DigestAlgorithm {
         Ok(DigestAlgorithm::sha256())
     }
 
-    /// As [DigestAlgorithm::take_from] where what is left begins with the identifier octets of a SEQUENCE, in either
+    /// As [DigestAlgorithm::take_from] where the rest begins with the identifier octets of a SEQUENCE, in either
     /// form; else None, and the cursor stays where it is.
     pub fn take_opt_from(cons: &mut Constructed<'_>) -> Result<Option<DigestAlgorithm>, DecodeError>
         ensures { TakesWhere sequence (λ _. tt) digest (left cons.old) (left cons.new) result }

@@ -84,7 +84,7 @@ fn take_points<'a>(cons: &mut Constructed<'a>) -> Result<Constructed<'a>, Decode
     )
 }
 
-/// The general names of the one distribution point that these octets are, one after another: what the octets of CRL
+/// The general names of the one distribution point that these octets are, in sequence: what the octets of CRL
 /// distribution points have to be in the RPKI, where the point has a full name and nothing else (RFC 6487 4.8.6). The
 /// names themselves are not read. Allocates nothing.
 ///

@@ -159,7 +159,7 @@ impl<'a> AccessInformation<'a> {
         }
     }
 
-    /// What is told with one more description behind.
+    /// What is told with one more description after it.
     fn with(self, method: Oid<&[u8]>, name: Option<&'a [u8]>) -> AccessInformation<'a>
         ensures { parts_of result ≡ joined (parts_of self.entry)
             (access_parts ((method.entry.0.now, option_copied name.entry) ∷ [])) }

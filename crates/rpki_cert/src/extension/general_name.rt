@@ -26,7 +26,7 @@ fn is_plain_name(number: u32, contents: &[u8]) -> bool
     }
 }
 
-/// Whether what is left is a name of the directory.
+/// Whether the rest is a name of the directory.
 fn is_directory_name(contents: Constructed<'_>) -> bool
     ensures { IsTrue result ↔ IsName (left contents.entry) }
 {

@@ -22,7 +22,7 @@ pub fn find<'a>(all: &'a [ExtensionOctets], id: Oid<&[u8]>) -> Option<&'a Extens
     None
 }
 
-/// The extensions that these contents are, one after another, kept.
+/// The extensions that these contents are, in sequence, kept.
 ///
 /// The errors are those of [ExtensionOctets::take_from] for the first that isn't one; and `OutOfMemory` if allocation
 /// fails.

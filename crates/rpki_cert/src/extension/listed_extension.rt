@@ -1,4 +1,4 @@
-//! An extension of a list, and where it stands.
+//! An extension of a list, and where it is.
 
 use rpki::der::Section;
 

@@ -32,7 +32,7 @@ impl<'a> Model for ExtensionTable<'a> {
     ghost invariant = { λ t. IsTable t.list.now t.slots t.understood };
 }
 
-/// Extensions that were read, one after another.
+/// Extensions that were read, in sequence.
 #[derive(Drop)]
 pub struct Passed<'a> {
     /// Their table; of those that have one identifier, the first is in it.
@@ -43,7 +43,7 @@ pub struct Passed<'a> {
     pub apart: bool,
 }
 
-/// What is kept of an extension, which is followed by what is left.
+/// What is kept of an extension, which is followed by the rest.
 fn listed_of<'a>(extension: &ExtensionView<'a>, rest: Constructed<'a>) -> ListedExtension<'a>
     ensures { IsListed extension.now (left rest.entry) result }
 {
@@ -56,7 +56,7 @@ fn listed_of<'a>(extension: &ExtensionView<'a>, rest: Constructed<'a>) -> Listed
     }
 }
 
-/// Reads extensions, one after another, and one at least.
+/// Reads extensions, in sequence, and one at least.
 ///
 /// The error is `Content` with the text `no extensions` where there is none; else that of the first that isn't one.
 pub fn pass<'a>(list: Constructed<'a>) -> Result<Passed<'a>, DecodeError>

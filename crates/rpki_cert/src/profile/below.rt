@@ -22,7 +22,7 @@ fn is_below(base: &[u8], text: &[u8]) -> bool
     }
 }
 
-/// Whether the second text goes on behind the first, which ends with a slash.
+/// Whether the second text goes on after the first, which ends with a slash.
 fn goes_on(base: &[u8], text: &[u8]) -> bool
     ensures { IsTrue result → (front path : List ℕ) × (base.now ≡ front ++ 47 ∷ []) × (text.now ≡ front ++ 47 ∷ path)
         × (path ≢ []) }
@@ -36,7 +36,7 @@ fn goes_on(base: &[u8], text: &[u8]) -> bool
     &text[..base.len()] == base
 }
 
-/// Whether the second of two rsync URIs lies below the first. Where it goes on behind the first, as nearly always,
+/// Whether the second of two rsync URIs lies below the first. Where it goes on after the first, as nearly always,
 /// neither is read again.
 pub fn lies_below(base: &[u8], text: &[u8]) -> bool
     ensures { rsync_refusal base.now ≡ None → rsync_refusal text.now ≡ None

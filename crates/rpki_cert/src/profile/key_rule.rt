@@ -37,7 +37,7 @@ fn is_modulus(number: &Unsigned<'_>) -> bool
     true
 }
 
-/// Whether what is left is the INTEGER 65537 (RFC 7935 3).
+/// Whether the rest is the INTEGER 65537 (RFC 7935 3).
 fn is_exponent(contents: Constructed<'_>) -> bool
     ensures { IsTrue result ↔ SpellsExponent tt (left contents.entry) }
 {
@@ -48,7 +48,7 @@ fn is_exponent(contents: Constructed<'_>) -> bool
     }
 }
 
-/// Whether what is left is a modulus of 2,048 bits and the exponent 65537.
+/// Whether the rest is a modulus of 2,048 bits and the exponent 65537.
 fn are_rsa_parts(contents: Constructed<'_>) -> bool
     ensures { IsTrue result ↔ SpellsAny AreRsaParts tt (left contents.entry) }
 {

@@ -5,7 +5,7 @@ use rpki::der::DecodeError;
 use std::error::Error;
 use std::fmt;
 
-/// The part of a certificate that is wrong, and why: the leftmost error, as a reader of that part returns it.
+/// The malformed part of a certificate, and why: the leftmost error, as a reader of that part returns it.
 #[derive(Clone, Copy, Debug, PartialEq, Eq)]
 pub struct CertError {
     /// The part.

@@ -54,7 +54,7 @@ pub struct TbsView<'a> {
     pub named: Named<'a>,
 }
 
-/// The key and the extensions, which are all that is left.
+/// The key and the extensions, which are the whole rest.
 fn read_keyed<'a>(room: Option<Global>, fields: Constructed<'a>) -> Result<Keyed<'a>, CertError>
     ensures ok { IfOk result (λ k. IsKeyedAt (left fields.entry) k) }
     ensures one { IfOk result (λ _. HasOne (Then SpellsKey SpellsExtensions) (left fields.entry)) }
@@ -79,7 +79,7 @@ fn read_keyed<'a>(room: Option<Global>, fields: Constructed<'a>) -> Result<Keyed
     }
 }
 
-/// The fields from the issuer on, which are all that is left.
+/// The fields from the issuer on, which are the whole rest.
 fn read_named<'a>(room: Option<Global>, fields: Constructed<'a>) -> Result<Named<'a>, CertError>
     ensures ok { IfOk result (λ n. (t : TbsParts) × (h : AreNamed t (left fields.entry))
         × IsNamedIn t (left fields.entry) h n) }
@@ -119,7 +119,7 @@ fn read_named<'a>(room: Option<Global>, fields: Constructed<'a>) -> Result<Named
     }
 }
 
-/// The fields, which are all that is left.
+/// The fields, which are the whole rest.
 pub fn read_fields<'a>(
     room: Option<Global>,
     fields: Constructed<'a>,
@@ -161,7 +161,7 @@ pub fn read_fields<'a>(
     }
 }
 
-/// The TBSCertificate that these octets are; the sections stand in them.
+/// The TBSCertificate that these octets are; the sections are in them.
 pub fn read_tbs<'a>(room: Option<Global>, signed: Constructed<'a>) -> Result<TbsView<'a>, CertError>
     ensures ok { IfOk result (λ v. (t : TbsParts) × (h : SpellsTbs t (left signed.entry))
         × IsTbsIn t h.contents h.spelled v) }

@@ -130,8 +130,8 @@ fn read_list<'a>(
 /// The extensions that all of this is, each identifier once (RFC 5280 4.2). Where there is no allocator, at most 64 are
 /// compared with one another.
 ///
-/// The part that is wrong is the list or one of the extensions; else their count, where nothing is allocated; else that
-/// each identifier stands once. Allocation may fail for more than 64, and then the list is named.
+/// The malformed part is the list or one of the extensions; else their count, where nothing is allocated; else that
+/// each identifier occurs once. Allocation may fail for more than 64, and then the list is named.
 pub fn read_extensions<'a>(
     room: Option<Global>,
     fields: Constructed<'a>,

@@ -6,7 +6,7 @@ ghost use Rattle.rpki_cert.specs.InPlace.{TakesHeaded};
 
 use rpki::der::{Constructed, DecodeError, Section};
 
-/// Whether what is left is values, one after another, with everything nested in them.
+/// Whether the rest is values, in sequence, with everything nested in them.
 pub fn are_values(contents: Constructed<'_>) -> bool
     ensures { IsTrue result ↔ IsValueList (left contents.entry) }
 {

@@ -18,7 +18,7 @@ pub fn are_same(one: &[u8], other: &[u8]) -> bool
     one == other
 }
 
-/// A cursor on the contents, where all that is left is a constructed value of this tag.
+/// A cursor on the contents, where the whole rest is a constructed value of this tag.
 ///
 /// The errors are those of the value; then `Trailing` if something follows it.
 pub fn inside<'a>(octets: Constructed<'a>, tag: Tag) -> Result<Constructed<'a>, DecodeError>

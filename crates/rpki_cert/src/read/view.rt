@@ -36,11 +36,11 @@ pub struct Parts<'a> {
 pub struct CertView<'a> {
     /// The parts of signed data.
     pub parts: Parts<'a>,
-    /// What is signed; its sections stand in the octets that are signed.
+    /// What is signed; its sections are in the octets that are signed.
     pub tbs: TbsView<'a>,
 }
 
-/// The octets of the signature that is all that is left, and of which no bit is unused.
+/// The octets of the signature that is the whole rest, and of which no bit is unused.
 ///
 /// The errors are those of a BIT STRING; then `Trailing` if something follows it; then `Content` with the text
 /// `signature has unused bits`.
@@ -129,7 +129,7 @@ fn read_behind<'a>(
 
 /// The certificate whose contents these are. Where there is an allocator, it may have any number of extensions.
 ///
-/// The error is of the part that is wrong: of the signed data the leftmost; then of what is signed the leftmost; then
+/// The error is of the malformed part: of the signed data the leftmost; then of what is signed the leftmost; then
 /// that both algorithm identifiers are the same.
 pub fn read_contents<'a>(
     room: Option<Global>,
@@ -165,7 +165,7 @@ impl<'a> CertView<'a> {
     /// A certificate, and nothing else, as [Cert::decode](crate::Cert::decode) reads it, of at most 64 extensions:
     /// these are compared with one another in place. Allocates nothing.
     ///
-    /// The error is of the part that is wrong: that something follows the certificate; of the signed data the leftmost;
+    /// The error is of the malformed part: that something follows the certificate; of the signed data the leftmost;
     /// then of what is signed the leftmost; then that both algorithm identifiers are the same.
     pub fn read(octets: &'a [u8]) -> Result<CertView<'a>, CertError>
         ensures ok { IfOk result (λ v. (x : CertParts) × IsCertAt octets.now v x) }

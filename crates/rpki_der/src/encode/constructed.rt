@@ -137,7 +137,7 @@ pub type Sequence<V> = Around<SequenceFrame, V>;
 
 /// A SET of the values (X.690 8.11).
 ///
-/// They are written in the order in which they stand here; the order of X.690 10.3 and 11.6 is the caller's to keep.
+/// They are written in the order in which they are here; the order of X.690 10.3 and 11.6 is the caller's to keep.
 pub type Set<V> = Around<SetFrame, V>;
 
 /// An OCTET STRING around the values, in the primitive form (X.690 8.7, 10.2).

@@ -1,4 +1,4 @@
-//! Lists of values, one after another, and values that may be left out.
+//! Lists of values, in sequence, and values that may be left out.
 
 ghost use Rattle.std.specs.Prelude.{◌++◌};
 

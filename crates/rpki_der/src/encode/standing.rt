@@ -9,7 +9,7 @@ use std::io;
 use std::io::Write;
 use std::marker::Model;
 
-/// One value, which is written as it stands: its octets, borrowed.
+/// One value, which is written as it is: its octets, borrowed.
 #[derive(Drop)]
 pub struct StandingValue<'a> {
     octets: &'a [u8],

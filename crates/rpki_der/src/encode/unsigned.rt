@@ -11,7 +11,7 @@ use crate::tag::Tag;
 use std::io;
 use std::io::Write;
 
-/// Whether the first bit is 1, so that a zero octet stands in front (X.690 8.3.3).
+/// Whether the first bit is 1, so that a zero octet is in front (X.690 8.3.3).
 fn needs_zero(number: &Unsigned<'_>) -> bool
     ensures { IsTrue result ↔ (128 ≤ slice_index number.now 0) }
 {

@@ -52,6 +52,6 @@ pub trait Values {
     /// Each value, at each depth, has contents of fewer than 2^32 octets exactly where each value of the tree has.
     ghost measured: { (x : Self) → is_short x ↔ IsShortTree (tree x) };
 
-    /// What is written are values, one after another.
+    /// What is written are values, in sequence.
     ghost are_values: { (x : Self) → is_short x → IsValueList (encoded x) };
 }

@@ -44,7 +44,7 @@ fn read(reader: Reader, cons: &mut Constructed<'_>) -> Result<(), DecodeError> {
     Ok(())
 }
 
-/// A name, the octets, the reader, what is kept with the count of its headers, and how many octets are left.
+/// A name, the octets, the reader, what is kept with the count of its headers, and how many octets remain.
 type Row = (
     &'static str,
     &'static [u8],

@@ -3,8 +3,7 @@
 use bytes::Bytes;
 use rpki_der::*;
 
-/// A name, whether a SET is read, the octets, the result of a reader of one BOOLEAN inside, and how many octets are
-/// left.
+/// A name, whether a SET is read, the octets, the result of a reader of one BOOLEAN inside, and how many octets remain.
 type Case = (
     &'static str,
     bool,
@@ -64,7 +63,7 @@ fn case_rows() -> &'static [Case] {
     CASES
 }
 
-/// What the reader returns for the case, and how many octets are left.
+/// What the reader returns for the case, and how many octets remain.
 fn answer(set: bool, octets: &'static [u8]) -> (Result<bool, DecodeError>, usize) {
     let source: Bytes = Bytes::from_static(octets);
     let mut cons = Constructed::new(&source);

@@ -272,7 +272,7 @@ fn texts(rt: HostRuntime) -> Result<(), Fail> {
     Ok(())
 }
 
-/// Whether nothing is left after the third of the texts.
+/// Whether nothing remains after the third of the texts.
 fn ends_after_texts(source: &Bytes) -> Result<bool, DecodeError> {
     let mut cursor = Constructed::new(source);
     cursor.take_printable()?;

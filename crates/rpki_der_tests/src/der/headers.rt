@@ -19,7 +19,7 @@ fn parts_of(header: Header) -> Parts {
     )
 }
 
-/// The header in front, how many octets are left, and how many headers were counted.
+/// The header in front, how many octets remain, and how many headers were counted.
 fn header_of(octets: &'static [u8]) -> (FoundHeader, usize, u64) {
     let source: Bytes = Bytes::from_static(octets);
     let mut cursor = Constructed::new(&source);

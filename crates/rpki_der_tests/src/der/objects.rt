@@ -135,7 +135,7 @@ fn octets_of_a_size(rt: HostRuntime) {
     }
 }
 
-/// A name, the octets, the contents of the identifier that is kept, and how many octets are left.
+/// A name, the octets, the contents of the identifier that is kept, and how many octets remain.
 type Identifier = (
     &'static str,
     &'static [u8],

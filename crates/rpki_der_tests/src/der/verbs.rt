@@ -187,7 +187,7 @@ fn the_default_is_never_written(rt: HostRuntime) {
     }
 }
 
-/// The octets, the text of an IA5String, and how many octets are left.
+/// The octets, the text of an IA5String, and how many octets remain.
 type Text = (
     &'static str,
     &'static [u8],
@@ -246,7 +246,7 @@ fn characters_of_ascii(rt: HostRuntime) {
     }
 }
 
-/// The octets, the numbers that are read in order, and how many octets are left.
+/// The octets, the numbers that are read in order, and how many octets remain.
 type Numbers = (
     &'static str,
     &'static [u8],
@@ -309,7 +309,7 @@ fn lists_keep_their_order(rt: HostRuntime) {
     }
 }
 
-/// How many values are read by a reader that reads nothing, and how many octets are left.
+/// How many values are read by a reader that reads nothing, and how many octets remain.
 fn unmoved(alloc: Global, octets: &'static [u8]) -> (Result<usize, Outcome>, usize) {
     let mut cursor = Constructed::from_slice(octets);
     let found: Result<Vec<bool>, DecodeError> = cursor.take_each(

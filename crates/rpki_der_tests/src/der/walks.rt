@@ -6,7 +6,7 @@ use std::alloc::{AllocError, Global};
 use std::test::Fail;
 
 /// What a walk over octets has to return: 0 for a value, 9 for none, or the number of the error; how many headers are
-/// counted, and how many octets are left.
+/// counted, and how many octets remain.
 struct Row {
     name: &'static str,
     octets: &'static [u8],
@@ -152,7 +152,7 @@ fn number_of(answer: Result<Option<()>, DecodeError>) -> u8 {
     }
 }
 
-/// What a walk returns, how many headers are counted, and how many octets are left.
+/// What a walk returns, how many headers are counted, and how many octets remain.
 fn walked(alloc: Global, octets: &'static [u8]) -> (u8, u64, usize) {
     let source: Bytes = Bytes::from_static(octets);
     let mut cursor = Constructed::new(&source);
@@ -174,7 +174,7 @@ fn wanted_of_slice(row: &Row) -> u8 {
     if row.answer == 9 { 1 } else { row.answer }
 }
 
-/// What a walk over the slice returns, how many headers are counted, and how many octets are left.
+/// What a walk over the slice returns, how many headers are counted, and how many octets remain.
 fn walked_slice(alloc: Global, octets: &[u8]) -> (u8, u64, usize) {
     let mut steps = Steps::new();
     let (answer, left) = match walk_octets(alloc, octets, &mut steps) {
@@ -193,7 +193,7 @@ fn walks_a_slice(rt: HostRuntime) {
     }
 }
 
-/// How many headers are in the index of the slice and how many octets are left, or the number of the error.
+/// How many headers are in the index of the slice and how many octets remain, or the number of the error.
 fn indexed(alloc: Global, octets: &[u8]) -> Result<(usize, usize), u8> {
     match index_octets(alloc, octets) {
         Ok((size, index)) => Ok((index.len(), octets.len() - size)),
@@ -212,7 +212,7 @@ fn indexes_a_slice(rt: HostRuntime) {
     }
 }
 
-/// The octets that a cursor on the slice captures, or the number of the error; and how many octets are left.
+/// The octets that a cursor on the slice captures, or the number of the error; and how many octets remain.
 fn captured_of_slice(alloc: Global, octets: &[u8]) -> (Result<Captured, u8>, usize) {
     let mut cursor = Constructed::from_slice(octets);
     let found = match cursor.capture_one(alloc) {
@@ -234,7 +234,7 @@ fn a_cursor_on_a_slice_captures_the_same(rt: HostRuntime) {
     }
 }
 
-/// What skipping a value returns, and how many octets are left.
+/// What skipping a value returns, and how many octets remain.
 fn skipped(alloc: Global, octets: &'static [u8]) -> (u8, usize) {
     let source: Bytes = Bytes::from_static(octets);
     let mut cursor = Constructed::new(&source);
@@ -250,7 +250,7 @@ fn skips(rt: HostRuntime) {
     }
 }
 
-/// What passing over a value in place returns, and how many octets are left.
+/// What passing over a value in place returns, and how many octets remain.
 fn skipped_in_place(octets: &'static [u8]) -> (u8, usize) {
     let mut cursor = Constructed::from_slice(octets);
     let answer = number_of(cursor.skip_nested());
@@ -265,7 +265,7 @@ fn skips_in_place(rt: HostRuntime) {
     }
 }
 
-/// The octets of the value in front, of which there is one, or the number of the error; and how many octets are left.
+/// The octets of the value in front, of which there is one, or the number of the error; and how many octets remain.
 fn captured(alloc: Global, octets: &'static [u8]) -> (Result<Captured, u8>, usize) {
     let source: Bytes = Bytes::from_static(octets);
     let mut cursor = Constructed::new(&source);
@@ -309,7 +309,7 @@ fn captured_values_are_copied(rt: HostRuntime) -> Result<(), Fail> {
     Ok(())
 }
 
-/// Whether one value was captured, and with what is left it is all of the octets.
+/// Whether one value was captured, and with the rest it is all of the octets.
 fn is_front(found: &Captured, left: usize, octets: &[u8]) -> bool {
     found.values() == 1
         && octets.starts_with(found.as_slice())

@@ -52,7 +52,7 @@ type AllAttributes<'a> = (
     (Option<BinaryEncoder>, TimeAndOthers<'a>),
 );
 
-/// An encoder for signed attributes as they stand in an object, under the implicit tag 0.
+/// An encoder for signed attributes as they are in an object, under the implicit tag 0.
 pub type SignedAttrsEncoder<'a> = Around<ContextZeroFrame, AttributesBuilder<'a>>;
 
 /// An encoder for signed attributes as they are signed, under the tag of a SET.
@@ -177,7 +177,7 @@ impl<'a> AttributesBuilder<'a> {
         )
     }
 
-    /// Whether an attribute of this many octets stands in front of the content type.
+    /// Whether an attribute of this many octets is in front of the content type.
     fn leads(&self, octets: u64) -> bool
         ensures { IsTrue result ↔ (octets < length (attribute_octets (type_attribute self.now.content_type))) }
     {
@@ -249,7 +249,7 @@ impl<'a> AttributesBuilder<'a> {
         }
     }
 
-    /// An encoder for the attributes as they stand in an object. It always fits, and allocates nothing.
+    /// An encoder for the attributes as they are in an object. It always fits, and allocates nothing.
     pub fn encode(&self) -> SignedAttrsEncoder<'a>
         ensures octets { ⟦<SignedAttrsEncoder<'static> as Values>⟧.encoded result ≡ attributes_octets self.now }
         ensures fits { ⟦<SignedAttrsEncoder<'static> as Values>⟧.is_short result

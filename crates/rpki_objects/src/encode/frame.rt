@@ -1,4 +1,4 @@
-//! The tag under which the extensions of a revocation list stand.
+//! The tag under which the extensions of a revocation list are.
 
 use rpki::der::{Class, Frame, Tag};
 

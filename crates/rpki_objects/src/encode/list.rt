@@ -36,7 +36,7 @@ pub type CrlExtensionsEncoder = Around<
 /// An encoder for the entries, where there is a list of them.
 type EntriesEncoder<'a> = Option<Sequence<Each<'a, CrlEntry>>>;
 
-/// An encoder for what stands behind the issuer: the two times, the entries and the extensions.
+/// An encoder for what follows the issuer: the two times, the entries and the extensions.
 type BehindIssuerEncoder<'a> = (
     VariedTime,
     (VariedTime, (EntriesEncoder<'a>, CrlExtensionsEncoder)),
@@ -117,7 +117,7 @@ fn encode_version() -> Primitive<Serial>
 }
 
 impl TbsCertList {
-    /// An encoder for what stands behind the issuer.
+    /// An encoder for what follows the issuer.
     fn encode_behind(&self) -> BehindIssuerEncoder<'_>
         ensures octets { ⟦<BehindIssuerEncoder<'static> as Values>⟧.encoded result ≡ behind_octets (list_of self.now) }
         ensures short { IsShortBehind (list_of self.now) → ⟦<BehindIssuerEncoder<'static> as Values>⟧.is_short result }

@@ -29,7 +29,7 @@ fn octet_count_of(size: u8) -> u8
     size / 8 + if size % 8 == 0 { 0 } else { 1 }
 }
 
-/// The bits, and zeros for those of the last octet that are left over (X.690 8.6.2).
+/// The bits, and zeros for those of the last octet left over (X.690 8.6.2).
 impl PrimitiveContent for AddressBits {
     ghost use Rattle.rpki_resources.specs.Encoded.{bits_at};
 

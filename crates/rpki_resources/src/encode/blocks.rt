@@ -39,7 +39,7 @@ fn blocks_len(kind: ResourceKind, blocks: &[Block]) -> Option<u64>
     Some(total)
 }
 
-/// Writes the blocks, one after another.
+/// Writes the blocks, in sequence.
 fn write_blocks<W: Write>(
     out: &mut W,
     kind: ResourceKind,
@@ -56,7 +56,7 @@ fn write_blocks<W: Write>(
     Ok(())
 }
 
-/// An encoder for blocks of a kind, one after another; it borrows them. It allocates nothing.
+/// An encoder for blocks of a kind, in sequence; it borrows them. It allocates nothing.
 #[derive(Drop)]
 pub struct BlocksEncoder<'a> {
     kind: ResourceKind,
@@ -84,7 +84,7 @@ impl<'a> BlocksEncoder<'a> {
     }
 }
 
-/// The blocks, one after another.
+/// The blocks, in sequence.
 impl<'a> Values for BlocksEncoder<'a> {
     ghost use Rattle.std.specs.Prelude.{refl};
     ghost use Rattle.rpki_der.specs.Tree.Tree.{Captured};

@@ -21,7 +21,7 @@ use rpki_der::{Around, Class, Frame, Primitive, PrimitiveContent, Sequence, Tag,
 /// An encoder for resources of one kind: NULL for those of the issuer, or a SEQUENCE of blocks.
 pub type ChoiceEncoder<'a> = Either<Primitive<()>, Sequence<BlocksEncoder<'a>>>;
 
-/// An encoder for the resources of a family of addresses, behind its name.
+/// An encoder for the resources of a family of addresses, after its name.
 pub type FamilyEncoder<'a> = Sequence<(Primitive<&'static [u8]>, ChoiceEncoder<'a>)>;
 
 /// An encoder for the contents of the extension of IP address blocks.
@@ -30,7 +30,7 @@ pub type IpResourcesEncoder<'a> = Sequence<(Option<FamilyEncoder<'a>>, Option<Fa
 /// An encoder for the contents of the extension of AS identifiers.
 pub type AsResourcesEncoder<'a> = Sequence<Around<AsNumbersFrame, ChoiceEncoder<'a>>>;
 
-/// The explicit tag 0, under which AS numbers stand (RFC 3779 3.2.3.1).
+/// The explicit tag 0, under which AS numbers are (RFC 3779 3.2.3.1).
 #[derive(Clone, Copy)]
 pub struct AsNumbersFrame;
 
@@ -124,7 +124,7 @@ fn name_of(family: AddressFamily) -> &'static [u8]
     }
 }
 
-/// An encoder for the resources behind the name of the family; None where they are missing.
+/// An encoder for the resources after the name of the family; None where they are missing.
 fn encode_named(family: AddressFamily, choice: &ResourcesChoice) -> Option<FamilyEncoder<'_>>
     requires { IsOfKind (ResourceKind.Addresses family) choice.now }
     ensures octets { ⟦<Option<FamilyEncoder<'static>> as Values>⟧.encoded result ≡ named_octets family choice.now }

@@ -3,7 +3,7 @@
 use super::*;
 use std::str::FromStr;
 
-/// A text, and the number that it is; None where it is none.
+/// A text, and the number that it is; None where it isn't one.
 const NUMBERS: &[(&str, Option<u32>)] = &[
     ("AS64496", Some(64_496)),
     ("64496", Some(64_496)),

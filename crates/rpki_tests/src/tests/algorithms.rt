@@ -25,7 +25,7 @@ enum Reader {
     Bgpsec,
 }
 
-/// How the reader ended, and how many octets are left.
+/// How the reader ended, and how many octets remain.
 fn read(reader: Reader, octets: &'static [u8]) -> (Outcome, usize) {
     let source: Bytes = Bytes::from_static(octets);
     let mut cons = Constructed::new(&source);

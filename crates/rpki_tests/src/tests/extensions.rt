@@ -208,7 +208,7 @@ fn extensions_are_copied(rt: HostRuntime) -> Result<(), Fail> {
     Ok(())
 }
 
-/// How the reader ends, and how many octets are left.
+/// How the reader ends, and how many octets remain.
 fn outcome(alloc: Global, octets: &'static [u8]) -> (Outcome, usize) {
     let source = Bytes::from_static(octets);
     let mut cons = Constructed::new(&source);

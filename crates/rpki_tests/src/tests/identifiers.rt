@@ -84,7 +84,7 @@ pub(super) const SPELLED: &[u8] =
 const NINETEEN: &[u8] =
     b"\x04\x13\xA9\x99\x3E\x36\x47\x06\x81\x6A\xBA\x3E\x25\x71\x78\x50\xC2\x6C\x9C\xD0\xD8";
 
-/// How the optional reader ends, and how many octets are left.
+/// How the optional reader ends, and how many octets remain.
 fn optional(octets: &'static [u8]) -> (Outcome, usize) {
     let source: Bytes = Bytes::from_static(octets);
     let mut cons = Constructed::new(&source);

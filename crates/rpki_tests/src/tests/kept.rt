@@ -97,7 +97,7 @@ fn stands_at(part: &[u8], source: &[u8], place: usize) -> bool {
     }
 }
 
-/// Whether the name in place, of octets that were copied, is the name that is decoded; and whether a NULL is left.
+/// Whether the name in place, of octets that were copied, is the name that is decoded; and whether a NULL remains.
 fn name_is_kept(alloc: Global, row: &Row) -> Result<bool, DecodeError> {
     let mut cons = Constructed::from_slice(row.octets);
     let view = NameView::take_from(&mut cons)?;

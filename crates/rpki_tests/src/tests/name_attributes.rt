@@ -202,7 +202,7 @@ fn is_expected(attribute: AttributeView<'_>, expected: &Expected) -> bool {
         && attribute.begins == expected.begins
 }
 
-/// Whether these attributes are left, and no other.
+/// Whether these attributes remain, and no other.
 fn are_left(left: &mut Attributes<'_>, expected: &[Expected]) -> bool {
     for one in expected {
         match left.next_attribute() {
@@ -210,7 +210,7 @@ fn are_left(left: &mut Attributes<'_>, expected: &[Expected]) -> bool {
             _ => return false,
         }
     }
-    // once none is left, none is given again
+    // once none remains, none is given again
     left.next_attribute().is_none() && left.next_attribute().is_none()
 }
 

@@ -395,7 +395,7 @@ fn names_are_read_one_by_one(rt: HostRuntime) -> Result<(), Fail> {
     Ok(())
 }
 
-/// A name, the octets, how a reader of whole octets ends on them, and how many octets are left after a name.
+/// A name, the octets, how a reader of whole octets ends on them, and how many octets remain after a name.
 const WHOLE: [(&str, &[u8], Outcome, usize); 4] = [
     ("a name", &NAME, Outcome::Read, 0),
     (
@@ -416,7 +416,7 @@ const WHOLE: [(&str, &[u8], Outcome, usize); 4] = [
     ),
 ];
 
-/// How the reader of whole octets ends, and how many octets are left after a name.
+/// How the reader of whole octets ends, and how many octets remain after a name.
 fn whole(alloc: Global, octets: &'static [u8]) -> (Outcome, usize) {
     let mut cons = Constructed::from_slice(octets);
     // The name is kept by the other reader: here only the place of the cursor tells.

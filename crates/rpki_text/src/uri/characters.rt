@@ -80,7 +80,7 @@ fn are_alike(s: &[u8], other: &[u8]) -> bool
     are
 }
 
-/// Where the first slash stands, or the length.
+/// Where the first slash is, or the length.
 pub(super) fn slash_at(s: &[u8]) -> usize
     ensures value { result ≡ position_or_len is_slash s.now }
     ensures within { result ≤ length s.now }

@@ -235,8 +235,8 @@ impl Https {
         Ok(())
     }
 
-    /// The URI above: one last slash of the path dropped, and then everything after the last slash that is left; `None`
-    /// if nothing is left. Its text is a prefix of this one's.
+    /// The URI above: one last slash of the path dropped, and then everything after the last remaining slash; `None`
+    /// if nothing remains. Its text is a prefix of this one's.
     ///
     /// Returns `AllocError` if allocation fails.
     pub fn parent(&self) -> Result<Option<Https>, AllocError>

@@ -19,7 +19,7 @@ pub(super) const SCHEME_LEN: usize = 8;
 
 /// The octets of a text, and where the path of an https URI begins in them.
 ///
-/// Where the text is a URI, and the place is its own, the answers are those of `Https`. Else they are of what stands at
+/// Where the text is a URI, and the place is its own, the answers are those of `Https`. Else they are of what is at
 /// this place. Nothing is read again, and nothing is allocated.
 #[derive(Clone, Copy)]
 pub struct HttpsCut<'a> {
@@ -109,7 +109,7 @@ impl<'a> HttpsCut<'a> {
     ghost use Rattle.rpki_text.specs.Cuts.{https_cut_text, IsOwnHttps, joined_text};
 
     /// The length of the text of the URI above, which is the beginning of this one: one last slash of the path dropped,
-    /// and then everything after the last slash that is left. `None` if nothing is left.
+    /// and then everything after the last remaining slash. `None` if nothing remains.
     pub fn parent_len(&self) -> Option<usize>
         ensures end { IfSome result (λ n. IsOwnHttps self.now → IsHttpsParentEnd (https_cut_text self.now) n) }
         ensures within { IfSome result (λ n. n ≤ length (https_cut_text self.now)) }

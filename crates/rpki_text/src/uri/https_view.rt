@@ -78,7 +78,7 @@ impl<'a> HttpsView<'a> {
         uri_text(self.cut.authority())
     }
 
-    /// Where the authority stands in the text: after `https://`.
+    /// Where the authority is in the text: after `https://`.
     pub fn authority_range(&self) -> Range<usize>
         ensures part { IsPartAt (https_text self.now) result (https_authority (https_text self.now)) }
         ensures first { result.start ≡ 8 }
@@ -93,7 +93,7 @@ impl<'a> HttpsView<'a> {
         uri_text(self.cut.path())
     }
 
-    /// Where the path stands in the text: from its start to the end of the text.
+    /// Where the path is in the text: from its start to the end of the text.
     pub fn path_range(&self) -> Range<usize>
         ensures path { IsPartAt (https_text self.now) result (https_path (https_text self.now)) }
         ensures last { result.end ≡ length (https_text self.now) }

@@ -95,7 +95,7 @@ fn are_ordinary(path: &[u8]) -> bool
     are
 }
 
-/// What is left of a path after segments with which nothing is wrong: nothing, for most paths.
+/// The rest of a path after segments with which nothing is wrong: nothing, for most paths.
 fn after_ordinary(path: &[u8]) -> &[u8]
     ensures { names_refusal (segments path.now) ≡ names_refusal (segments result.now) }
 {
@@ -168,7 +168,7 @@ pub(super) fn ends_in_slash(path: &[u8]) -> bool
     }
 }
 
-/// How much of the text stands up to its last slash, with it.
+/// How much of the text is up to its last slash, with it.
 fn after_last_slash(text: &[u8]) -> usize
     ensures within { result ≤ length text.now }
     ensures front { is_dir (take result text.now) ≡ true }
@@ -182,7 +182,7 @@ fn after_last_slash(text: &[u8]) -> usize
     end
 }
 
-/// How much of the path of an rsync URI stands before its last segment; `None` if the path is empty.
+/// How much of the path of an rsync URI is before its last segment; `None` if the path is empty.
 pub(super) fn parent_len(path: &[u8]) -> Option<usize>
     ensures none { IfNone result (path.now ≡ []) }
     ensures some { IfSome result (λ n. IsParentLen path.now n) }
@@ -206,8 +206,8 @@ fn without_last_slash(path: &[u8]) -> &[u8]
     if *last == b'/' { front } else { path }
 }
 
-/// How much of the path of an https URI stands above it, if anything does: one last slash dropped, and then everything
-/// after the last slash that is left.
+/// How much of the path of an https URI is above it, if anything is: one last slash dropped, and then everything
+/// after the last remaining slash.
 pub(super) fn len_above(path: &[u8]) -> Option<usize>
     ensures none { IfNone result (path_above path.now ≡ None) }
     ensures some { IfSome result (λ n. path_above path.now ≡ Some (take n path.now)) }

@@ -11,7 +11,7 @@ use rpki_der::{Constructed, DecodeError, Keep, Tag};
 impl Rsync {
     /// Reads a general name that is an rsync URI: a primitive value under the context-specific tag 6, whose contents
     /// are its text (RFC 5280 4.2.1.6). An allocator copies the octets, and [Shared](rpki_der::Shared) shares them;
-    /// requires that `keep` can keep parts of what is left.
+    /// requires that `keep` can keep parts of the rest.
     ///
     /// The errors are those of [Constructed::take_primitive_if]; then `OutOfMemory` if allocation fails; then `Content`
     /// for a text that [Rsync::from_bytes] rejects. An error leaves the cursor where it was.
@@ -38,7 +38,7 @@ impl Rsync {
 impl Https {
     /// Reads a general name that is an https URI: a primitive value under the context-specific tag 6, whose contents
     /// are its text (RFC 5280 4.2.1.6). An allocator copies the octets, and [Shared](rpki_der::Shared) shares them;
-    /// requires that `keep` can keep parts of what is left.
+    /// requires that `keep` can keep parts of the rest.
     ///
     /// The errors are those of [Constructed::take_primitive_if]; then `OutOfMemory` if allocation fails; then `Content`
     /// for a text that [Https::from_bytes] rejects. An error leaves the cursor where it was.

@@ -334,8 +334,8 @@ impl Rsync {
     }
 
     /// The path from `other` to this URI, with this one's last slash: `None` unless both have the same authority,
-    /// ignoring case, and the same module, and the other's segments are a prefix of this one's; empty if no segment is
-    /// left. Where it is not empty, joining it to `other` gives an equal URI, unless this text has 3,072 octets or
+    /// ignoring case, and the same module, and the other's segments are a prefix of this one's; empty if no segment
+    /// remains. Where it is not empty, joining it to `other` gives an equal URI, unless this text has 3,072 octets or
     /// more. Allocates nothing.
     pub fn relative_to(&self, other: &Rsync) -> Option<&str>
         ensures path { option_copied result ≡ relative (uri_of self.now) (uri_of other.now) }

@@ -27,7 +27,7 @@ pub(super) struct Places {
 /// The octets of a text, and where the name of the module and the path of an rsync URI begin in them.
 ///
 /// Where the text is a URI, perhaps a long one, and the places are its own, the answers are those of `Rsync`. Else they
-/// are of what stands at these places. Nothing is read again, and nothing is allocated.
+/// are of what is at these places. Nothing is read again, and nothing is allocated.
 #[derive(Clone, Copy)]
 pub struct RsyncCut<'a> {
     pub(super) text: &'a [u8],
@@ -169,7 +169,7 @@ impl<'a> RsyncCut<'a> {
         path_below(self.path(), base.path())
     }
 
-    /// Where the path from `base` to this URI stands in this text, which ends with it; `None` where there is none.
+    /// Where the path from `base` to this URI is in this text, which ends with it; `None` where there is none.
     pub fn relative_range(&self, base: &RsyncCut<'_>) -> Option<Range<usize>>
         ensures some { IfSome result (λ r. IsOwn self.now → IsOwn base.now
             → IsRelativeAt (cut_text self.now) (cut_text base.now) r) }

@@ -83,7 +83,7 @@ impl<'a> RsyncView<'a> {
         uri_text(self.cut.authority())
     }
 
-    /// Where the authority stands in the text: after `rsync://`.
+    /// Where the authority is in the text: after `rsync://`.
     pub fn authority_range(&self) -> Range<usize>
         ensures part { IsPartAt (rsync_text self.now) result (authority_of (rsync_text self.now)) }
         ensures first { result.start ≡ 8 }
@@ -98,7 +98,7 @@ impl<'a> RsyncView<'a> {
         uri_text(self.cut.module_name())
     }
 
-    /// Where the module's name stands in the text: after the authority and a slash.
+    /// Where the module's name is in the text: after the authority and a slash.
     pub fn module_name_range(&self) -> Range<usize>
         ensures part { IsPartAt (rsync_text self.now) result (module_name_of (rsync_text self.now)) }
         ensures first { result.start ≡ 9 + length (authority_of (rsync_text self.now)) }
@@ -120,7 +120,7 @@ impl<'a> RsyncView<'a> {
         uri_text(self.cut.path())
     }
 
-    /// Where the path stands in the text: from its start to the end of the text.
+    /// Where the path is in the text: from its start to the end of the text.
     pub fn path_range(&self) -> Range<usize>
         ensures path { IsPartAt (rsync_text self.now) result (path_of (rsync_text self.now)) }
         ensures last { result.end ≡ length (rsync_text self.now) }
@@ -153,7 +153,7 @@ impl<'a> RsyncView<'a> {
         Some(uri_text(path))
     }
 
-    /// Where the path from `base` to this URI stands in this text, which ends with it; `None` where there is none.
+    /// Where the path from `base` to this URI is in this text, which ends with it; `None` where there is none.
     pub fn relative_range(&self, base: &RsyncView<'_>) -> Option<Range<usize>>
         ensures some { IfSome result (λ r. IsRelativeAt (rsync_text self.now) (rsync_text base.now) r) }
         ensures none { IfNone result (relative (uri_of (rsync_text self.now)) (uri_of (rsync_text base.now)) ≡ None) }

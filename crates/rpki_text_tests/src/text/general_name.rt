@@ -222,7 +222,7 @@ fn general_names_are_read(rt: HostRuntime) {
     }
 }
 
-/// The contents of a value of context tag 6, and how many octets are left.
+/// The contents of a value of context tag 6, and how many octets remain.
 fn contents_of(alloc: Global, mut cursor: Constructed<'_>) -> (Result<Bytes, Outcome>, usize) {
     let found = match cursor.take_primitive_bytes_if(alloc, Tag::CTX_6) {
         Ok(bytes) => Ok(bytes),

@@ -46,7 +46,7 @@ fn written_and_null(alloc: Global, written: Written) -> io::Result<Captured> {
     put(alloc, &mut out, &(&values, ().encode()))
 }
 
-/// What the law's reader returns on what is written with a NULL after it; and how many octets are left.
+/// What the law's reader returns on what is written with a NULL after it; and how many octets remain.
 fn read_back(alloc: Global, written: Written) -> io::Result<(Found, usize)> {
     let source = written_and_null(alloc, written)?.into_bytes();
     let mut cursor = Constructed::new(&source);

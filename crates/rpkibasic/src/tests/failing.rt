@@ -332,7 +332,7 @@ fn failed_inputs(rt: HostRuntime) -> Result<(), Fail> {
 }
 
 /// Names, how often the reader may be called, the call at which it comes to its end, and how many octets are read; None
-/// where no call is left to find the end. `tests/hostile` has the number of calls that the program makes.
+/// where no call remains to find the end. `tests/hostile` has the number of calls that the program makes.
 const BOUNDS: &[(&str, u32, usize, Option<usize>)] = &[
     ("no call", 0, 1, None),
     ("one call, which finds the end", 1, 1, Some(0)),

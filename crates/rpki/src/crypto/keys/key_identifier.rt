@@ -76,7 +76,7 @@ impl KeyIdentifier {
         }
     }
 
-    /// As [KeyIdentifier::take_from] where what is left begins with the identifier octets of an OCTET STRING, in either
+    /// As [KeyIdentifier::take_from] where the rest begins with the identifier octets of an OCTET STRING, in either
     /// form; else None, and the cursor stays where it is.
     pub fn take_opt_from(cons: &mut Constructed<'_>) -> Result<Option<KeyIdentifier>, DecodeError>
         ensures { TakesWhere octet_string (λ k. k) key_identifier (left cons.old) (left cons.new) result }

@@ -141,7 +141,7 @@ impl PublicKey {
 
     /// A public key (SubjectPublicKeyInfo, RFC 5280 4.1): a SEQUENCE of a format and a BIT STRING, whose octets are
     /// kept. An allocator copies them, and [Shared](rpki_der::Shared) shares them; requires that `keep` can keep parts
-    /// of what is left.
+    /// of the rest.
     ///
     /// The errors are those of a SEQUENCE; then those of the parts, of the bits `OutOfMemory` too if allocation fails,
     /// only where both parts are there; then `Trailing` for octets that follow them.

@@ -89,7 +89,7 @@ impl CertExtension {
     /// An extension: a SEQUENCE of an OBJECT IDENTIFIER, of a BOOLEAN that says whether it is critical, and of an OCTET
     /// STRING. The BOOLEAN may be left out, which is FALSE; a FALSE that is spelled is read too, although X.690 11.5
     /// forbids it. An allocator copies the octets, and [Shared](rpki_der::Shared) shares them; requires that `keep` can
-    /// keep parts of what is left.
+    /// keep parts of the rest.
     ///
     /// The errors are those of a SEQUENCE; then those of the parts; then `OutOfMemory` if allocation fails as the
     /// extension is captured, only where its parts are there; and `Trailing` for octets that follow them.
@@ -111,7 +111,7 @@ impl CertExtension {
         }
     }
 
-    /// As [CertExtension::take_from] where what is left begins with the identifier octets of a SEQUENCE, in either
+    /// As [CertExtension::take_from] where the rest begins with the identifier octets of a SEQUENCE, in either
     /// form; else None, and the cursor stays where it is.
     pub fn take_opt_from<K: Keep>(
         keep: K,

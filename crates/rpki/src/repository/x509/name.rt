@@ -83,7 +83,7 @@ impl Name {
 
     /// A name: a SEQUENCE of one relative distinguished name at least, each a SET of one attribute at least, each a
     /// SEQUENCE of an OBJECT IDENTIFIER and of one value. The order within a SET is free. An allocator copies the
-    /// octets, and [Shared](rpki_der::Shared) shares them; requires that `keep` can keep parts of what is left.
+    /// octets, and [Shared](rpki_der::Shared) shares them; requires that `keep` can keep parts of the rest.
     ///
     /// The errors are those of a SEQUENCE; then `Content` with the text `empty distinguished name` for an empty
     /// SEQUENCE, `empty relative distinguished name` for an empty SET and `invalid name` for an attribute without a

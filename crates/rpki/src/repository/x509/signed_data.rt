@@ -68,10 +68,10 @@ impl<Alg> SignedData<Alg> {
 
 impl<Alg: SignatureAlgorithm + Drop> SignedData<Alg> {
     /// Reads the three parts of signed data, with no SEQUENCE around them: one value, an algorithm identifier and a BIT
-    /// STRING. What follows them is left. An allocator copies the value and the signature, and
-    /// [Shared](rpki_der::Shared) shares them; requires that `keep` can keep parts of what is left.
+    /// STRING. What follows them remains. An allocator copies the value and the signature, and
+    /// [Shared](rpki_der::Shared) shares them; requires that `keep` can keep parts of the rest.
     ///
-    /// The errors are those of the parts; `OutOfMemory` if allocation fails, only where a value begins what is left.
+    /// The errors are those of the parts; `OutOfMemory` if allocation fails, only where a value begins the rest.
     pub fn from_constructed<K: Keep>(
         keep: K,
         cons: &mut Constructed<'_>,
@@ -88,7 +88,7 @@ impl<Alg: SignatureAlgorithm + Drop> SignedData<Alg> {
     }
 
     /// Signed data: a SEQUENCE of the three parts and of nothing else. An allocator copies the value and the signature,
-    /// and [Shared](rpki_der::Shared) shares them; requires that `keep` can keep parts of what is left.
+    /// and [Shared](rpki_der::Shared) shares them; requires that `keep` can keep parts of the rest.
     ///
     /// The errors are those of a SEQUENCE; then those of the parts, `Trailing` for octets that follow them, and
     /// `OutOfMemory` if allocation fails, only where a value begins the contents of the SEQUENCE.

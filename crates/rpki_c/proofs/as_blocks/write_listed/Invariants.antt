@@ -7,7 +7,7 @@ use Rattle.rpki_c.specs.Resources.{as_entry}
 use Rattle.rpki_c.proofs.BlockListLaws.{IsFilling}
 use Rattle.rpki_c.proofs.as_blocks.write_listed.Given as goal
 
--- of the blocks the first ones are written, and the others are left, which are blocks of AS numbers
+-- of the blocks the first ones are written, and the others remain, which are blocks of AS numbers
 abbrev pub invariant-each : goal.invariant-each
 invariant-each l = (bs : List Block) → Holds l.listed bs
     → (ds : List Block) × IsLeft l.rest ds × AreBlocksOf AsNumbers ds

@@ -4,7 +4,7 @@ use Rattle.rpki_resources.specs.declared.block.Block.{Block}
 use Rattle.rpki_c.specs.Held.{as_blocks}
 use Rattle.rpki_c.proofs.held.as_blocks.Given as goal
 
--- the blocks of those that were seen, and then of those that are left
+-- the blocks of those that were seen, and then of the rest
 abbrev pub invariant-each : goal.invariant-each
 invariant-each l =
     (as_blocks l.entries ≡ l.blocks.items ++ as_blocks l.rest) × All (λ (b : Block). b.high < 2 ^ 32) l.blocks.items

@@ -5,7 +5,7 @@ use Rattle.rpki_c.specs.Resources.{ip_entry}
 use Rattle.rpki_c.proofs.BlockListLaws.{IsFilling}
 use Rattle.rpki_c.proofs.ip_blocks.write_listed.Given as goal
 
--- of the blocks the first ones are written, and the others are left
+-- of the blocks the first ones are written, and the others remain
 abbrev pub invariant-each : goal.invariant-each
 invariant-each l = (bs : List Block) → Holds l.listed bs
     → (ds : List Block) × IsLeft l.rest ds × IsFilling (ip_entry l.family) l.from bs l.fn.entries l.entries l.number ds

@@ -3,7 +3,7 @@ use Rattle.rpki_der.specs.Members.{AreValues}
 use Rattle.rpki_contents.specs.Listed.{listed_octets, EachHas}
 use Rattle.rpki_contents.proofs.each.listed_count.Given as goal
 
--- the items that were seen are so many values, and those that are left have the rest of the octets
+-- the items that were seen are so many values, and the rest have the rest of the octets
 abbrev pub invariant-each : goal.invariant-each
 invariant-each g l = record {
   counted : (n : ℕ) → AreValues n (listed_octets g.T.Values.encoded l.rest)

@@ -2,7 +2,7 @@ use Rattle.std.proofs.Common.{◌≡◌, ◌<◌, ◌^◌, ◌+◌, length}
 use Rattle.rpki_contents.specs.Listed.{listed_octets, EachHas}
 use Rattle.rpki_contents.proofs.each.listed_len.Given as goal
 
--- the octets of the items that were seen, and of those that are left
+-- the octets of the items that were seen, and of the rest
 abbrev pub invariant-each : goal.invariant-each
 invariant-each g l = record {
   sum : length (listed_octets g.T.Values.encoded l.items)

@@ -3,7 +3,7 @@ use Rattle.rpki_der.specs.Written.{AppendsAllBut}
 use Rattle.rpki_contents.specs.Listed.{listed_octets, EachHas}
 use Rattle.rpki_contents.proofs.each.write_listed.Given as goal
 
--- all but the items that are left is written
+-- all but the remaining items is written
 abbrev pub invariant-each : goal.invariant-each
 invariant-each g l = record {
   written : AppendsAllBut (g.W.Write.contents l.initial.out) (g.W.Write.contents l.out)

@@ -2,7 +2,7 @@ use Rattle.std.proofs.Common.{length}
 use Rattle.rpki_contents.specs.Encoded.{CanWriteFiles, AreNamed}
 use Rattle.rpki_contents.proofs.encode.can_write_files.Given as goal
 
--- all can be written exactly where those that are left can, and have names where those have
+-- all can be written exactly where the rest can, and have names where those have
 abbrev pub invariant-each : goal.invariant-each
 invariant-each l = record {
   there : CanWriteFiles l.rest → CanWriteFiles l.files;

@@ -3,7 +3,7 @@ use Rattle.rpki_resources.specs.Address.{width}
 use Rattle.rpki_contents.specs.RoaAddress.{AreAddressesIn}
 use Rattle.rpki_contents.proofs.roa_address.are_addresses_in.Given as goal
 
--- all are of the family exactly where those that are left are
+-- all are of the family exactly where the rest are
 abbrev pub invariant-each : goal.invariant-each
 invariant-each l = record {
   there : AreAddressesIn (width l.family) l.rest → AreAddressesIn (width l.family) l.addresses;

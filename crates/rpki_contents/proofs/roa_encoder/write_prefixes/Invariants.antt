@@ -4,7 +4,7 @@ use Rattle.rpki_contents.specs.RoaAddress.{AreAddressesIn}
 use Rattle.rpki_contents.specs.EncodedRoa.{prefixes_octets}
 use Rattle.rpki_contents.proofs.roa_encoder.write_prefixes.Given as goal
 
--- all but the prefixes that are left is written
+-- all but the remaining prefixes is written
 abbrev pub invariant-each : goal.invariant-each
 invariant-each g l = record {
   written : AppendsAllBut (g.W.Write.contents l.initial.out) (g.W.Write.contents l.out)

@@ -4,7 +4,7 @@ use Rattle.rpki_contents.specs.RoaAddress.{AreAddressesIn}
 use Rattle.rpki_contents.specs.Within.{blocks_of}
 use Rattle.rpki_contents.proofs.within.blocks_of.Given as goal
 
--- the blocks of those that were seen, and those that are left are of the family
+-- the blocks of those that were seen, and the rest are of the family
 abbrev pub invariant-each : goal.invariant-each
 invariant-each l =
     (blocks_of (width l.family) l.addresses ≡ l.blocks.items ++ blocks_of (width l.family) l.rest)

@@ -2,7 +2,7 @@ use Rattle.std.proofs.Common.{◌≡◌, ◌-◌, ◌<◌, length, drop}
 use Rattle.rpki_der.specs.Number.{number_of}
 use Rattle.rpki_der.proofs.integer.leading_zeros.Given as goal
 
--- what is left still writes the number
+-- the rest still writes the number
 abbrev pub invariant-loop-start : goal.invariant-loop-start
 invariant-loop-start l = (l.start < length l.octets) × (number_of (drop l.start l.octets) ≡ number_of l.octets)
 

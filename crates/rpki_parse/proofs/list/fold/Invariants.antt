@@ -4,7 +4,7 @@ use Rattle.rpki_parse.specs.Fold.{fold_at}
 use Rattle.rpki_parse.proofs.FoldLaws.{Makes}
 use Rattle.rpki_parse.proofs.list.fold.Given as goal
 
--- what is left makes what all of it makes, and no value takes no octet
+-- the rest makes what all of it makes, and no value takes no octet
 abbrev pub invariant-each : goal.invariant-each
 invariant-each g l =
     let f = g.S.Step.next_at l.step in

@@ -5,7 +5,7 @@ use Rattle.csv.specs.declared.reader.Trim.TheVariants as trim
 use Rattle.rpki_payloads.specs.Listed.{AreRows}
 use Rattle.rpki_payloads.proofs.listed.in_csv.Given as goal
 
--- the rows that are read, from what is left on, and their payloads
+-- the rows that are read, from the rest on, and their payloads
 abbrev pub invariant-rows : goal.invariant-rows
 invariant-rows l =
     (l.row-iterator.rdr.trim ≡ trim.None) × Ready l.row-iterator.rdr × (0 < l.row-iterator.left)

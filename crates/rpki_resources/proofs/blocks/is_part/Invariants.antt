@@ -2,7 +2,7 @@ use Rattle.std.proofs.Common.{◌↔◌, ◌+◌, length}
 use Rattle.rpki_resources.specs.Blocks.{AreCanonical, IsSubset}
 use Rattle.rpki_resources.proofs.blocks.is_part.Given as goal
 
--- the part is in the whole where what is left of the one is in what is left of the other
+-- the part is in the whole where the rest of the one is in the rest of the other
 abbrev pub invariant-pairs : goal.invariant-pairs
 invariant-pairs l = record {
   inners : AreCanonical l.inners;

@@ -2,7 +2,7 @@ use Rattle.std.proofs.Common.{◌↔◌, length}
 use Rattle.rpki_resources.specs.Blocks.{AreCanonical}
 use Rattle.rpki_resources.proofs.canonical.are_canonical.Given as goal
 
--- the blocks are in canonical form where those that are left are
+-- the blocks are in canonical form where the rest are
 abbrev pub invariant-each : goal.invariant-each
 invariant-each l = AreCanonical l.blocks ↔ AreCanonical l.rest
 

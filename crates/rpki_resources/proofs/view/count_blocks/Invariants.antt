@@ -4,7 +4,7 @@ use Rattle.rpki_resources.specs.declared.block.Block.{Block}
 use Rattle.rpki_resources.proofs.FollowLaws.{SoFar}
 use Rattle.rpki_resources.proofs.view.count_blocks.Given as goal
 
--- blocks were read, as many as were counted, and the others are left
+-- blocks were read, as many as were counted, and the others remain
 abbrev pub invariant-each : goal.invariant-each
 invariant-each l = record {
   read : (xs : List Block) × SoFar l.kind l.octets l.last (left l.rest) xs × (length xs ≡ l.count);

@@ -5,7 +5,7 @@ use Rattle.rpki_validation.specs.Snapshot.{Where}
 use Rattle.rpki_validation.proofs.AnchorLaws.{IsAfter}
 use Rattle.rpki_validation.proofs.anchor.anchor_of.Given as goal
 
--- what is first among all URIs is first among those that are left
+-- what is first among all URIs is first among the rest
 abbrev pub invariant-uris : goal.invariant-uris
 invariant-uris g l =
     Where (g.S.Snapshot.holds l.snapshot)

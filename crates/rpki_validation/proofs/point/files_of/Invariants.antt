@@ -3,7 +3,7 @@ use Rattle.rpki_validation.specs.Snapshot.{Where}
 use Rattle.rpki_validation.proofs.FilesLaws.{IsUpTo}
 use Rattle.rpki_validation.proofs.point.files_of.Given as goal
 
--- these octets are those of the files in front of those that are left
+-- these octets are those of the files in front of the rest
 abbrev pub invariant-files : goal.invariant-files
 invariant-files g l =
     Where (g.S.Snapshot.holds l.snapshot)

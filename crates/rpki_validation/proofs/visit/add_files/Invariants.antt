@@ -8,7 +8,7 @@ use Rattle.rpki_validation.proofs.HeldLaws.{HeldUpTo}
 use Rattle.rpki_validation.proofs.NotingLaws.{AddsUpTo, NotesUpTo}
 use Rattle.rpki_validation.proofs.visit.add_files.Given as goal
 
--- of what all files say, what those say that are left is still to be added
+-- of what all files say, what the rest say is still to be added
 abbrev pub invariant-octets : goal.invariant-octets
 invariant-octets g l =
     let p = g.P.Provider in

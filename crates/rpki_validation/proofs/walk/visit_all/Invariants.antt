@@ -2,7 +2,7 @@ use Rattle.std.proofs.Common.{drop}
 use Rattle.rpki_validation.proofs.WalkLaws.{IsUpTo}
 use Rattle.rpki_validation.proofs.walk.visit_all.Given as goal
 
--- what is said by the authorities in front of those that are left is added, and what is below them is taken
+-- what is said by the authorities in front of the rest is added, and what is below them is taken
 abbrev pub invariant-level : goal.invariant-level
 invariant-level g l =
     IsUpTo g.P.Provider.rsa_of g.P.Provider.ecdsa_of g.P.Provider.sha1_of g.P.Provider.sha256_of

@@ -1,7 +1,7 @@
 use Rattle.rpki_validation.proofs.WalkLaws.{IsLevelOf}
 use Rattle.rpki_validation.proofs.walk.walk.Given as goal
 
--- so many levels are left
+-- so many levels remain
 abbrev pub invariant-levels : goal.invariant-levels
 invariant-levels g l =
     IsLevelOf g.P.Provider.rsa_of g.P.Provider.ecdsa_of g.P.Provider.sha1_of g.P.Provider.sha256_of

@@ -5,7 +5,7 @@ use Rattle.rpkivalid.specs.LocatorsView.{named_of}
 use Rattle.rpkivalid.proofs.ExplainedLaws.{IsToldUpTo}
 use Rattle.rpkivalid.proofs.explained.told_under_all.Given as goal
 
--- this text is what is said under the locators in front of those that are left
+-- this text is what is said under the locators in front of the rest
 abbrev pub invariant-locators : goal.invariant-locators
 invariant-locators g l =
     IsToldUpTo (IsToldOf (g.S.Sources.holds l.sources) l.folder l.strictness (basis_with g.P.Provider.rsa_of

@@ -4,7 +4,7 @@ use Rattle.rpkivalid.specs.LocatorsView.{named_of}
 use Rattle.rpkivalid.proofs.FoundLaws.{IsUpTo}
 use Rattle.rpkivalid.proofs.found.found_under_all.Given as goal
 
--- these payloads are those under the locators in front of those that are left
+-- these payloads are those under the locators in front of the rest
 abbrev pub invariant-locators : goal.invariant-locators
 invariant-locators g l =
     IsUpTo (IsFoundIn (g.S.Sources.holds l.sources) l.folder (basis_with g.P.Provider.rsa_of g.P.Provider.ecdsa_of

@@ -1,7 +1,7 @@
 use Rattle.std.proofs.Common.{◌≡◌, ◌++◌, length}
 use Rattle.rpkivalid.proofs.refused.collected.Given as goal
 
--- those that are left follow
+-- the rest follow
 abbrev pub invariant-origins : goal.invariant-origins
 invariant-origins l = l.fn.rest ≡ l.all.items ++ l.rest
 

@@ -3,7 +3,7 @@ use Rattle.std.specs.Prelude.{IfSome}
 use Rattle.rpkivalid.proofs.RefusedLaws.{IsRefusedUpTo}
 use Rattle.rpkivalid.proofs.refused.refused_text.Given as goal
 
--- this text is what is said of the rejections in front of those that are left
+-- this text is what is said of the rejections in front of the rest
 abbrev pub invariant-rejections : goal.invariant-rejections
 invariant-rejections g l =
     IfSome (g.S.Sources.holds l.sources)

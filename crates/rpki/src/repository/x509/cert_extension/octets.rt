@@ -46,7 +46,7 @@ impl ExtensionOctets {
     /// An extension, with the grammar of
     /// [CertExtension::take_from](crate::repository::x509::CertExtension::take_from). The octets of the identifier and
     /// of the OCTET STRING are kept: an allocator copies them, and [Shared](rpki_der::Shared) shares them; requires
-    /// that `keep` can keep parts of what is left.
+    /// that `keep` can keep parts of the rest.
     ///
     /// The errors are those of a SEQUENCE; then those of the parts, `Trailing` for octets that follow them, and
     /// `OutOfMemory` if allocation fails, only where an extension is there.

@@ -30,13 +30,13 @@ impl<'a> Model for ExtensionView<'a> {
     ghost view = { λ x. extension_parts x.id.0.now x.critical x.octets.now };
 }
 
-/// An extension that was read, and where its parts stand: its identifier before what follows that, and its octets
-/// before what is left.
+/// An extension that was read, and where its parts are: its identifier before what follows that, and its octets
+/// before the rest.
 #[derive(Drop)]
 pub struct PlacedExtension<'a> {
     /// The extension.
     pub extension: ExtensionView<'a>,
-    /// What follows the identifier, of all the octets that were left.
+    /// What follows the identifier, of all the remaining octets.
     pub following: Constructed<'a>,
 }
 
@@ -51,7 +51,7 @@ impl<'a> ExtensionView<'a> {
         Ok(placed.extension)
     }
 
-    /// As [ExtensionView::take_from], with the same errors, and tells where the parts stand: for a reader that keeps
+    /// As [ExtensionView::take_from], with the same errors, and tells where the parts are: for a reader that keeps
     /// them.
     #[inline(always)]
     pub fn take_placed(cons: &mut Constructed<'a>) -> Result<PlacedExtension<'a>, DecodeError>

@@ -1,4 +1,4 @@
-//! The attributes of a name, one after another: the one reading of what stands inside (RFC 5280 4.1.2.4).
+//! The attributes of a name, in sequence: the one reading of what is inside (RFC 5280 4.1.2.4).
 
 ghost use Rattle.std.specs.Prelude.{◌≡◌, ◌<◌, List, [], ℕ, IfSome, IfNone};
 ghost use Rattle.rpki_der.specs.Prelude.{left, Refuses, Spells, is_constructed, octets_of};
@@ -26,7 +26,7 @@ pub struct AttributeView<'a> {
     pub begins: bool,
 }
 
-/// The attributes of a name that are left, in order.
+/// The remaining attributes of a name, in order.
 #[derive(Drop)]
 pub struct Attributes<'a> {
     /// Further attributes of the relative distinguished name that was begun.
@@ -118,7 +118,7 @@ impl<'a> Attributes<'a> {
         }
     }
 
-    /// The next attribute; None where none is left. Allocates nothing.
+    /// The next attribute; None where none remains. Allocates nothing.
     pub fn next_attribute(&mut self) -> Option<AttributeView<'a>>
         ensures given { (xs : List MarkedAttribute) → AreLeft self.old xs → GivesAttribute xs result self.new }
         // Each attribute takes octets.
@@ -140,9 +140,9 @@ impl<'a> Attributes<'a> {
         }
     }
 
-    /// The first attribute of the relative distinguished name that is next; None where none is left.
+    /// The first attribute of the relative distinguished name that is next; None where none remains.
     ///
-    /// Requires that none is left of the relative distinguished name before it.
+    /// Requires that none remains of the relative distinguished name before it.
     fn begin_relative(&mut self) -> Option<AttributeView<'a>>
         requires { self.old.attributes ≡ [] }
         ensures given { (xs : List MarkedAttribute) → AreLeft self.old xs → GivesAttribute xs result self.new }

@@ -20,7 +20,7 @@ pub(super) enum Profile {
     Router,
 }
 
-/// Whether what is left is a PrintableString.
+/// Whether the rest is a PrintableString.
 fn is_printable<C: Cursor>(value: C) -> bool
     ensures { IsTrue result ↔ IsPrintable (C.octets_left value) }
 {
@@ -43,7 +43,7 @@ fn is_utf8<C: Cursor>(value: C) -> bool
 }
 
 impl Profile {
-    /// Whether what is left is a string that the profile permits.
+    /// Whether the rest is a string that the profile permits.
     fn permits<C: Cursor>(self, value: C) -> bool
         ensures { IsTrue result ↔ IsStringOf self (C.octets_left value) }
     {
@@ -114,7 +114,7 @@ impl Profile {
         Ok(all)
     }
 
-    /// Tests the name that is left of a cursor; returns the rule that it breaks first.
+    /// Tests the remaining name of a cursor; returns the rule that it breaks first.
     pub(super) fn inspect<C: Cursor>(self, name: C) -> Result<(), NameRule>
         requires { IsName (C.octets_left name) }
         ensures { Inspects self (C.octets_left name) result }

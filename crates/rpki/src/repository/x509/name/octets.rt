@@ -40,7 +40,7 @@ impl NameOctets {
 
     /// A name, with the grammar and the errors of [Name::take_from](crate::repository::x509::Name::take_from). An
     /// allocator copies the octets, and [Shared](rpki_der::Shared) shares them; requires that `keep` can keep parts of
-    /// what is left.
+    /// the rest.
     pub fn take_from<K: Keep>(
         keep: K,
         cons: &mut Constructed<'_>,

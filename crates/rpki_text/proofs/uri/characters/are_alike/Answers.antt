@@ -9,7 +9,7 @@ and-associates : (a b c : Bool) → (a && (b && c)) ≡ ((a && b) && c)
 and-associates true b c = refl
 and-associates false b c = refl
 
--- one octet more of two texts that are as long: it decides, where what stands before it is alike
+-- one octet more of two texts that are as long: it decides, where what is before it is alike
 one-more : (s t : List ℕ) (i : ℕ) → i < length s → length s ≡ length t
     → bytes_eq (lowercase (take (i + 1) s)) (lowercase (take (i + 1) t))
     ≡ (bytes_eq (lowercase (take i s)) (lowercase (take i t)) && nat_eq (to_ascii_lowercase (get_or s i 0))

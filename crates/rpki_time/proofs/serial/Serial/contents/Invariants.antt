@@ -2,7 +2,7 @@ use Rattle.std.proofs.Common.{◌≡◌, ◌-◌, ◌<◌, ◌≤◌, get_or, dr
 use Rattle.rpki_der.specs.Number.{number_of}
 use Rattle.rpki_time.proofs.serial.Serial.contents.Given as goal
 
--- what is left still writes the number, and its first bit is 0
+-- the rest still writes the number, and its first bit is 0
 abbrev pub invariant-loop-start : goal.invariant-loop-start
 invariant-loop-start l =
     (l.start ≤ 19) × (number_of (drop l.start l.self-inside.octets) ≡ number_of l.self-inside.octets)
