@@ -7,8 +7,9 @@ use crate::trust::terms_of;
 use bytes::Bytes;
 use rpki::repository::x509::Time;
 use rpki_cert::Cert;
+use rpki_crl::Crl;
 use rpki_der::{Constructed, DecodeError};
-use rpki_objects::{Crl, SignedObject};
+use rpki_objects::SignedObject;
 use rpki_valid::ResourceCert;
 use std::alloc::Global;
 use std::io;
@@ -64,7 +65,10 @@ fn tell_valid(alloc: Global, report: Report, moment: &str, octets: Vec<u8>) -> R
         return Ok(());
     }
     let list = Crl::take_from(alloc, &mut cursor)?;
-    report.shown("revoked", &object.is_revoked_by(&list))?;
+    report.shown(
+        "revoked",
+        &list.contains(object.cert().tbs().serial_number()),
+    )?;
     Ok(())
 }
 

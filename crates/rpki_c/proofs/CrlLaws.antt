@@ -2,8 +2,8 @@
 use Rattle.std.proofs.Common.{List, ℕ, Option, None, Some, refl}
 use Rattle.rpki_der.specs.Parts.{OptionalThen}
 use Rattle.rpki_der.specs.Format.{only}
-use Rattle.rpki_objects.specs.Crl.{Entry, each_entry, entries, ListExtensions, extensions, listed}
-use Rattle.rpki_objects.specs.CrlView.{entries_in_front}
+use Rattle.rpki_crl.specs.Crl.{Entry, each_entry, entries, ListExtensions, extensions, listed}
+use Rattle.rpki_crl.specs.CrlView.{entries_in_front}
 
 pub entries-spelled : (xs : Option (List Entry)) (v : ListExtensions) (s : List ℕ)
     (h : OptionalThen entries.spells (only extensions).spells (xs, v) s)

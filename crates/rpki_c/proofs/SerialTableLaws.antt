@@ -23,9 +23,9 @@ use Rattle.rpki_der.specs.Fold.{TakesFold}
 use Rattle.rpki_der.specs.Number.{number_of, low_octets}
 use Rattle.rpki_der.specs.NumberLaws.{low_octets-full}
 use Rattle.rpki_der.specs.Reading.{Accepts, Refuses}
-use Rattle.rpki_objects.specs.Crl.{Entry, entry, each_entry, is_revoked}
-use Rattle.rpki_objects.specs.CrlView.{Keeps}
-use Rattle.rpki_objects.proofs.EntriesLaws.{each-fault, entries-wrong, nowhere}
+use Rattle.rpki_crl.specs.Crl.{Entry, entry, each_entry, is_revoked}
+use Rattle.rpki_crl.specs.CrlView.{Keeps}
+use Rattle.rpki_crl.proofs.EntriesLaws.{each-fault, entries-wrong, nowhere}
 use Rattle.rpki_c.specs.SerialTable.{IsTwenty, serial_of, IsSerialTable, AreEntriesRead, AreWritten}
 use Rattle.rpki_c.proofs.FillingLaws.{set-behind}
 

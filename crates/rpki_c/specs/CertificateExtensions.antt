@@ -8,7 +8,8 @@ use Rattle.rpki_cert.specs.declared.extension.policy.Overclaim.{Overclaim}
 use Rattle.rpki_cert.specs.declared.extension.policy.Overclaim.TheVariants.{Refuse, Trim}
 use Rattle.rpki_cert.specs.Cert.{CertParts, SpellsCert, find}
 use Rattle.rpki_cert.specs.Known.{subject_key_identifier, key_usage, basic_constraints, crl_distribution_points}
-use Rattle.rpki_cert.specs.Known.{certificate_policies, authority_key_identifier, extended_key_usage}
+use Rattle.rpki_cert.specs.Known.{certificate_policies, extended_key_usage}
+use Rattle.rpki_x509.specs.Authority.{authority_key_identifier}
 use Rattle.rpki_cert.specs.Known.{authority_info_access, subject_info_access, ip_addr_blocks, ip_addr_blocks_v2}
 use Rattle.rpki_cert.specs.Known.{autonomous_sys_ids, autonomous_sys_ids_v2}
 use Rattle.rpki_cert.specs.KnownView.{AreKnown}

@@ -1,10 +1,10 @@
 -- What a status says of the octets of a revocation list.
 use Rattle.std.specs.Prelude.{◌≡◌, ◌⊎◌, ◌≤◌, ◌<◌, ℕ, Bool, List, slice_index}
 use Rattle.rpki_der.specs.Prelude.{number_of}
-use Rattle.rpki_objects.specs.declared.crl_part.CrlPart.{CrlPart}
-use Rattle.rpki_objects.specs.declared.crl_part.CrlPart.TheVariants as P
-use Rattle.rpki_objects.specs.Crl.{CrlParts, Entry, entry, each_entry, crl, listed, is_revoked}
-use Rattle.rpki_objects.specs.CrlView.{AreEntriesFault, IsCrlWrong}
+use Rattle.rpki_crl.specs.declared.crl_part.CrlPart.{CrlPart}
+use Rattle.rpki_crl.specs.declared.crl_part.CrlPart.TheVariants as P
+use Rattle.rpki_crl.specs.Crl.{CrlParts, Entry, entry, each_entry, crl, listed, is_revoked}
+use Rattle.rpki_crl.specs.CrlView.{AreEntriesFault, IsCrlWrong}
 use Rattle.rpki_c.specs.declared.crl.RevocationList.{RevocationList}
 use Rattle.rpki_c.specs.declared.crl.RevokedCertificate.{RevokedCertificate}
 use Rattle.rpki_c.specs.declared.span.Span.{Span}

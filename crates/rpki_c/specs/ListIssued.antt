@@ -6,9 +6,9 @@ use Rattle.rpki_time.specs.Validity.{Period}
 use Rattle.rpki_cert.specs.declared.read.cert_part.CertPart.{CertPart}
 use Rattle.rpki_cert.specs.Cert.{CertParts, SpellsCert}
 use Rattle.rpki_cert.specs.View.{IsCertWrong}
-use Rattle.rpki_objects.specs.declared.crl_part.CrlPart.{CrlPart}
-use Rattle.rpki_objects.specs.Crl.{CrlParts, crl}
-use Rattle.rpki_objects.specs.CrlView.{IsCrlWrong}
+use Rattle.rpki_crl.specs.declared.crl_part.CrlPart.{CrlPart}
+use Rattle.rpki_crl.specs.Crl.{CrlParts, crl}
+use Rattle.rpki_crl.specs.CrlView.{IsCrlWrong}
 use Rattle.rpki_c.specs.declared.times.Moment.{Moment}
 use Rattle.rpki_c.specs.Crl.{crl_part_number}
 use Rattle.rpki_c.specs.Made.{IsPossible, IsTimeOf}

@@ -7,8 +7,8 @@ use Rattle.std.specs.Ordering.{nat_cmp}
 use Rattle.rpki_der.specs.declared.error.DecodeError.{DecodeError}
 use Rattle.rpki_der.specs.Reading.{SpellsNothing}
 use Rattle.rpki_der.specs.Number.{number_of, AreOctets}
-use Rattle.rpki_objects.specs.Crl.{Entry, each_entry}
-use Rattle.rpki_objects.specs.CrlView.{AreEntriesFault}
+use Rattle.rpki_crl.specs.Crl.{Entry, each_entry}
+use Rattle.rpki_crl.specs.CrlView.{AreEntriesFault}
 use Rattle.rpki_c.specs.Filled.{IsUnfilled}
 use Rattle.rpki_c.specs.Status.{too_small}
 use Rattle.rpki_c.specs.Whole.{IsRefused}

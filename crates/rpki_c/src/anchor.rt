@@ -5,11 +5,11 @@ ghost use Rattle.rpki_cert.specs.Cert.{CertParts};
 ghost use Rattle.rpki_cert.specs.View.{IsCertAt};
 ghost use Rattle.rpki_c.specs.Anchor.{key_octets, IsAnchorRead};
 
-use crate::issued::{is_identifier, key_of};
+use crate::issued::key_of;
 use crate::known_cert::known_cert;
 use crate::status::{OTHER_ANCHOR, OTHER_KEY};
 use crate::verification::verified;
-use rpki_cert::CertView;
+use rpki_cert::{CertView, is_identifier};
 
 /// Whether these are the octets of the certificate's key.
 fn has_key(found: &CertView<'_>, key: &[u8]) -> bool

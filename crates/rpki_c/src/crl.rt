@@ -1,16 +1,16 @@
 //! Revocation lists.
 
 ghost use Rattle.std.specs.Prelude.{◌≡◌};
-ghost use Rattle.rpki_objects.specs.Crl.{CrlParts};
-ghost use Rattle.rpki_objects.specs.CrlView.{IsCrlAt};
+ghost use Rattle.rpki_crl.specs.Crl.{CrlParts};
+ghost use Rattle.rpki_crl.specs.CrlView.{IsCrlAt};
 ghost use Rattle.rpki_c.specs.Crl.{crl_part_number, HasCrl, IsCrlRead, IsCrlSearched, IsEntryTaken};
 
 use crate::span::Span;
 use crate::status::CONTENT;
 use crate::times::{Moment, moment_of};
 use rpki::crypto::SignatureAlgorithm;
+use rpki_crl::{CrlEntry, CrlPart, CrlView, entries_contain};
 use rpki_der::Constructed;
-use rpki_objects::{CrlEntry, CrlPart, CrlView, entries_contain};
 use rpki_time::Serial;
 
 /// The parts of a revocation list.

@@ -11,18 +11,8 @@ ghost use Rattle.rpki_c.specs.Issued.{AreNamesTold, IsIssuedRead, IsIssuerRead};
 use crate::known_cert::{KnownCert, known_cert};
 use crate::status::{NO_ISSUER, OTHER_AUTHORITY, OTHER_ISSUER};
 use rpki::crypto::KeyIdentifier;
-use rpki_cert::CertView;
+use rpki_cert::{CertView, is_identifier};
 use rpki_digests::Digests;
-
-/// Whether the key identifier is there and is this one.
-pub(crate) fn is_identifier(found: Option<KeyIdentifier>, wanted: KeyIdentifier) -> bool
-    ensures { IsTrue result ↔ (found ≡ Option.Some wanted) }
-{
-    match found {
-        Some(found) => found == wanted,
-        None => false,
-    }
-}
 
 /// Whether the issuer of the one has the name of the other's subject, octet for octet.
 pub(crate) fn is_named(found: &CertView<'_>, issuer: &CertView<'_>) -> bool

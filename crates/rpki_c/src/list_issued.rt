@@ -3,8 +3,8 @@
 ghost use Rattle.std.specs.Prelude.{◌≡◌, ◌↔◌, IsTrue, List, ℕ};
 ghost use Rattle.rpki_cert.specs.Cert.{CertParts};
 ghost use Rattle.rpki_cert.specs.View.{IsCertAt};
-ghost use Rattle.rpki_objects.specs.Crl.{CrlParts};
-ghost use Rattle.rpki_objects.specs.CrlView.{IsCrlAt};
+ghost use Rattle.rpki_crl.specs.Crl.{CrlParts};
+ghost use Rattle.rpki_crl.specs.CrlView.{IsCrlAt};
 ghost use Rattle.rpki_c.specs.ListIssued.{IsListToldOf, IsListRead};
 ghost use Rattle.rpki_c.specs.Verified.{IsVerifiedBy};
 
@@ -17,7 +17,7 @@ use crate::times::Moment;
 use crate::verification::verified;
 use rpki::crypto::KeyIdentifier;
 use rpki_cert::CertView;
-use rpki_objects::CrlView;
+use rpki_crl::CrlView;
 use rpki_time::Validity;
 
 /// Whether the issuer of the list has the name of the certificate's subject, octet for octet.

@@ -12,13 +12,13 @@ ghost use Rattle.rpki_c.specs.Verified.{IsVerifiedBy};
 
 use crate::certificate_extensions::known_number;
 use crate::file_digest::has_digest;
-use crate::issued::is_identifier;
-use crate::signed_object::{are_same, object_part_number};
+use crate::signed_object::object_part_number;
 use crate::status::{BAD_SIGNATURE, KEY_NOT_ACCEPTED, OTHER_DIGEST, OTHER_SIGNER, OTHER_TYPE};
 use rpki::crypto::{KeyIdentifier, PublicKeyFormat, PublicKeyView};
-use rpki_cert::CertView;
+use rpki_cert::{CertView, is_identifier};
 use rpki_objects::SignedObjectView;
 use rpki_rsa::Key;
+use rpki_x509::are_same;
 use sha2::{Digest, Sha256};
 
 /// The digest by SHA-256 of what is signed: of the attributes, but with the tag of a SET in place of their first octet

@@ -4,13 +4,13 @@ ghost use Rattle.std.specs.Prelude.{◌≡◌, ◌≤◌, ◌<◌, List, length,
 ghost use Rattle.rpki_der.specs.Cursor.{left};
 ghost use Rattle.rpki_der.specs.Fold.{TakesStep};
 ghost use Rattle.rpki_der.specs.Number.{number_of};
-ghost use Rattle.rpki_objects.specs.Crl.{Entry, entry, each_entry, is_revoked};
-ghost use Rattle.rpki_objects.specs.CrlView.{Keeps};
+ghost use Rattle.rpki_crl.specs.Crl.{Entry, entry, each_entry, is_revoked};
+ghost use Rattle.rpki_crl.specs.CrlView.{Keeps};
 ghost use Rattle.rpki_c.specs.SerialTable.{AreEntriesRead, AreTabled, AreWritten, IsSerialTable, IsTwenty};
 
 use crate::status::TOO_SMALL;
+use rpki_crl::CrlEntry;
 use rpki_der::{Constructed, DecodeError};
-use rpki_objects::CrlEntry;
 
 /// Whether all of the octets are entries, in sequence. The error is that of the first that isn't one.
 fn read_entries(octets: &[u8]) -> Result<(), DecodeError>

@@ -3,9 +3,10 @@
 ghost use Rattle.std.specs.Prelude.{◌≡◌};
 ghost use Rattle.rpki_c.specs.SignedBy.{IsSignedByRead};
 
-use crate::issued::{is_identifier, key_of, read_issued};
+use crate::issued::{key_of, read_issued};
 use crate::status::OTHER_KEY;
 use crate::verification::verified;
+use rpki_cert::is_identifier;
 
 /// Reads two resource certificates, and says whether the second has issued the first, but for periods, resources,
 /// revocation and the profiles of both (RFC 5280 6.1.3, RFC 6487 7.2): whether the issuer of the first has the name of

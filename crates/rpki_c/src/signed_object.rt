@@ -12,6 +12,7 @@ use crate::times::{Moment, moment_of};
 use rpki::crypto::SignatureAlgorithm;
 use rpki_objects::{ObjectPart, SignedObjectView};
 use rpki_time::Time;
+use rpki_x509::are_same;
 
 /// The parts of a signed object.
 #[repr(C)]
@@ -85,13 +86,6 @@ fn moment_if(time: Option<Time>) -> Moment
             second: 0,
         },
     }
-}
-
-/// Whether these are the same octets.
-pub(crate) fn are_same(one: &[u8], other: &[u8]) -> bool
-    ensures { IsTrue result ↔ (one.now ≡ other.now) }
-{
-    one == other
 }
 
 /// The parts of the signed object that the octets are.

@@ -2,44 +2,13 @@
 
 ghost use Rattle.std.specs.Prelude.{◌≡◌, ◌↔◌, IsTrue};
 ghost use Rattle.rpki_cert.specs.ExtensionTable.{OfListed};
-ghost use Rattle.rpki_cert.specs.ResourceExtensions.{is_own, are_own_addresses, are_own_numbers};
+ghost use Rattle.rpki_cert.specs.ResourceExtensions.{are_own_addresses, are_own_numbers};
 ghost use Rattle.rpki_valid.specs.ObjectResources.{HasAddresses, HasNumbers, AreOwnAddresses, AreOwnNumbers};
 ghost use Rattle.rpki_c.specs.SignerResources.{ListsAddresses, ListsNumbers, IsRoaSigner, IsAspaSigner};
 
 use crate::certificate::part_number;
 use crate::status::OTHER_KINDS;
-use rpki_cert::{CertView, Keyed};
-use rpki_resources::{ChoiceView, IpResourcesView};
-
-/// Whether these are not those of the issuer.
-fn is_own(choice: &ChoiceView<'_>) -> bool
-    ensures { result ≡ is_own choice.now }
-{
-    match choice {
-        ChoiceView::Inherit => false,
-        _ => true,
-    }
-}
-
-/// Whether no addresses are those of the issuer.
-fn are_own_addresses(found: Option<IpResourcesView<'_>>) -> bool
-    ensures { result ≡ are_own_addresses found.entry }
-{
-    match found {
-        Some(resources) => is_own(&resources.v4) && is_own(&resources.v6),
-        None => true,
-    }
-}
-
-/// Whether no numbers are those of the issuer.
-fn are_own_numbers(found: Option<ChoiceView<'_>>) -> bool
-    ensures { result ≡ are_own_numbers found.entry }
-{
-    match found {
-        Some(choice) => is_own(&choice),
-        None => true,
-    }
-}
+use rpki_cert::{CertView, Keyed, are_own_addresses, are_own_numbers};
 
 /// Whether an extension of addresses is there.
 fn has_addresses(keyed: &Keyed<'_>) -> bool

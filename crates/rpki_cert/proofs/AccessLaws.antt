@@ -20,7 +20,7 @@ use Rattle.rpki_text.specs.HttpsText.{https_refusal}
 use Rattle.rpki_cert.specs.GeneralName.{SpellsText, IsTextFault}
 use Rattle.rpki_cert.specs.Access.{Through, SpellsUri, IsOidAs, SpellsOidAs, IsOidAsFault, first_rsync, first_https}
 use Rattle.rpki_cert.specs.ExtensionContent.{SpellsPurpose, has_router, ArePurposes}
-use Rattle.rpki_cert.proofs.ListedLaws.{refused}
+use Rattle.rpki_x509.proofs.FrameLaws.{refused}
 
 -- ---- through a function
 

@@ -18,7 +18,8 @@ use Rattle.rpki_cert.specs.declared.read.view.CertView.{CertView}
 use Rattle.rpki_cert.specs.Cert.{TbsParts, CertParts, AreFields, fields_of, SpellsTbs, SpellsCert}
 use Rattle.rpki_cert.specs.CertError.{cert_error}
 use Rattle.rpki_cert.specs.Kept.{IsTbsAt, IsCertOf}
-use Rattle.rpki_cert.specs.View.{frame, FirstWrong, HasOne, AreContentsOf, IsTbsIn}
+use Rattle.rpki_x509.specs.Frame.{frame}
+use Rattle.rpki_cert.specs.View.{FirstWrong, HasOne, AreContentsOf, IsTbsIn}
 use Rattle.rpki_cert.specs.View.FirstWrong.{AtPart}
 
 unless-other : (e : DecodeError) {P : Type 0} → (e ≢ OutOfMemory → P) → UnlessMemory e P

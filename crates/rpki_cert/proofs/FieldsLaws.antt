@@ -23,7 +23,8 @@ use Rattle.rpki_der.specs.declared.section.Section.{Section}
 use Rattle.rpki_cert.specs.declared.read.fields.Keyed.{Keyed}
 use Rattle.rpki_cert.specs.declared.read.fields.Named.{Named}
 use Rattle.rpki_cert.specs.declared.read.fields.TbsView.{TbsView}
-use Rattle.rpki_cert.specs.Cert.{TbsParts, SpellsVersion, SpellsRpkiAlgorithm, AreFields, fields_of, SpellsTbs}
+use Rattle.rpki_cert.specs.Cert.{TbsParts, SpellsVersion, AreFields, fields_of, SpellsTbs}
+use Rattle.rpki_x509.specs.Signed.{SpellsRpkiAlgorithm}
 use Rattle.rpki_cert.specs.Cert.{version_tag, SpellsTwo}
 use Rattle.rpki_cert.specs.declared.read.cert_error.CertError.{CertError}
 use Rattle.rpki_der.specs.Section.{IsSection}
@@ -34,10 +35,11 @@ use Rattle.rpki_der.specs.Leaves.{IsOnly}
 use Rattle.rpki_cert.specs.Cert.{two}
 use Rattle.rpki_der.specs.FirstFault.{FirstFault, IsEndFault}
 use Rattle.rpki_der.proofs.FirstFaultLaws.{inside-no-memory, first-no-memory, end-no-memory}
-use Rattle.rpki_cert.proofs.NestedLaws.{StandsBefore, front-section}
-use Rattle.rpki_cert.proofs.ListedLaws.{refused}
+use Rattle.rpki_x509.proofs.NestedLaws.{StandsBefore, front-section}
+use Rattle.rpki_x509.proofs.FrameLaws.{refused}
 use Rattle.rpki_cert.proofs.OneLaws.{tbs-one}
 use Rattle.rpki_cert.specs.Cert.{two_value, version}
+use Rattle.rpki_x509.proofs.FrameLaws.{section-front}
 
 -- ---- readers that take no memory
 
@@ -53,11 +55,6 @@ pub serial-refused : (s r : List ℕ) (e : DecodeError) → Refusal SpellsSerial
 serial-refused s r e h = refused SpellsSerial IsSerialFault s r e
     (λ k. leaf-no-memory integer false IsSerialContents s OutOfMemory k.0 refl) h
 
-pub algorithm-refused : (s r : List ℕ) (e : DecodeError)
-    → Refusal SpellsRpkiAlgorithm (algorithm sha256_with_rsa_encryption).fault s r e → Refuses SpellsRpkiAlgorithm s
-algorithm-refused s r e h = refused SpellsRpkiAlgorithm (algorithm sha256_with_rsa_encryption).fault s r e
-    (λ k. (algorithm-outer sha256_with_rsa_encryption s OutOfMemory k).other refl) h
-
 pub version-refused : (s r : List ℕ) (e : DecodeError) → Refusal SpellsVersion version.fault s r e
     → Refuses SpellsVersion s
 version-refused s r e h =
@@ -66,14 +63,6 @@ version-refused s r e h =
     (λ d l. first-no-memory SpellsTwo two_value.fault (λ v. IsEndFault) d
     (λ m. leaf-no-memory integer false (IsOnly two) d OutOfMemory m refl) (λ v q. end-no-memory q) l) k)
     h
-
--- ---- sections
-
-pub section-front : (s f r o p behind : List ℕ) (q : Section) → s ≡ f ++ r → o ≡ s → p ≡ r → StandsBefore o p q
-    → r ≡ behind → IsSection q f behind
-section-front s f r o p behind q e a b is last =
-    let h = front-section s f r o p q e a b is in
-    record { octets = h.octets; following = h.following ∙ ap length (b ∙ last) }
 
 -- ---- what was read
 

@@ -7,7 +7,7 @@ use Rattle.rpki_der.specs.Each.{SpellsEach, SpellsSome}
 use Rattle.rpki_der.proofs.LeavesLaws.{leaf-value}
 use Rattle.rpki_der.proofs.ComposedLaws.{inner-accepted}
 use Rattle.rpki_cert.specs.Access.{Through}
-use Rattle.rpki_cert.specs.InPlace.{Gives, GivesAll}
+use Rattle.rpki_x509.specs.InPlace.{Gives, GivesAll}
 use Rattle.rpki_cert.proofs.SomeLaws.{none-some, some-there}
 
 -- ---- a value around parts

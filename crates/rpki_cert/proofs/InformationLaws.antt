@@ -28,7 +28,7 @@ use Rattle.rpki_cert.specs.AccessInformation.{AccessParts, access_parts, joined,
 use Rattle.rpki_cert.specs.Known.{Says, SaysOnly, SaysNone, IsFoundWrong}
 use Rattle.rpki_cert.specs.RuleWords.{SaysSome}
 use Rattle.rpki_cert.proofs.AccessLaws.{or-first, or-first-https, or-none}
-use Rattle.rpki_cert.proofs.ListedLaws.{refused}
+use Rattle.rpki_x509.proofs.FrameLaws.{refused}
 
 -- ---- a description
 

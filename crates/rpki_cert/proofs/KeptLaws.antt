@@ -13,10 +13,11 @@ use Rattle.rpki_time.specs.Validity.{Period}
 use Rattle.rpki.specs.ExtensionValue.{ExtensionParts, SpellsExtension}
 use Rattle.rpki.specs.SignedData.{SignedParts, parts_of, IsSignedContents}
 use Rattle.rpki_cert.specs.declared.read.fields.TbsView.{TbsView}
-use Rattle.rpki_cert.specs.declared.read.view.Parts.{Parts}
+use Rattle.rpki_x509.specs.declared.signed_parts.Parts.{Parts}
 use Rattle.rpki_cert.specs.declared.read.view.CertView.{CertView}
-use Rattle.rpki_cert.specs.Cert.{TbsParts, CertParts, cert_parts, SpellsRpkiAlgorithm, SpellsTbs}
-use Rattle.rpki_cert.specs.View.{ArePartsIn}
+use Rattle.rpki_cert.specs.Cert.{TbsParts, CertParts, cert_parts, SpellsTbs}
+use Rattle.rpki_x509.specs.Signed.{SpellsRpkiAlgorithm}
+use Rattle.rpki_x509.specs.SignedParts.{ArePartsIn}
 use Rattle.rpki_cert.specs.Kept.{IsTbsAt, IsCertOf}
 use Rattle.rpki_cert.proofs.OneLaws.{contents-same}
 

@@ -1,18 +1,16 @@
 -- Which lemma file answers which question.
 --
--- Values, one at least: SomeLaws. Signed data without unused bits: WholeLaws. What an extension says: KnownLaws,
---   GeneralNameLaws, AccessLaws.
+-- Values, one at least: SomeLaws. What an extension says: KnownLaws, GeneralNameLaws, AccessLaws.
 -- Keys: KeyLaws. Checks of profiles: ProfileLaws, BelowLaws. Values of names: NameValueLaws. Their rules: RuleLaws.
--- Read in place: values, names, access information, lists of extensions, each identifier once, their table, fields,
---   certificates: NestedLaws, NameViewLaws, InformationLaws, ListedLaws, UniqueLaws, TableLaws, FieldsLaws, ViewLaws.
+-- Read in place: access information, lists of extensions, each identifier once, their table, fields, certificates:
+--   InformationLaws, ListedLaws, UniqueLaws, TableLaws, FieldsLaws, ViewLaws.
 --   That what is signed is one value: TbsValueLaws. That what is spelled has one value: OneLaws. That what is wrong is
 --   no certificate: WrongLaws.
 -- Kept: where parts are, and that they are kept as they were read: KeptLaws. A certificate that was read and kept, or
 --   that isn't there: CertLaws.
--- Values, in sequence, of which something is kept: GatherLaws. What a `?` hands on: TriedLaws.
+-- Values, in sequence, of which something is kept: GatherLaws.
 
 pub mod SomeLaws
-pub mod WholeLaws
 pub mod KnownLaws
 pub mod GeneralNameLaws
 pub mod AccessLaws
@@ -21,8 +19,6 @@ pub mod ProfileLaws
 pub mod BelowLaws
 pub mod NameValueLaws
 pub mod RuleLaws
-pub mod NestedLaws
-pub mod NameViewLaws
 pub mod InformationLaws
 pub mod ListedLaws
 pub mod UniqueLaws
@@ -35,4 +31,3 @@ pub mod WrongLaws
 pub mod KeptLaws
 pub mod CertLaws
 pub mod GatherLaws
-pub mod TriedLaws

@@ -23,21 +23,12 @@ use Rattle.rpki_cert.specs.declared.read.cert_part.CertPart.{CertPart}
 use Rattle.rpki_cert.specs.declared.read.cert_error.CertError.{CertError}
 use Rattle.rpki_cert.specs.Cert.{find, is_there, are_unique, extensions_tag}
 use Rattle.rpki_cert.specs.ExtensionTable.{OfListed}
-use Rattle.rpki_cert.specs.View.{IsFrameFault, IsListWrong, AreExtensionsWrong, AreExtensionsAt, HasCount, IsApart}
+use Rattle.rpki_x509.specs.Frame.{IsFrameFault}
+use Rattle.rpki_cert.specs.View.{IsListWrong, AreExtensionsWrong, AreExtensionsAt, HasCount, IsApart}
 use Rattle.rpki_cert.specs.View.{most_extensions, AreListedAt}
 use Rattle.rpki_cert.specs.View.IsListWrong.{TooMany, Repeated, NoRoom}
 use Rattle.rpki_cert.specs.View.WholeWrong.{InFrame}
 use Rattle.rpki_cert.proofs.GatherLaws.{Gathers, gathers-on}
-
--- an error of a reader that takes no memory
-pub refused : {V : Type 0} (G : V → List ℕ → Type 0) (K : List ℕ → DecodeError → Type 0) (s r : List ℕ)
-    (e : DecodeError) → (K s OutOfMemory → ⊥) → Refusal G K s r e → Refuses G s
-refused G K s r e never h = unless-memory e (λ z. never (subst (K s) z h.kind)) h.refuses
-
-pub extension-refused : (s r : List ℕ) (e : DecodeError) → Refusal SpellsExtension extension.fault s r e
-    → Refuses SpellsExtension s
-extension-refused s r e h = refused SpellsExtension extension.fault s r e
-    (λ k. (extension-outer s OutOfMemory k).other refl) h
 
 -- ---- the rest of extensions
 
@@ -151,31 +142,6 @@ faults-all s = record { kept = λ e h. h }
 pub faults-on : (s r q : List ℕ) (x : ExtensionParts) → r ≢ [] → Accepts SpellsExtension r x q → KeepsFault s r
     → KeepsFault s q
 faults-on s r q x some a k = record { kept = λ e h. k.kept e (AfterMember x q a h) }
-
--- ---- the value that is all
-
-pub only-all : (t : TagName) (s c r : List ℕ) → Accepts (SpellsContents t true) s c r → r ≡ []
-    → SpellsContents t true c s × ((w : List ℕ) → SpellsContents t true w s → w ≡ c)
-only-all t s c r a end = all-read (SpellsContents t true) s c r a end
-
-pub only-more : (t : TagName) (s c r : List ℕ) → Accepts (SpellsContents t true) s c r → (r ≡ [] → ⊥)
-    → SpellsNothing (SpellsContents t true) s
-only-more t s c r a some = nothing-after (SpellsContents t true) s r c a some
-
-pub only-none : (t : TagName) (s r : List ℕ) (e : DecodeError)
-    → Refusal (SpellsContents t true) (IsContentsFault t true) s r e → SpellsNothing (SpellsContents t true) s
-only-none t s r e h = nothing-whole (SpellsContents t true) s
-    (unless-memory e (λ z. contents-no-memory t true s e h.kind z) h.refuses)
-
--- the errors
-pub frame-none : (t : TagName) (s r : List ℕ) (e : DecodeError)
-    → Refusal (SpellsContents t true) (IsContentsFault t true) s r e → IsFrameFault t s e
-frame-none t s r e h = (not-read (SpellsContents t true) (IsContentsFault t true) s r e h).1
-
-pub frame-more : (t : TagName) (s c r : List ℕ) → Accepts (SpellsContents t true) s c r → (r ≡ [] → ⊥)
-    → (e : DecodeError) → e ≡ Trailing → IsFrameFault t s e
-frame-more t s c r a some e is = subst (IsFrameFault t s) (sym is)
-    (more-left (SpellsContents t true) (IsContentsFault t true) s c r a some).1
 
 -- ---- the list of extensions
 

@@ -20,7 +20,8 @@ use Rattle.rpki.specs.ExtensionValue.{ExtensionParts, SpellsExtension, IsExtensi
 use Rattle.rpki.proofs.ExtensionLaws.{one-contents}
 use Rattle.rpki_cert.specs.Cert.{TbsParts, CertParts, cert_parts, version_tag, SpellsTwo, extensions_tag, Fields}
 use Rattle.rpki_cert.specs.Cert.{SpellsExtensions}
-use Rattle.rpki_cert.specs.Cert.{SpellsRpkiAlgorithm, AreFields, fields_of, SpellsTbs, SpellsCert}
+use Rattle.rpki_x509.specs.Signed.{SpellsRpkiAlgorithm}
+use Rattle.rpki_cert.specs.Cert.{AreFields, fields_of, SpellsTbs, SpellsCert}
 use Rattle.rpki_cert.specs.View.{HasOne}
 
 -- ---- parts

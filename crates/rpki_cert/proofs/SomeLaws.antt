@@ -26,6 +26,3 @@ module _ {V : Type 0} (G : V → List ℕ → Type 0) where
     each =
         each;
   }
-
-pub not-true : (b : Bool) → b ≡ false → IsTrue b → ⊥
-not-true b other is = false≢true (sym other ∙ is)

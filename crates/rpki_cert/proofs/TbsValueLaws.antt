@@ -20,47 +20,11 @@ use Rattle.rpki.specs.ExtensionValue.{SpellsExtension}
 use Rattle.rpki.proofs.ExtensionLaws.{extension-value}
 use Rattle.rpki.proofs.NameLaws.{name-value, each-values}
 use Rattle.rpki_cert.specs.Cert.{TbsParts, version_tag, two, SpellsTwo, SpellsVersion, extensions_tag, AreExtensions}
-use Rattle.rpki_cert.specs.Cert.{SpellsExtensionList, SpellsExtensions, SpellsRpkiAlgorithm, fields_of, AreFields}
+use Rattle.rpki_cert.specs.Cert.{SpellsExtensionList, SpellsExtensions, fields_of, AreFields}
+use Rattle.rpki_x509.specs.Signed.{SpellsRpkiAlgorithm}
 use Rattle.rpki_cert.specs.Cert.{SpellsTbs}
-
--- what is spelled in G is values, in sequence
-abbrev pub SpellValues : {V : Type 0} → (V → List ℕ → Type 0) → Type 0
-SpellValues {V} G = (v : V) (p : List ℕ) → G v p → IsValueList p
-
-pub leaf-values : {V : Type 0} (t : TagName) (C : V → List ℕ → Type 0) → SpellValues (SpellsLeaf t false C)
-leaf-values t C v p h = (1, leaf-value-alone t C v p h)
-
-pub inside-values : {V : Type 0} (t : TagName) (C : V → List ℕ → Type 0) → SpellValues C
-    → SpellValues (SpellsLeaf t true C)
-inside-values t C inside v p h = (1, composed-value-alone t C v p (inside v) h)
-
-pub both-values : {A B : Type 0} (G : A → List ℕ → Type 0) (H : B → List ℕ → Type 0) → SpellValues G → SpellValues H
-    → SpellValues (Then G H)
-both-values G H one two x p h = subst IsValueList (sym h.parts)
-    (value_lists_append h.first h.second (one x.0 h.first h.one) (two x.1 h.second h.two))
-
--- ---- the fields
-
-parameters-values : SpellValues IsParameters
-parameters-values true p h = leaf-values null IsNull tt p h
-parameters-values false p h = subst IsValueList (sym h) no_value_list
-
-identified-values : (o : List ℕ) → SpellValues (IsIdentified o)
-identified-values o b c h =
-    subst IsValueList (sym h.parts)
-    (value_lists_append h.first h.second (leaf-values oid (IsOnly o) tt h.first h.identifier)
-    (parameters-values b h.second h.parameters))
-
-pub algorithm-values : SpellValues SpellsRpkiAlgorithm
-algorithm-values = inside-values sequence (IsIdentified sha256_with_rsa_encryption)
-    (identified-values sha256_with_rsa_encryption)
-
-pub name-values : SpellValues SpellsNameOctets
-name-values v p h = (1, subst IsValue (sym h.same) (name-value h.named.0 v h.named.1))
-
-pub time-values : SpellValues SpellsTime
-time-values t p h = leaf-values h.tag (λ (v : List ℕ) (c : List ℕ). c ≡ v) h.text p
-    (record { contents = h.text; value = h.value; spelled = refl })
+use Rattle.rpki_x509.proofs.ValuesLaws.{SpellValues, algorithm-values, both-values, identified-values, inside-values}
+use Rattle.rpki_x509.proofs.ValuesLaws.{leaf-values, name-values, time-values}
 
 period-values : SpellValues SpellsPeriod
 period-values = inside-values sequence IsPeriod (λ t c h.

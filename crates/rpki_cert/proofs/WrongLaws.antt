@@ -18,13 +18,15 @@ use Rattle.rpki_cert.specs.declared.read.cert_error.CertError.{CertError}
 use Rattle.rpki_cert.specs.Cert.{TbsParts, CertParts, are_unique, extensions_tag, AreExtensions}
 use Rattle.rpki_cert.specs.Cert.{SpellsExtensions, AreFields, fields_of, SpellsTbs, SpellsCert}
 use Rattle.rpki_cert.specs.CertFault.{IsFrontError, IsFrontTbsError}
-use Rattle.rpki_cert.specs.View.{most_extensions, SpellsUsed, FirstWrong, IsListWrong, AreExtensionsWrong}
-use Rattle.rpki_cert.specs.View.{AreFieldsWrong, IsTbsWrong, ArePartsWrong, IsSignatureWrong, AreContentsWrong}
+use Rattle.rpki_cert.specs.View.{most_extensions, FirstWrong, IsListWrong, AreExtensionsWrong}
+use Rattle.rpki_x509.specs.Signed.{SpellsUsed}
+use Rattle.rpki_cert.specs.View.{AreFieldsWrong, IsTbsWrong, ArePartsWrong, AreBehindWrong, AreContentsWrong}
 use Rattle.rpki_cert.specs.View.{IsCertErrorOf}
 use Rattle.rpki_cert.specs.View.FirstWrong.{AtPart, Later}
 use Rattle.rpki_cert.specs.View.WholeWrong.{NoFrame, InFrame}
 use Rattle.rpki_cert.specs.View.IsListWrong.{NotListed, TooMany, Repeated, NoRoom}
-use Rattle.rpki_cert.specs.View.IsSignatureWrong.{NoSignature}
+use Rattle.rpki_cert.specs.View.AreBehindWrong.{Behind}
+use Rattle.rpki_x509.specs.SignedParts.AreMalformed.{AtAlgorithm, AtSignature}
 use Rattle.rpki_cert.specs.View.AreContentsWrong.{InParts, InSigned, Differ}
 use Rattle.rpki_cert.proofs.OneLaws.{contents-same, each-same, contents-one, Contents, tbs-algorithm}
 
@@ -95,8 +97,14 @@ module _ (allocates : Bool) (q : CertError) where
   abbrev Used : SignedParts Bool → List ℕ → Type 0
   Used x c = (h : Contents x c) × (h.signature.unused ≡ 0)
 
-  signature-wrong : (v s : List ℕ) → IsSignatureWrong s q → SpellsUsed v s → ⊥
-  signature-wrong v s (NoSignature none fault part) k = none v k
+  -- what is malformed isn't an algorithm and a signature
+  malformed : (x : SignedParts Bool) (c : List ℕ) (h : Contents x c) → AreBehindWrong (h.text ++ h.bits) q
+      → SpellsUsed x.value h.bits → ⊥
+  malformed x c h (Behind p (AtAlgorithm none fault part) is) used =
+      none x.algorithm h.bits (record { front = h.text; parts = refl; spelled = h.named })
+  malformed x c h (Behind p (AtSignature b r a none fault part) is) used =
+      let e = a.only x.algorithm h.bits (record { front = h.text; parts = refl; spelled = h.named }) in
+      none x.value (subst (SpellsUsed x.value) e.1 used)
 
   parts-wrong : (x : SignedParts Bool) (c : List ℕ) → ArePartsWrong c q → Used x c → ⊥
   parts-wrong x c w (h, used) =
@@ -107,10 +115,7 @@ module _ (allocates : Bool) (q : CertError) where
         spelled =
             record { same = refl; value = h.one };
       } in
-      let algorithm = behind _ _ _ _ _ x.signed w value in
-      let signature = behind _ _ _ _ _ x.algorithm algorithm
-      (record { front = h.text; parts = refl; spelled = h.named }) in
-      signature-wrong x.value h.bits signature (subst
+      malformed x c h (behind _ _ _ _ _ x.signed w value) (subst
       (λ (u : ℕ). SpellsLeaf bit_string false IsBits (bits_of u x.value) h.bits) used h.signature.string)
 
   -- ---- a certificate

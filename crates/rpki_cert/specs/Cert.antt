@@ -13,6 +13,7 @@ use Rattle.rpki.specs.Name.{SpellsNameOctets}
 use Rattle.rpki.specs.PublicKey.{KeyParts, SpellsKey}
 use Rattle.rpki.specs.ExtensionValue.{ExtensionParts}
 use Rattle.rpki.specs.SignedData.{SignedParts, SpellsSigned}
+use Rattle.rpki_x509.specs.Signed.{SpellsRpkiAlgorithm, rpki_algorithm}
 pub use Rattle.rpki_cert.specs.ExtensionList.{extensions_tag, find, is_there, are_unique, AreExtensions}
 pub use Rattle.rpki_cert.specs.ExtensionList.{SpellsExtensionList, SpellsExtensions}
 
@@ -49,14 +50,6 @@ SpellsVersion = version.spells
 
 -- ---- TBSCertificate (RFC 5280 4.1)
 
--- the algorithm of the RPKI, with parameters or without
-abbrev pub SpellsRpkiAlgorithm : Bool → List ℕ → Type 0
-SpellsRpkiAlgorithm = SpellsAlgorithm sha256_with_rsa_encryption
-
--- the algorithm, which takes no memory
-abbrev pub rpki_algorithm : Format Bool
-rpki_algorithm = algorithm sha256_with_rsa_encryption
-
 -- the fields, in order
 abbrev pub Fields : Type 0
 Fields = Unit {0} × (ℕ × (Bool × (List ℕ × (Period × (List ℕ × (KeyParts × List ExtensionParts))))))
@@ -82,11 +75,6 @@ pub record CertParts : Type 0 where
 
 abbrev pub cert_parts : SignedParts Bool → TbsParts → CertParts
 cert_parts signed tbs = record { signed = signed; tbs = tbs }
-
--- signed data whose signature is whole octets, as those of RSA are (RFC 8017 8.2.1): no bit of it is unused
-pub record SpellsWhole (x : SignedParts Bool) (p : List ℕ) : Type 0 where
-  pub signed : SpellsSigned SpellsRpkiAlgorithm x p
-  pub used : signed.spelled.signature.unused ≡ 0
 
 -- such signed data whose signed octets are a TBSCertificate that names the same algorithm (RFC 5280 4.1.1.2)
 pub record SpellsCert (x : CertParts) (p : List ℕ) : Type 0 where

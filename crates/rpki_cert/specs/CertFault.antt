@@ -10,15 +10,11 @@ use Rattle.rpki.specs.SignedFault.{signed_sequence}
 use Rattle.rpki_cert.specs.declared.read.cert_part.CertPart.{CertPart}
 use Rattle.rpki_cert.specs.declared.read.cert_part.CertPart.TheVariants.{Certificate, Tbs}
 use Rattle.rpki_cert.specs.declared.read.cert_error.CertError.{CertError}
-use Rattle.rpki_cert.specs.Cert.{SpellsRpkiAlgorithm, SpellsTbs, SpellsCert, rpki_algorithm}
+use Rattle.rpki_x509.specs.Signed.{SpellsRpkiAlgorithm, rpki_algorithm}
+use Rattle.rpki_cert.specs.Cert.{SpellsTbs, SpellsCert}
 use Rattle.rpki_cert.specs.CertError.{cert_error}
-use Rattle.rpki_cert.specs.View.{FirstWrong, frame, AreFieldsWrong, AreContentsWrong}
-
--- not signed data; or signed data of whose signature bits are unused
-abbrev pub IsWholeSignedFault : List ℕ → DecodeError → Type 0
-IsWholeSignedFault s e =
-    (signed_sequence SpellsRpkiAlgorithm rpki_algorithm.fault).fault s e
-    ⊎ (Finds (SpellsSigned SpellsRpkiAlgorithm) s × IsContentWith (codes "signature has unused bits") e)
+use Rattle.rpki_cert.specs.View.{FirstWrong, AreFieldsWrong, AreContentsWrong}
+use Rattle.rpki_x509.specs.Frame.{frame}
 
 -- no certificate begins the octets: the SEQUENCE around all; then its contents
 abbrev pub IsFrontError : List ℕ → CertError → Type 0

@@ -8,7 +8,8 @@ use Rattle.rpki.specs.KeyIdentifier.{IsKeyIdentifier}
 use Rattle.rpki_resources.proofs.ComposingLaws.{NeverFails, leaf-never, around-never, only-never, then-by-never}
 use Rattle.rpki_cert.specs.Access.{context_0}
 use Rattle.rpki_cert.specs.AccessDescription.{names, full_name, point, points}
-use Rattle.rpki_cert.specs.ExtensionContent.{constraints_content, identifier_tag, tagged_identifier, authority_content}
+use Rattle.rpki_cert.specs.ExtensionContent.{constraints_content}
+use Rattle.rpki_x509.specs.Authority.{identifier_tag, tagged_identifier, authority_content}
 use Rattle.rpki_cert.specs.ExtensionContent.{subject_content, usage_content, IsUsage, statement_name, IsAnyIa5}
 use Rattle.rpki_cert.specs.ExtensionContent.{statement_value, qualifier_parts, qualifier_value, qualifiers_value}
 use Rattle.rpki_cert.specs.ExtensionContent.{optional_qualifiers, IsPolicyName, policy_name, policy_parts, policy_value}

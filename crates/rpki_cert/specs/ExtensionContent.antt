@@ -22,31 +22,10 @@ constraints_content = around sequence (only (leaf boolean (IsOnly (boolean_conte
 abbrev pub SpellsConstraints : Unit {0} → List ℕ → Type 0
 SpellsConstraints = constraints_content.spells
 
--- ---- the authority key identifier: keyIdentifier alone, under the tag 0 (RFC 5280 4.2.1.1, RFC 6487 4.8.3)
-
-abbrev pub identifier_tag : TagName
-identifier_tag = tag_of Context 0
-
-abbrev pub tagged_identifier : Format (List ℕ)
-tagged_identifier = leaf identifier_tag IsKeyIdentifier
-
-abbrev pub SpellsTagged : List ℕ → List ℕ → Type 0
-SpellsTagged = tagged_identifier.spells
-
-abbrev pub authority_content : Format (List ℕ)
-authority_content = around sequence (only tagged_identifier)
-
-abbrev pub SpellsAuthority : List ℕ → List ℕ → Type 0
-SpellsAuthority = authority_content.spells
-
 -- ---- the subject key identifier (RFC 5280 4.2.1.2, RFC 6487 4.8.2)
 
 abbrev pub subject_content : Format (List ℕ)
 subject_content = record { spells = SpellsKeyIdentifier; fault = IsIdentifierFault IsKeyIdentifier }
-
--- the error of octets of which all are to be of a format
-abbrev pub WholeFault : {V : Type 0} → Format V → List ℕ → DecodeError → Type 0
-WholeFault F = IsWholeFault F.spells F.fault
 
 -- ---- key usage: a BIT STRING (RFC 5280 4.2.1.3, RFC 6487 4.8.4)
 

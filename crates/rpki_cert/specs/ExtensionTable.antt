@@ -7,7 +7,8 @@ use Rattle.rpki_cert.specs.declared.extension.kind.ExtensionKind.{ExtensionKind}
 use Rattle.rpki_cert.specs.declared.extension.listed_extension.ListedExtension.{ListedExtension}
 use Rattle.rpki_cert.specs.Cert.{find}
 use Rattle.rpki_cert.specs.Known.{subject_key_identifier, key_usage, basic_constraints, crl_distribution_points}
-use Rattle.rpki_cert.specs.Known.{certificate_policies, authority_key_identifier, extended_key_usage}
+use Rattle.rpki_cert.specs.Known.{certificate_policies, extended_key_usage}
+use Rattle.rpki_x509.specs.Authority.{authority_key_identifier}
 use Rattle.rpki_cert.specs.Known.{authority_info_access, ip_addr_blocks, ip_addr_blocks_v2, autonomous_sys_ids}
 use Rattle.rpki_cert.specs.Known.{autonomous_sys_ids_v2, subject_info_access, are_understood}
 

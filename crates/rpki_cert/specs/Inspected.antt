@@ -15,10 +15,13 @@ use Rattle.rpki.specs.declared.repository.error.ValidationError.{ValidationError
 use Rattle.rpki.specs.KeyIdentifier.{SpellsKeyIdentifier}
 use Rattle.rpki_cert.specs.declared.extension.key_usage.KeyUsage.{KeyUsage}
 use Rattle.rpki_cert.specs.declared.extension.policy.Overclaim.{Overclaim}
-use Rattle.rpki_cert.specs.ExtensionContent.{SpellsConstraints, SpellsAuthority, SpellsUsage, SpellsPolicies}
-use Rattle.rpki_cert.specs.ExtensionContent.{WholeFault, authority_content, constraints_content, policies_content}
+use Rattle.rpki_cert.specs.ExtensionContent.{SpellsConstraints, SpellsUsage, SpellsPolicies}
+use Rattle.rpki_x509.specs.Authority.{SpellsAuthority}
+use Rattle.rpki_x509.specs.Authority.{WholeFault, authority_content}
+use Rattle.rpki_cert.specs.ExtensionContent.{constraints_content, policies_content}
 use Rattle.rpki_cert.specs.ExtensionContent.{subject_content, usage_content}
-use Rattle.rpki_cert.specs.Known.{subject_info_access, subject_key_identifier, authority_key_identifier, key_usage}
+use Rattle.rpki_cert.specs.Known.{subject_info_access, subject_key_identifier, key_usage}
+use Rattle.rpki_x509.specs.Authority.{authority_key_identifier}
 use Rattle.rpki_cert.specs.Known.{basic_constraints, certificate_policies, IsSaid, IsSaidThere}
 use Rattle.rpki_cert.specs.AccessInformation.{IsTold}
 

@@ -12,6 +12,7 @@ use Rattle.rpki.specs.declared.repository.error.InspectionError.{InspectionError
 use Rattle.rpki.specs.declared.repository.error.ValidationError.{ValidationError}
 use Rattle.rpki.specs.declared.repository.error.ValidationError.TheVariants.{Decoding, Inspection, Verification}
 use Rattle.rpki_cert.specs.Cert.{find}
+use Rattle.rpki_x509.specs.Authority.{authority_key_identifier}
 
 -- ---- their identifiers, by their contents octets (X.690 8.19)
 
@@ -34,10 +35,6 @@ crl_distribution_points = 85 ∷ 29 ∷ 31 ∷ []
 -- 2.5.29.32 (RFC 5280 4.2.1.4)
 abbrev pub certificate_policies : List ℕ
 certificate_policies = 85 ∷ 29 ∷ 32 ∷ []
-
--- 2.5.29.35 (RFC 5280 4.2.1.1)
-abbrev pub authority_key_identifier : List ℕ
-authority_key_identifier = 85 ∷ 29 ∷ 35 ∷ []
 
 -- 2.5.29.37 (RFC 5280 4.2.1.12)
 abbrev pub extended_key_usage : List ℕ

@@ -8,8 +8,10 @@ use Rattle.rpki_cert.specs.declared.extension.known_part.KnownPart.TheVariants.{
 use Rattle.rpki_cert.specs.declared.extension.known_part.KnownPart.TheVariants.{CertificatePolicies}
 use Rattle.rpki_cert.specs.declared.extension.known_view.KnownView.{KnownView}
 use Rattle.rpki_cert.specs.Known.{subject_key_identifier, key_usage, basic_constraints, certificate_policies}
-use Rattle.rpki_cert.specs.Known.{authority_key_identifier, present, HasOnly, HasNone}
-use Rattle.rpki_cert.specs.ExtensionContent.{SpellsConstraints, SpellsAuthority, SpellsUsage, SpellsPolicies}
+use Rattle.rpki_x509.specs.Authority.{authority_key_identifier}
+use Rattle.rpki_cert.specs.Known.{present, HasOnly, HasNone}
+use Rattle.rpki_cert.specs.ExtensionContent.{SpellsConstraints, SpellsUsage, SpellsPolicies}
+use Rattle.rpki_x509.specs.Authority.{SpellsAuthority}
 
 -- what the extensions say: each is there, as critical as it has to be and in its form, or isn't there
 pub record AreKnown (xs : List ExtensionParts) (v : KnownView) : Type 0 where

@@ -7,7 +7,6 @@ pub mod GeneralName
 pub mod Access
 pub mod AccessDescription
 pub mod AccessInformation
-pub mod InPlace
 pub mod CertError
 pub mod View
 pub mod CertFault

@@ -24,9 +24,11 @@ use Rattle.rpki_cert.specs.declared.profile.rule.CertRule.TheVariants.{Certifica
 use Rattle.rpki_cert.specs.declared.profile.rule.CertRule.TheVariants.{RouterNumbers, ResourceBlocks, OwnResources}
 use Rattle.rpki_cert.specs.Cert.{TbsParts, find}
 use Rattle.rpki_cert.specs.Known.{subject_key_identifier, key_usage, basic_constraints, crl_distribution_points}
-use Rattle.rpki_cert.specs.Known.{certificate_policies, authority_key_identifier, extended_key_usage}
+use Rattle.rpki_cert.specs.Known.{certificate_policies, extended_key_usage}
+use Rattle.rpki_x509.specs.Authority.{authority_key_identifier}
 use Rattle.rpki_cert.specs.Known.{authority_info_access, subject_info_access, HasExtension, are_understood}
-use Rattle.rpki_cert.specs.ExtensionContent.{SpellsConstraints, SpellsAuthority, SpellsUsage, SpellsPurposes}
+use Rattle.rpki_cert.specs.ExtensionContent.{SpellsConstraints, SpellsUsage, SpellsPurposes}
+use Rattle.rpki_x509.specs.Authority.{SpellsAuthority}
 use Rattle.rpki_cert.specs.ExtensionContent.{SpellsPolicies}
 use Rattle.rpki_cert.specs.Access.{SpellsRsyncAccess, SpellsPoints, ca_issuers, ca_repository, rpki_manifest}
 use Rattle.rpki_cert.specs.Access.{signed_object}

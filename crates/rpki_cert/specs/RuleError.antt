@@ -27,15 +27,18 @@ use Rattle.rpki_cert.specs.declared.profile.rule.CertRule.TheVariants.{Certifica
 use Rattle.rpki_cert.specs.declared.profile.rule.CertRule.TheVariants.{RouterNumbers, ResourceBlocks, OwnResources}
 use Rattle.rpki_cert.specs.Cert.{TbsParts, find}
 use Rattle.rpki_cert.specs.Known.{subject_key_identifier, key_usage, basic_constraints, crl_distribution_points}
-use Rattle.rpki_cert.specs.Known.{certificate_policies, authority_key_identifier, extended_key_usage}
+use Rattle.rpki_cert.specs.Known.{certificate_policies, extended_key_usage}
+use Rattle.rpki_x509.specs.Authority.{authority_key_identifier}
 use Rattle.rpki_cert.specs.Known.{authority_info_access, subject_info_access, Says, HasText, IsOtherwise}
 use Rattle.rpki_cert.specs.RuleWords.{SaysSome, SaysSomeUri, SaysOwn, HasOneVersion}
-use Rattle.rpki_cert.specs.ExtensionContent.{SpellsConstraints, SpellsAuthority, SpellsUsage, SpellsPurposes}
+use Rattle.rpki_cert.specs.ExtensionContent.{SpellsConstraints, SpellsUsage, SpellsPurposes}
+use Rattle.rpki_x509.specs.Authority.{SpellsAuthority}
 use Rattle.rpki_cert.specs.ExtensionContent.{SpellsPolicies}
 use Rattle.rpki_cert.specs.Access.{SpellsRsyncAccess, SpellsPoints, ca_issuers, ca_repository, rpki_manifest}
 use Rattle.rpki_cert.specs.Access.{signed_object}
 use Rattle.rpki_cert.specs.Rule.{IsFirstBroken, rule_text}
-use Rattle.rpki_cert.specs.ExtensionContent.{WholeFault, authority_content, constraints_content, policies_content}
+use Rattle.rpki_x509.specs.Authority.{WholeFault, authority_content}
+use Rattle.rpki_cert.specs.ExtensionContent.{constraints_content, policies_content}
 use Rattle.rpki_cert.specs.ExtensionContent.{subject_content, usage_content}
 
 -- a check: Ok exactly where P holds, and else such an error

@@ -11,10 +11,11 @@ use Rattle.rpki_cert.specs.declared.extension.policy.Overclaim.{Overclaim}
 use Rattle.rpki_cert.specs.declared.extension.policy.Overclaim.TheVariants.{Refuse, Trim}
 use Rattle.rpki_cert.specs.Cert.{find, is_there}
 use Rattle.rpki_cert.specs.Known.{subject_key_identifier}
-use Rattle.rpki_cert.specs.Known.{certificate_policies, authority_key_identifier}
+use Rattle.rpki_cert.specs.Known.{certificate_policies}
+use Rattle.rpki_x509.specs.Authority.{authority_key_identifier}
 use Rattle.rpki_cert.specs.Known.{subject_info_access, ip_addr_blocks, ip_addr_blocks_v2}
 use Rattle.rpki_cert.specs.Known.{autonomous_sys_ids, autonomous_sys_ids_v2, Says, HasExtension}
-use Rattle.rpki_cert.specs.ExtensionContent.{SpellsAuthority}
+use Rattle.rpki_x509.specs.Authority.{SpellsAuthority}
 use Rattle.rpki_cert.specs.ExtensionContent.{SpellsPolicies}
 use Rattle.rpki_cert.specs.Access.{SpellsRsyncAccess, SpellsHeldAccess, SaysUri}
 use Rattle.rpki_cert.specs.Access.{ca_repository, rpki_manifest}

@@ -27,15 +27,20 @@ use Rattle.rpki_cert.specs.declared.read.cert_part.CertPart.TheVariants.{SameAlg
 use Rattle.rpki_cert.specs.declared.read.cert_error.CertError.{CertError}
 use Rattle.rpki_der.specs.declared.section.Section.{Section}
 use Rattle.rpki_cert.specs.declared.extension.table.Passed.{Passed}
+use Rattle.rpki_x509.specs.declared.signed_parts.Parts.{Parts}
+use Rattle.rpki_x509.specs.declared.signed_parts.SignedError.{SignedError}
+use Rattle.rpki_x509.specs.declared.signed_parts.SignedPart.{SignedPart}
+use Rattle.rpki_x509.specs.Frame.{IsFrameFault}
+use Rattle.rpki_x509.specs.Signed.{SpellsRpkiAlgorithm, rpki_algorithm}
+use Rattle.rpki_x509.specs.SignedParts.{ArePartsIn, ArePartsAt, AreMalformed}
 pub use Rattle.rpki_cert.specs.ExtensionTable.{behind_first}
 use Rattle.rpki_cert.specs.ExtensionTable.{OfListed}
 use Rattle.rpki_cert.specs.declared.read.fields.Keyed.{Keyed}
 use Rattle.rpki_cert.specs.declared.read.fields.Named.{Named}
 use Rattle.rpki_cert.specs.declared.read.fields.TbsView.{TbsView}
-use Rattle.rpki_cert.specs.declared.read.view.Parts.{Parts}
 use Rattle.rpki_cert.specs.declared.read.view.CertView.{CertView}
 use Rattle.rpki_cert.specs.Cert.{TbsParts, CertParts, are_unique, AreExtensions, SpellsExtensions, version}
-use Rattle.rpki_cert.specs.Cert.{extensions_tag, SpellsRpkiAlgorithm, rpki_algorithm, AreFields, fields_of, SpellsTbs}
+use Rattle.rpki_cert.specs.Cert.{extensions_tag, AreFields, fields_of, SpellsTbs}
 use Rattle.rpki_cert.specs.Cert.{SpellsCert}
 pub use Rattle.rpki_cert.specs.CertError.{cert_error}
 
@@ -51,13 +56,6 @@ pub data FirstWrong {V : Type 0} (F : Format V) (part : CertPart) (L : V → Lis
     (s : List ℕ) (q : CertError) : Type 0 where
   AtPart : Refuses F.spells s → F.fault s q.error → q.part ≡ part → FirstWrong F part L s q
   Later : (v : V) (r : List ℕ) → Accepts F.spells s v r → L v r q → FirstWrong F part L s q
-
--- the contents of a value of this tag in constructed form, which begins the octets; and of one that is all of them
-abbrev pub frame : TagName → Format (List ℕ)
-frame t = record { spells = SpellsContents t true; fault = IsContentsFault t true }
-
-abbrev pub IsFrameFault : TagName → List ℕ → DecodeError → Type 0
-IsFrameFault t = IsWholeFault (SpellsContents t true) (IsContentsFault t true)
 
 -- q is wrong in s, all of which should be such a value: it isn't, and q is this part; or it is, and L says it of the
 -- contents
@@ -134,11 +132,6 @@ pub record IsPassed (s : List ℕ) (p : Passed) : Type 0 where
 
 -- ---- TBSCertificate
 
--- a reader of a name found s and left r: Ok is its section; and an error says that there is none, and why
-abbrev pub TakesName : List ℕ → List ℕ → Result Section DecodeError → Type 0
-TakesName s r (Ok p) = (v : List ℕ) × Accepts SpellsNameOctets s v r × IsSection p v r
-TakesName s r (Err e) = Refusal SpellsNameOctets borrowed_name.fault s r e
-
 -- The section is that of a key, and the list that of extensions. Here and below, h says which octets spell which part,
 -- and so what follows each.
 pub record IsKeyedIn (key : KeyParts) (xs : List ExtensionParts) (s : List ℕ)
@@ -191,44 +184,23 @@ IsTbsWrong allocates = WholeWrong sequence Tbs (AreFieldsWrong allocates)
 
 -- ---- a certificate
 
--- the BIT STRING of a signature, no bit of which is unused
-abbrev pub SpellsUsed : List ℕ → List ℕ → Type 0
-SpellsUsed value p = SpellsLeaf bit_string false IsBits (bits_of 0 value) p
-
--- the sections are those of the three parts of signed data
-pub record ArePartsIn (x : SignedParts Bool) (s : List ℕ) (h : IsSignedContents SpellsRpkiAlgorithm x s) (v : Parts)
-    : Type 0 where
-  pub signed : IsSection v.«data» x.signed (h.text ++ h.bits)
-  pub same : v.kind ≡ x.algorithm
-  pub algorithm : IsSection v.algorithm h.text h.bits
-  pub signature : IsSection v.signature x.value []
-  pub used : h.signature.unused ≡ 0
-
--- all of s is the three parts, of which these are the sections
-abbrev pub ArePartsAt : List ℕ → Parts → Type 0
-ArePartsAt s v =
-    (x : SignedParts Bool) × (h : IsSignedContents SpellsRpkiAlgorithm x s) × ArePartsIn x s h v
-
 -- the certificate x is all of s, and the sections are those of its parts, as the grammar divides s
 pub record IsCertAt (s : List ℕ) (v : CertView) (x : CertParts) : Type 0 where
   pub spelled : SpellsCert x s
   pub parts : ArePartsIn x.signed spelled.signed.contents spelled.signed.spelled v.parts
   pub tbs : IsTbsIn x.tbs spelled.tbs.contents spelled.tbs.spelled v.tbs
 
--- all of s is to be a BIT STRING: it isn't; or bits of it are unused
-abbrev pub IsSignatureFault : List ℕ → DecodeError → Type 0
-IsSignatureFault s e =
-    (only bits_value).fault s e
-    ⊎ ((b : Bits) × SpellsLeaf bit_string false IsBits b s × (b.unused ≡ 0 → ⊥)
-    × IsContentWith (codes "signature has unused bits") e)
+-- the error of a certificate whose signed data has this one
+abbrev pub part_of : SignedPart → CertPart
+part_of SignedPart.Algorithm = Algorithm
+part_of SignedPart.Signature = Signature
 
--- all of the rest is to be a signature without unused bits
-pub data IsSignatureWrong (s : List ℕ) (q : CertError) : Type 0 where
-  NoSignature : SpellsNothing SpellsUsed s → IsSignatureFault s q.error → q.part ≡ Signature → IsSignatureWrong s q
+abbrev pub of_signed : SignedError → CertError
+of_signed p = cert_error (part_of p.part) p.error
 
 -- the algorithm and the signature
-abbrev pub AreBehindWrong : List ℕ → CertError → Type 0
-AreBehindWrong = FirstWrong rpki_algorithm Algorithm (λ algorithm. IsSignatureWrong)
+pub data AreBehindWrong (s : List ℕ) (q : CertError) : Type 0 where
+  Behind : (p : SignedError) → AreMalformed s p → q ≡ of_signed p → AreBehindWrong s q
 
 -- the value that is signed, with everything nested in it
 abbrev pub signed_value : Format (List ℕ)
@@ -260,10 +232,6 @@ abbrev pub IsCertWrong : List ℕ → CertPart → Type 0
 IsCertWrong s part = (e : DecodeError) × IsCertError s (cert_error part e)
 
 -- ---- a certificate, of whose signed part the header alone was read
-
--- where d is a value, and m follows it, these are the parts of signed data
-abbrev pub ArePartsBehind : List ℕ → List ℕ → Parts → Type 0
-ArePartsBehind d m v = IsValue d → ArePartsAt (d ++ m) v
 
 -- a SEQUENCE of these contents is a certificate of these parts, and of no others
 abbrev pub AreContentsOf : List ℕ → CertView → Type 0

@@ -1,10 +1,12 @@
 //! Certificates.
 
-ghost use Rattle.std.specs.Prelude.{◌≡◌, ◌↔◌, ◌∷◌, ◌++◌, ℕ, List, length, IsTrue, IfOk, IfErr};
+ghost use Rattle.std.specs.Prelude.{◌≡◌, ℕ, List, IfOk, IfErr};
 ghost use Rattle.rpki_der.specs.Prelude.{left, Reads, Decodes, IsWholeFault};
-ghost use Rattle.rpki_cert.specs.Cert.{CertParts, SpellsWhole, SpellsCert};
+ghost use Rattle.rpki_cert.specs.Cert.{CertParts, SpellsCert};
+ghost use Rattle.rpki_x509.specs.Signed.{SpellsWhole};
 ghost use Rattle.rpki_cert.specs.CertError.{without_part};
-ghost use Rattle.rpki_cert.specs.CertFault.{IsWholeSignedFault, IsCertFault, IsFrontError, UnlessUnkept, IsDecodedPart};
+ghost use Rattle.rpki_x509.specs.Signed.{IsWholeSignedFault};
+ghost use Rattle.rpki_cert.specs.CertFault.{IsCertFault, IsFrontError, UnlessUnkept, IsDecodedPart};
 ghost use Rattle.rpki_cert.specs.Kept.{IsCertOf};
 
 use crate::read::cert_error::CertError;
@@ -35,44 +37,6 @@ impl Model for Cert {
     ghost view = { λ x. cert_parts x.signed_data x.tbs };
 
     ghost invariant = { λ x. SpellsTbs x.tbs x.signed_data.signed × (x.tbs.algorithm ≡ x.signed_data.algorithm) };
-}
-
-/// Whether both have parameters, or neither.
-pub fn is_same(one: RpkiSignatureAlgorithm, other: RpkiSignatureAlgorithm) -> bool
-    ensures { IsTrue result ↔ (one ≡ other) }
-{
-    one.has_parameters() == other.has_parameters()
-}
-
-/// Whether the octet is 0 that is in front of the last ones, of which there are so many.
-fn is_zero_before(octets: &[u8], last: usize) -> bool
-    ensures { (front : List ℕ) (octet : ℕ) (end : List ℕ) → octets.now ≡ front ++ octet ∷ end → length end ≡ last
-        → IsTrue result ↔ (octet ≡ 0) }
-{
-    if octets.len() <= last {
-        return false;
-    }
-    octets[octets.len() - last - 1] == 0
-}
-
-/// Signed data whose signature has no unused bits: the octet in front of its octets counts them. Requires that `keep`
-/// can keep parts of the rest.
-///
-/// The errors are those of signed data; then `Content` with the text `signature has unused bits`. An error leaves the
-/// cursor where it was.
-pub fn take_signed<K: Keep>(keep: K, cons: &mut Constructed<'_>) -> Result<SignedData, DecodeError>
-    requires { K.holds keep (left cons.old) }
-    ensures { Reads (λ x. x) SpellsWhole IsWholeSignedFault (left cons.old) (left cons.new) result }
-{
-    let mut after = *cons;
-    let octets = cons.rest();
-    let signed_data = SignedData::take_from(keep, &mut after)?;
-    let last = signed_data.signature().value().len() + after.rest().len();
-    if !is_zero_before(octets, last) {
-        return Err(DecodeError::content("signature has unused bits"));
-    }
-    *cons = after;
-    Ok(signed_data)
 }
 
 /// Keeps the certificate that was read in place of these contents. Requires that it was, and that `keep` can keep parts

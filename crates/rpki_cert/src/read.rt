@@ -4,8 +4,6 @@ pub mod cert_error;
 pub mod cert_part;
 pub mod fields;
 pub mod listed;
-pub mod names;
-pub mod nested;
 pub mod part;
 pub mod version;
 pub mod view;

@@ -11,7 +11,6 @@
 -- Both in place: AspaViewLaws, PrefixLaws; what is found is spelled: FoundLaws, AspaFoundLaws, RoaFoundLaws.
 -- Parts of a manifest in place: InPlaceLaws.
 -- Values whose header is two octets: ShortLaws; files of such: ShortFileLaws.
--- Lists that are written: ListedLaws.
 
 pub mod AspaFoundLaws
 pub mod AspaLaws
@@ -21,7 +20,6 @@ pub mod FilesLaws
 pub mod FoundLaws
 pub mod InPlaceLaws
 pub mod InPlaceManifestLaws
-pub mod ListedLaws
 pub mod ManifestLaws
 pub mod ManifestViewLaws
 pub mod ManifestWritingLaws

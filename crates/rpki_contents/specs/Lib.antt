@@ -7,7 +7,6 @@ pub mod EncodedRoa
 pub mod FileName
 pub mod FilesInPlace
 pub mod InPlace
-pub mod Listed
 pub mod ListedFile
 pub mod Manifest
 pub mod ManifestView
@@ -20,4 +19,3 @@ pub mod Short
 pub mod Within
 -- Lemmas that an impl cites.
 pub mod EncodedAspaLaws
-pub mod ListedLaws

@@ -26,7 +26,7 @@
 -- What is hashed of octets and numbers: HashLaws.
 -- The octets of headers, their bits and how many they are: OctetBitLaws, HeaderSizeLaws.
 -- Digits of numbers, and that they are the shortest: DigitLaws, ShortestLaws.
--- What is written, and that it is read back: EncodeLaws, HeaderWritingLaws, WritingLaws, LeafWritingLaws,
+-- What is written, and that it is read back: EncodeLaws, HeaderWritingLaws, WritingLaws, ListedLaws, LeafWritingLaws,
 --   LeafValueLaws.
 
 pub mod StepLaws
@@ -72,6 +72,7 @@ pub mod FirstFaultLaws
 pub mod HashLaws
 pub mod EachLaws
 pub mod ListFaultLaws
+pub mod ListedLaws
 pub mod CaptureLaws
 pub mod PartsLaws
 pub mod FormatLaws

@@ -36,6 +36,7 @@ pub mod Contents
 pub mod PrimitiveParts
 pub mod OptionalPart
 pub mod Tree
+pub mod Listed
 pub mod LeafLaws
 pub mod Inside
 pub mod Composed
@@ -56,5 +57,6 @@ pub mod ValueListLaws
 pub mod TreeLaws
 pub mod KindLaws
 pub mod StandingLaws
+pub mod ListedLaws
 -- One import line for crates above.
 pub mod Prelude

@@ -3,6 +3,7 @@
 mod captured;
 mod constructed;
 mod contents;
+mod each;
 mod header;
 mod lists;
 mod primitive;
@@ -14,6 +15,7 @@ mod whole;
 pub use constructed::{
     Around, Frame, OctetStringFrame, Sequence, SequenceFrame, Set, SetFrame, Wrapped,
 };
+pub use each::Each;
 pub use primitive::{Primitive, PrimitiveContent};
 pub use standing::StandingValue;
 pub use values::Values;

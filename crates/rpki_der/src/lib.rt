@@ -44,8 +44,8 @@ pub use contents::{
 };
 pub use cursor::{Constructed, Cursor};
 pub use encode::{
-    Around, Frame, OctetStringFrame, Primitive, PrimitiveContent, Sequence, SequenceFrame, Set,
-    SetFrame, StandingValue, Values, Wrapped, write_whole,
+    Around, Each, Frame, OctetStringFrame, Primitive, PrimitiveContent, Sequence, SequenceFrame,
+    Set, SetFrame, StandingValue, Values, Wrapped, write_whole,
 };
 pub use error::{ContentError, DecodeError};
 pub use from_values::write_to_bytes;

@@ -4,14 +4,15 @@ use Rattle.rpki.specs.ExtensionValue.{ExtensionParts}
 use Rattle.rpki_cert.specs.Access.{SpellsRsyncAccess, ca_issuers, signed_object}
 use Rattle.rpki_cert.specs.AccessDescription.{Description}
 use Rattle.rpki_cert.specs.Cert.{TbsParts, find}
-use Rattle.rpki_cert.specs.ExtensionContent.{SpellsAuthority}
-use Rattle.rpki_cert.specs.Known.{subject_key_identifier, authority_key_identifier, authority_info_access}
+use Rattle.rpki_x509.specs.Authority.{SpellsAuthority}
+use Rattle.rpki_cert.specs.Known.{subject_key_identifier, authority_info_access}
+use Rattle.rpki_x509.specs.Authority.{authority_key_identifier}
 use Rattle.rpki_cert.specs.Known.{subject_info_access}
 use Rattle.rpki.specs.KeyIdentifier.{SpellsKeyIdentifier}
 use Rattle.rpki_contents.specs.Aspa.{AspaParts}
 use Rattle.rpki_contents.specs.Manifest.{ManifestParts}
 use Rattle.rpki_contents.specs.Roa.{AttestationParts}
-use Rattle.rpki_objects.specs.Crl.{Entry, ListParts, listed}
+use Rattle.rpki_crl.specs.Crl.{Entry, ListParts, listed}
 use Rattle.rpki_objects.specs.SignedObject.{ObjectParts}
 use Rattle.rpki_objects.specs.TypedObject.{TypedParts}
 use Rattle.std.specs.Prelude.{codes, false, Option, Some, None}

@@ -1,6 +1,6 @@
 -- What is shown of a revocation list (RFC 5280 5.1, RFC 6487 5).
 use Rattle.std.specs.Prelude.{◌≡◌, ℕ, List, [], ◌∷◌, codes}
-use Rattle.rpki_objects.specs.Crl.{Entry, ListParts, listed}
+use Rattle.rpki_crl.specs.Crl.{Entry, ListParts, listed}
 use Rattle.rpki_fields.specs.EachIs.{EachIs}
 use Rattle.rpki_fields.specs.Field.{FieldParts, field_parts, time_parts}
 use Rattle.rpki_fields.specs.NameText.{IsNameText}

@@ -8,7 +8,7 @@ use Rattle.rpki_cert.specs.CertFault.{IsCertFault}
 use Rattle.rpki_contents.specs.Aspa.{AspaParts}
 use Rattle.rpki_contents.specs.Manifest.{ManifestParts}
 use Rattle.rpki_contents.specs.Roa.{AttestationParts}
-use Rattle.rpki_objects.specs.Crl.{CrlParts, crl}
+use Rattle.rpki_crl.specs.Crl.{CrlParts, crl}
 use Rattle.rpki_objects.specs.SignedObject.{ObjectParts, ObjectFields, object_fields_of, signed_object}
 use Rattle.rpki_objects.specs.Strictness.{none_strict}
 use Rattle.rpki_objects.specs.TypedObject.{TypedParts, manifest_object, origin_object, aspa_object}

@@ -9,11 +9,11 @@ use Rattle.rpki_contents.specs.AspaView.{FoundAspa, attestation}
 use Rattle.rpki_contents.specs.ListedFile.{ListedFile}
 use Rattle.rpki_contents.specs.ManifestView.{IsManifestAt, IsManifestWrong}
 use Rattle.rpki_contents.specs.RoaView.{FoundRoa, route_origin}
-use Rattle.rpki_objects.specs.declared.crl_view.CrlView.{CrlView}
+use Rattle.rpki_crl.specs.declared.crl_view.CrlView.{CrlView}
 use Rattle.rpki_objects.specs.declared.object_part.ObjectPart.{ObjectPart}
 use Rattle.rpki_objects.specs.declared.signed_object_view.SignedObjectView.{SignedObjectView}
-use Rattle.rpki_objects.specs.Crl.{CrlParts}
-use Rattle.rpki_objects.specs.CrlView.{IsCrlAt, IsCrlWrong}
+use Rattle.rpki_crl.specs.Crl.{CrlParts}
+use Rattle.rpki_crl.specs.CrlView.{IsCrlAt, IsCrlWrong}
 use Rattle.rpki_objects.specs.SignedObject.{ObjectParts}
 use Rattle.rpki_objects.specs.SignedObjectView.{IsObjectAt, IsObjectWrong}
 use Rattle.rpki_fields.specs.declared.kind.Kind.{Kind}

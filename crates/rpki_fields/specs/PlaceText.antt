@@ -2,8 +2,8 @@
 use Rattle.std.specs.Prelude.{ℕ, List, codes, Option, Some, None}
 use Rattle.rpki_cert.specs.declared.read.cert_part.CertPart.{CertPart}
 use Rattle.rpki_cert.specs.declared.read.cert_part.CertPart.TheVariants as C
-use Rattle.rpki_objects.specs.declared.crl_part.CrlPart.{CrlPart}
-use Rattle.rpki_objects.specs.declared.crl_part.CrlPart.TheVariants as L
+use Rattle.rpki_crl.specs.declared.crl_part.CrlPart.{CrlPart}
+use Rattle.rpki_crl.specs.declared.crl_part.CrlPart.TheVariants as L
 use Rattle.rpki_objects.specs.declared.object_part.ObjectPart.{ObjectPart}
 use Rattle.rpki_objects.specs.declared.object_part.ObjectPart.TheVariants as O
 use Rattle.rpki_contents.specs.declared.manifest_part.ManifestPart.{ManifestPart}

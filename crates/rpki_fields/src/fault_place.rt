@@ -7,7 +7,8 @@ ghost use Rattle.rpki_fields.specs.PlaceText.{provider_text, part_text, place_te
 use crate::place::Place;
 use rpki_cert::CertPart;
 use rpki_contents::{AspaPart, ManifestPart, RoaPart};
-use rpki_objects::{CrlPart, ObjectPart};
+use rpki_crl::CrlPart;
+use rpki_objects::ObjectPart;
 
 /// What a person reads of a part of certificates, in front of what is wrong.
 fn cert_text(part: CertPart) -> &'static str

@@ -1,7 +1,7 @@
 //! What is shown of a revocation list.
 
 ghost use Rattle.std.specs.Prelude.{IfOk};
-ghost use Rattle.rpki_objects.specs.Crl.{entry_of, entries_in};
+ghost use Rattle.rpki_crl.specs.Crl.{entry_of, entries_in};
 ghost use Rattle.rpki_fields.specs.EachIs.{EachIs};
 ghost use Rattle.rpki_fields.specs.ListText.{AreListFields, IsEntryItem, IsListSheet};
 
@@ -9,7 +9,7 @@ use crate::field::{Field, push_field, push_time};
 use crate::name::name_text;
 use crate::sheet::{Item, Sheet};
 use crate::value::{colon_digits, serial_text};
-use rpki_objects::{Crl, CrlEntry};
+use rpki_crl::{Crl, CrlEntry};
 use std::alloc::{AllocError, Global};
 
 /// The fields of a list.

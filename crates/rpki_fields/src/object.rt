@@ -28,7 +28,8 @@ use bytes::Bytes;
 use rpki::der::{Constructed, DecodeError, Shared};
 use rpki::repository::error::ValidationError;
 use rpki_cert::{Cert, TbsCert};
-use rpki_objects::{Aspa, Crl, Manifest, Roa, SignedObject, Strictness};
+use rpki_crl::Crl;
+use rpki_objects::{Aspa, Manifest, Roa, SignedObject, Strictness};
 use std::alloc::{AllocError, Global};
 
 /// An object of a repository. Nothing of it is verified.

@@ -6,7 +6,8 @@ ghost use Rattle.rpki_fields.specs.Place.{IsFilesPart, IsOriginsPart, IsProvider
 use crate::kind::Kind;
 use rpki_cert::{CertPart, CertView};
 use rpki_contents::{AspaPart, AspaView, ManifestPart, ManifestView, RoaPart, RoaView};
-use rpki_objects::{CrlPart, CrlView, ObjectPart, SignedObjectView};
+use rpki_crl::{CrlPart, CrlView};
+use rpki_objects::{ObjectPart, SignedObjectView};
 
 /// A part of octets that should be an object.
 #[derive(Clone, Copy, Debug, PartialEq, Eq)]

@@ -11,7 +11,7 @@ use Rattle.rpki.specs.UnknownAlgorithm.{IsContentWith}
 use Rattle.rpki_objects.specs.SignedAttributes.{Attribute, AttributeValues, AttributesParts, AreSigned, SayAll}
 use Rattle.rpki_objects.specs.SignedAttributes.{AreOthers}
 use Rattle.rpki_objects.specs.SignedAttributes.{message_of, with_octets, attribute_list, signed_attributes}
-use Rattle.rpki_objects.proofs.StandingForLaws.{none-there, none-stands, one-stands}
+use Rattle.rpki_x509.proofs.StandingForLaws.{none-there, none-stands, one-stands}
 
 abbrev pub parts_from : List ℕ → AttributeValues → AttributesParts
 parts_from message values = record { message = message; values = values }

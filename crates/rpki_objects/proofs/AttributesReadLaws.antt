@@ -14,7 +14,7 @@ use Rattle.rpki_time.specs.TimeValue.{time}
 use Rattle.rpki_time.proofs.TimeValueLaws.{time_spelled}
 use Rattle.rpki_time.proofs.WritingLaws.{serial_contents-are}
 use Rattle.rpki.specs.AlgorithmOctetsLaws.{oid-legal}
-use Rattle.rpki_contents.specs.Listed.{listed_octets, EachHas}
+use Rattle.rpki_der.specs.Listed.{listed_octets, EachHas}
 use Rattle.rpki_objects.specs.SignedAttributes.{Attribute, AttributeValues, attributes_tag, content_type}
 use Rattle.rpki_objects.specs.SignedAttributes.{message_digest}
 use Rattle.rpki_objects.specs.SignedAttributes.{signing_time, binary_signing_time, attribute, attribute_parts}
@@ -27,11 +27,11 @@ use Rattle.rpki_objects.specs.EncodedAttributes.{binary_attribute, comes_before,
 use Rattle.rpki_objects.specs.EncodedAttributes.{other_attributes, written_attributes, attributes_contents}
 use Rattle.rpki_objects.specs.EncodedAttributes.{attributes_octets, message_octets, IsYearIn, IsFewIn, CanWriteType}
 use Rattle.rpki_objects.specs.EncodedAttributes.{CanWriteAttributes, normal_time, normal_values, IsTimed, AreReadBack}
-use Rattle.rpki_objects.specs.EncodedLaws.{zero_legal, integer-legal, number-few}
+use Rattle.rpki_x509.specs.TagLaws.{zero_legal, integer-legal, number-few}
 use Rattle.rpki_objects.proofs.AttributesOrderLaws.{inside}
 use Rattle.rpki_objects.proofs.AttributesWritingLaws.{IsWritable, attribute-few, written-placed, written-have}
 use Rattle.rpki_objects.proofs.AttributesWritingLaws.{contents-few}
-use Rattle.rpki_objects.proofs.WrittenLaws.{written-then, written-around}
+use Rattle.rpki_x509.proofs.WrittenLaws.{written-then, written-around}
 
 -- ---- the list of them
 

@@ -12,8 +12,8 @@ use Rattle.rpki_time.specs.Serial.{serial_contents}
 use Rattle.rpki_time.specs.TimeValueLaws.{time_is_value_list}
 use Rattle.rpki.specs.AlgorithmOctetsLaws.{oid-legal}
 use Rattle.rpki.proofs.NamedLaws.{plain-oid}
-use Rattle.rpki_contents.specs.Listed.{listed_octets, EachHas}
-use Rattle.rpki_contents.specs.ListedLaws.{listed_values}
+use Rattle.rpki_der.specs.Listed.{listed_octets, EachHas}
+use Rattle.rpki_der.specs.ListedLaws.{listed_values}
 use Rattle.rpki_objects.specs.SignedAttributes.{Attribute, AttributeValues, attributes_tag, content_type}
 use Rattle.rpki_objects.specs.SignedAttributes.{message_digest}
 use Rattle.rpki_objects.specs.SignedAttributes.{signing_time, binary_signing_time}
@@ -22,7 +22,7 @@ use Rattle.rpki_objects.specs.EncodedAttributes.{binary_attribute, comes_before,
 use Rattle.rpki_objects.specs.EncodedAttributes.{time_and_digest, other_attributes, written_attributes}
 use Rattle.rpki_objects.specs.EncodedAttributes.{attributes_contents}
 use Rattle.rpki_objects.specs.EncodedAttributes.{attributes_octets, CanWriteType, IsFewIn, CanWriteAttributes}
-use Rattle.rpki_objects.specs.EncodedLaws.{zero_legal, integer-legal, number-few}
+use Rattle.rpki_x509.specs.TagLaws.{zero_legal, integer-legal, number-few}
 use Rattle.rpki_objects.proofs.AttributesOrderLaws.{inside, time-size, binary-size, digest-size, time-before-digest}
 use Rattle.rpki_objects.proofs.AttributesOrderLaws.{binary-before-digest, binary-before-time, longer-is-behind}
 use Rattle.rpki_objects.proofs.AttributesOrderLaws.{no-longer-is-before}

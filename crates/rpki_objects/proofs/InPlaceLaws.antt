@@ -9,7 +9,7 @@ use Rattle.rpki_der.specs.Parts.{Then}
 use Rattle.rpki_der.proofs.InsideLaws.{unless-memory}
 use Rattle.rpki_der.proofs.LeavesLaws.{contents-no-memory}
 use Rattle.rpki_der.proofs.ComposedLaws.{nothing-whole}
-use Rattle.rpki_objects.specs.SignedObjectView.{IsWholeOf}
+use Rattle.rpki_x509.specs.InPlace.{IsWholeOf}
 
 -- an error of a reader that takes no memory
 pub refused : {V : Type 0} (G : V → List ℕ → Type 0) (K : List ℕ → DecodeError → Type 0) (s r : List ℕ)

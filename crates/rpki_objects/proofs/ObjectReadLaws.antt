@@ -32,12 +32,12 @@ use Rattle.rpki_objects.specs.EncodedObject.{BuiltObject, version_3, signer_cont
 use Rattle.rpki_objects.specs.EncodedObject.{data_contents, object_contents, object_octets, CanWriteObject}
 use Rattle.rpki_objects.specs.EncodedObject.{content_built, signer_built, normal_object, IsObjectReadBack}
 use Rattle.rpki_objects.specs.EncodedObject.{IsDecodedBack}
-use Rattle.rpki_objects.specs.EncodedLaws.{zero_legal, integer-legal}
+use Rattle.rpki_x509.specs.TagLaws.{zero_legal, integer-legal}
 use Rattle.rpki_objects.proofs.AttributesReadLaws.{attributes-back}
 use Rattle.rpki_objects.proofs.ObjectWritingLaws.{signer-few, signer-octets-few, content-few, content-inside-few}
 use Rattle.rpki_objects.proofs.ObjectWritingLaws.{data-few}
 use Rattle.rpki_objects.proofs.ObjectWritingLaws.{data-octets-few, object-few}
-use Rattle.rpki_objects.proofs.WrittenLaws.{written-then, written-around}
+use Rattle.rpki_x509.proofs.WrittenLaws.{written-then, written-around}
 
 -- ---- the version
 

@@ -14,7 +14,8 @@ use Rattle.rpki_objects.specs.SignedAttributes.{values_of}
 use Rattle.rpki_objects.specs.SignedAttributes.{attribute, attribute_parts, each_attribute, is_known, are_known}
 use Rattle.rpki_objects.specs.SignedAttributes.{content_type, message_digest, signing_time, binary_signing_time}
 use Rattle.rpki_objects.specs.SignedAttributes.{digest_value, binary_time, IsOnce, IsAtMostOnce}
-use Rattle.rpki_objects.specs.SignedObjectView.{AreTogether, IsWholeOf}
+use Rattle.rpki_objects.specs.SignedObjectView.{AreTogether}
+use Rattle.rpki_x509.specs.InPlace.{IsWholeOf}
 
 abbrev Each : List Attribute → List ℕ → Type 0
 Each = each_attribute.spells

@@ -9,7 +9,7 @@ use Rattle.rpki.specs.UnknownAlgorithm.{IsContentWith}
 use Rattle.rpki_contents.specs.Roa.{AttestationParts, attestation, Both, fields_of}
 use Rattle.rpki_objects.specs.SignedObject.{ObjectParts, ObjectFields, object_fields_of, signed_object}
 use Rattle.rpki_objects.specs.TypedObject.{TypedParts, typed_of, IsTyped, IsUntyped, typed_object}
-use Rattle.rpki_objects.proofs.StandingForLaws.{none-there, none-stands, one-stands}
+use Rattle.rpki_x509.proofs.StandingForLaws.{none-there, none-stands, one-stands}
 
 -- fields are those of one object
 abbrev object_from : ObjectFields → ObjectParts

@@ -8,7 +8,7 @@ use Rattle.rpki_der.specs.Prelude.{sequence, set, oid, octet_string, tlv, IsOid}
 use Rattle.rpki_time.specs.Time.{cut, IsTimeYear}
 use Rattle.rpki_time.specs.Serial.{serial_octets}
 use Rattle.rpki_time.specs.TimeValue.{time_octets}
-use Rattle.rpki_contents.specs.Listed.{listed_octets}
+use Rattle.rpki_der.specs.Listed.{listed_octets}
 use Rattle.rpki_objects.specs.SignedAttributes.{Attribute, AttributeValues, AttributesParts, attributes_tag, is_timed}
 use Rattle.rpki_objects.specs.SignedAttributes.{content_type, message_digest, signing_time, binary_signing_time}
 use Rattle.rpki_objects.specs.SignedAttributes.{signed_attributes}

@@ -41,11 +41,6 @@ pub data WrongWithin (t : TagName) (part : ObjectPart) (L : List ℕ → ObjectP
   Inside : (c : List ℕ) → SpellsContents t true c s → ((d : List ℕ) → SpellsContents t true d s → d ≡ c) → L c q
       → WrongWithin t part L s q
 
--- a reader of all of s: Some is its value, and None says that it has none
-abbrev pub IsWholeOf : {X V : Type 0} → (X → V) → (V → List ℕ → Type 0) → List ℕ → Option X → Type 0
-IsWholeOf {X} {V} view G s (Some x) = G (view x) s × ((w : V) → G w s → w ≡ view x)
-IsWholeOf view G s None = SpellsNothing G s
-
 -- all of s should be a value of G, and isn't
 abbrev pub LastWrong : {V : Type 0} → (V → List ℕ → Type 0) → ObjectPart → List ℕ → ObjectPart → Type 0
 LastWrong G part s q = SpellsNothing G s × (q ≡ part)

@@ -2,10 +2,11 @@
 
 ghost use Rattle.rpki_der.specs.Prelude.{left};
 ghost use Rattle.rpki_objects.specs.SignedObject.{kept_octets, explicit_content};
-ghost use Rattle.rpki_objects.specs.SignedObjectView.{IsWholeOf, TakesContent};
+ghost use Rattle.rpki_x509.specs.InPlace.{IsWholeOf};
+ghost use Rattle.rpki_objects.specs.SignedObjectView.{TakesContent};
 
 use rpki::der::{Class, Constructed, Section, Tag};
-use rpki_cert::objects::inside;
+use rpki_x509::inside;
 
 /// A content, and its type.
 #[derive(Clone, Copy)]

@@ -2,7 +2,8 @@
 
 ghost use Rattle.rpki_der.specs.Prelude.{left};
 ghost use Rattle.rpki_objects.specs.SignedAttributes.{values_known};
-ghost use Rattle.rpki_objects.specs.SignedObjectView.{AreTogether, IsWholeOf, TakesAttributes};
+ghost use Rattle.rpki_objects.specs.SignedObjectView.{AreTogether, TakesAttributes};
+ghost use Rattle.rpki_x509.specs.InPlace.{IsWholeOf};
 
 use crate::attribute::AttributeView;
 use crate::known_attributes::KnownAttributes;

@@ -8,12 +8,10 @@
 
 ghost use Rattle.std.specs.Prelude.{◌≡◌, ◌↔◌, IsTrue};
 ghost use Rattle.rpki_der.specs.Prelude.{left, Takes, TakesAll, TakesWhole, CanShare};
-ghost use Rattle.rpki_objects.specs.Crl.{listed, is_revoked};
 ghost use Rattle.rpki_objects.specs.SignedObject.{object_of, data_fields_of, object_fields_of, object_fields};
 ghost use Rattle.rpki_objects.specs.SignedObject.{signed_object};
 ghost use Rattle.rpki_objects.specs.SignedObject.{explicit_data};
 
-use crate::crl::Crl;
 use crate::signed_data::ObjectData;
 use bytes::Bytes;
 use rpki::crypto::{KeyIdentifier, RpkiSignature};
@@ -180,12 +178,5 @@ impl SignedObject {
         ensures { result.now ≡ self.now.signer.signature }
     {
         &self.data.signer.signature
-    }
-
-    /// Whether the list has the certificate of the object. Whose list it is, isn't looked at.
-    pub fn is_revoked_by(&self, list: &Crl) -> bool
-        ensures { result ≡ is_revoked self.now.cert.tbs.serial (listed list.now.list.revoked) }
-    {
-        list.contains(self.cert().tbs().serial_number())
     }
 }

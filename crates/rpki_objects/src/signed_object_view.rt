@@ -13,7 +13,7 @@ use rpki::crypto::DigestAlgorithm;
 use rpki::der::{Class, Constructed, Section, Tag};
 use rpki::oid;
 use rpki_cert::CertView;
-use rpki_cert::objects::inside;
+use rpki_x509::inside;
 
 /// The certificate of a signer.
 #[derive(Drop)]

@@ -10,7 +10,7 @@ use crate::signed_attrs_view::SignedAttrsView;
 use crate::signer_info::take_identifier;
 use rpki::crypto::{DigestAlgorithm, KeyIdentifier, RpkiSignatureAlgorithm};
 use rpki::der::{Constructed, Section, Tag};
-use rpki_cert::objects::inside;
+use rpki_x509::inside;
 
 /// A signer.
 #[derive(Clone, Copy)]

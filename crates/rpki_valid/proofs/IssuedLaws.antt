@@ -6,7 +6,7 @@ use Rattle.rpki_time.specs.Validity.{HoldsAt}
 use Rattle.rpki_cert.specs.RuleError.{ChecksBy}
 use Rattle.rpki_valid.specs.Valid.{HasReason, IsPeriodError, IsSignedBy}
 use Rattle.rpki_valid.specs.Verified.{Verified}
-use Rattle.rpki_objects.specs.Crl.{CrlParts}
+use Rattle.rpki_crl.specs.Crl.{CrlParts}
 use Rattle.rpki_valid.specs.declared.staleness.Staleness.{Staleness}
 use Rattle.rpki_valid.specs.Revocation.{IsOutAt, IsFreshAt}
 use Rattle.rpki_valid.specs.CrlIssued.{IsIssuedBy, IsNotIssued, ChecksList}

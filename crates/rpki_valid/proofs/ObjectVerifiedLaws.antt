@@ -9,7 +9,7 @@ use Rattle.rpki_cert.specs.RuleError.{ChecksBy}
 use Rattle.rpki_valid.specs.Valid.{HasReason, HasSubject, IsOtherSubject}
 use Rattle.rpki_valid.specs.Verified.{Verified, ChecksLink, IsRefusedWith}
 use Rattle.rpki_cert.proofs.KnownLaws.{unless-from, unless-weaker}
-use Rattle.rpki_objects.specs.Crl.{CrlParts}
+use Rattle.rpki_crl.specs.Crl.{CrlParts}
 use Rattle.rpki_objects.specs.SignedObject.{ObjectParts}
 use Rattle.rpki_valid.specs.ObjectVerified.{SignsAttributes, IsSignedObject, IsUnsignedObject, IsValidObject}
 use Rattle.rpki_valid.specs.ObjectVerified.{IsInvalidObject, ChecksObject}

@@ -11,7 +11,7 @@ use Rattle.rpki_cert.specs.Cert.{CertParts, TbsParts}
 use Rattle.rpki_cert.specs.Known.{UnlessNoMemory}
 use Rattle.rpki_cert.specs.Profile.{rules_of, HasProfile}
 use Rattle.rpki_cert.specs.RuleError.{IsFirstError}
-use Rattle.rpki_objects.specs.Crl.{CrlParts}
+use Rattle.rpki_crl.specs.Crl.{CrlParts}
 use Rattle.rpki_valid.specs.declared.staleness.Staleness.{Staleness}
 use Rattle.rpki_valid.specs.declared.staleness.Staleness.TheVariants.{Refused, Accepted}
 use Rattle.rpki_valid.specs.CrlIssued.{IsIssuedBy}

@@ -7,7 +7,7 @@ use Rattle.rpki.specs.Provider.{Check}
 use Rattle.rpki_cert.specs.declared.profile.Profile.{Profile}
 use Rattle.rpki_cert.specs.Cert.{CertParts}
 use Rattle.rpki_cert.specs.RuleError.{ChecksBy}
-use Rattle.rpki_objects.specs.Crl.{CrlParts}
+use Rattle.rpki_crl.specs.Crl.{CrlParts}
 use Rattle.rpki_valid.specs.declared.staleness.Staleness.{Staleness}
 use Rattle.rpki_valid.specs.Valid.{HasReason, IsPeriodError, IsSignedBy, Unless}
 use Rattle.rpki_valid.specs.declared.resource.set.ResourceSet.{ResourceSet}

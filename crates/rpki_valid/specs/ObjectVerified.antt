@@ -11,7 +11,7 @@ use Rattle.rpki_cert.specs.RuleError.{ChecksBy}
 use Rattle.rpki_valid.specs.Valid.{HasReason, HasSubject, IsOtherSubject, Unless}
 use Rattle.rpki_valid.specs.CrlIssued.{InForce}
 use Rattle.rpki_valid.specs.Verified.{verified_by, Verified, IsVerifiedBy, IsUnverified, ChecksWith}
-use Rattle.rpki_objects.specs.Crl.{CrlParts}
+use Rattle.rpki_crl.specs.Crl.{CrlParts}
 use Rattle.rpki_objects.specs.SignedObject.{ObjectParts, SignerParts}
 use Rattle.rpki_valid.specs.ErrorTexts.{content_type_text, digest_text, signer_text, unsigned_object_text}
 

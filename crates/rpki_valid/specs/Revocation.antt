@@ -4,7 +4,7 @@ use Rattle.jiff.specs.Types.{DateTime}
 use Rattle.jiff.specs.Words.{civil_nanos}
 use Rattle.rpki.specs.Provider.{Check}
 use Rattle.rpki_cert.specs.Cert.{TbsParts, CertParts}
-use Rattle.rpki_objects.specs.Crl.{CrlParts, listed, is_revoked}
+use Rattle.rpki_crl.specs.Crl.{CrlParts, listed, is_revoked}
 use Rattle.rpki_valid.specs.declared.staleness.Staleness.{Staleness}
 use Rattle.rpki_valid.specs.declared.staleness.Staleness.TheVariants.{Refused, Accepted}
 use Rattle.rpki_valid.specs.Valid.{IsSignedBy}

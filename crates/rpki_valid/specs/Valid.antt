@@ -14,11 +14,13 @@ use Rattle.rpki.specs.KeyIdentifier.{SpellsKeyIdentifier}
 use Rattle.rpki.specs.Signature.{SignatureParts}
 use Rattle.rpki.specs.SignedData.{SignedParts, parts_of}
 use Rattle.rpki_cert.specs.Cert.{TbsParts, CertParts, find}
-use Rattle.rpki_cert.specs.Known.{subject_key_identifier, authority_key_identifier, HasExtension, are_understood}
+use Rattle.rpki_cert.specs.Known.{subject_key_identifier, HasExtension, are_understood}
+use Rattle.rpki_x509.specs.Authority.{authority_key_identifier}
 use Rattle.rpki_cert.specs.Known.{IsOtherwise}
 use Rattle.rpki_cert.specs.RuleError.{ChecksBy}
-use Rattle.rpki_cert.specs.ExtensionContent.{SpellsAuthority}
-use Rattle.rpki_cert.specs.ExtensionContent.{WholeFault, authority_content, subject_content}
+use Rattle.rpki_x509.specs.Authority.{SpellsAuthority}
+use Rattle.rpki_x509.specs.Authority.{WholeFault, authority_content}
+use Rattle.rpki_cert.specs.ExtensionContent.{subject_content}
 use Rattle.rpki_valid.specs.ErrorTexts.{unsigned_text, early_text, late_text, issuer_text, critical_text}
 use Rattle.rpki_valid.specs.ErrorTexts.{subject_text, authority_text}
 

@@ -15,7 +15,7 @@ use Rattle.rpki_cert.specs.Profile.{rules_of, HasProfile}
 use Rattle.rpki_cert.specs.RuleError.{IsFirstError}
 use Rattle.rpki_valid.specs.Valid.{HasReason, IsIssued, IsAnchor, IsPeriodError, Unless, IsUnissued, IsNoAnchor}
 use Rattle.rpki_objects.specs.declared.strictness.Strictness.{Strictness}
-use Rattle.rpki_objects.specs.Crl.{CrlParts}
+use Rattle.rpki_crl.specs.Crl.{CrlParts}
 use Rattle.rpki_valid.specs.declared.staleness.Staleness.{Staleness}
 use Rattle.rpki_valid.specs.declared.terms.Terms.{Terms as GivenTerms}
 use Rattle.rpki_valid.specs.Revocation.{IsUnrevoked, IsUnrevokedBy}

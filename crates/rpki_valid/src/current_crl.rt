@@ -5,7 +5,7 @@ ghost use Rattle.jiff.specs.Types.{DateTime as Civil};
 ghost use Rattle.rpki_time.specs.Validity.{HoldsAt};
 ghost use Rattle.rpki_cert.specs.RuleError.{ChecksBy};
 ghost use Rattle.rpki_cert.specs.declared.profile.Profile.TheVariants.{Ca, Ee, DetachedEe, Router};
-ghost use Rattle.rpki_objects.specs.Crl.{listed, is_revoked};
+ghost use Rattle.rpki_crl.specs.Crl.{listed, is_revoked};
 ghost use Rattle.rpki_valid.specs.CrlIssued.{in_force, IsIssuedBy, IsRefusedList, ChecksList, CountsAt, HasListedPath};
 ghost use Rattle.rpki_valid.specs.ResourceSet.{AreWithin};
 ghost use Rattle.rpki_valid.specs.Revocation.{IsOutAt, IsFreshAt, least_asked};
@@ -22,7 +22,7 @@ use rpki::crypto::{KeyIdentifier, Provider};
 use rpki::repository::error::ValidationError;
 use rpki::repository::x509::{NameOctets, Time, Validity};
 use rpki_cert::{Cert, Profile};
-use rpki_objects::Crl;
+use rpki_crl::Crl;
 use std::alloc::Global;
 use std::marker::Model;
 

@@ -2,7 +2,7 @@
 
 ghost use Rattle.std.specs.Prelude.{◌≡◌, ◌↔◌, IsTrue};
 ghost use Rattle.rpki_resources.specs.Extension.{SpellsIpResources, SpellsAsResources};
-ghost use Rattle.rpki_cert.specs.ResourceExtensions.{addresses_of, numbers_of, is_own, are_own_addresses};
+ghost use Rattle.rpki_cert.specs.ResourceExtensions.{addresses_of, numbers_of, are_own_addresses};
 ghost use Rattle.rpki_cert.specs.ResourceExtensions.{are_own_numbers, SaysThat};
 ghost use Rattle.rpki_cert.specs.RuleError.{ChecksBy};
 ghost use Rattle.rpki_valid.specs.Valid.{HasReason};
@@ -15,7 +15,7 @@ ghost use Rattle.rpki_valid.specs.ErrorTexts.{addresses_beside_text};
 
 use crate::verify::unverified;
 use rpki::repository::error::ValidationError;
-use rpki_cert::TbsCert;
+use rpki_cert::{TbsCert, are_own_addresses, are_own_numbers};
 use rpki_resources::{ChoiceView, IpResourcesView};
 
 /// Whether nothing is listed.
@@ -24,16 +24,6 @@ fn is_unlisted(choice: &ChoiceView<'_>) -> bool
 {
     match choice {
         ChoiceView::Blocks(_) => false,
-        _ => true,
-    }
-}
-
-/// Whether these are not those of the issuer.
-fn is_own(choice: &ChoiceView<'_>) -> bool
-    ensures { result ≡ is_own choice.now }
-{
-    match choice {
-        ChoiceView::Inherit => false,
         _ => true,
     }
 }
@@ -54,26 +44,6 @@ fn are_unlisted_numbers(found: Option<ChoiceView<'_>>) -> bool
 {
     match found {
         Some(choice) => is_unlisted(&choice),
-        None => true,
-    }
-}
-
-/// Whether no addresses are those of the issuer.
-fn are_own_addresses(found: Option<IpResourcesView<'_>>) -> bool
-    ensures { result ≡ are_own_addresses found.entry }
-{
-    match found {
-        Some(resources) => is_own(&resources.v4) && is_own(&resources.v6),
-        None => true,
-    }
-}
-
-/// Whether no numbers are those of the issuer.
-fn are_own_numbers(found: Option<ChoiceView<'_>>) -> bool
-    ensures { result ≡ are_own_numbers found.entry }
-{
-    match found {
-        Some(choice) => is_own(&choice),
         None => true,
     }
 }

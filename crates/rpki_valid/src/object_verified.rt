@@ -18,7 +18,7 @@ use crate::verify::unverified;
 use rpki::crypto::Provider;
 use rpki::repository::error::ValidationError;
 use rpki::repository::x509::Time;
-use rpki_cert::objects::is_identifier;
+use rpki_cert::is_identifier;
 use rpki_contents::MessageDigest;
 use rpki_objects::SignedObject;
 use std::alloc::Global;

@@ -27,7 +27,8 @@ use rpki::crypto::{KeyIdentifier, Provider, PublicKey};
 use rpki::repository::error::ValidationError;
 use rpki::repository::x509::{Time, Validity};
 use rpki_cert::{Cert, Profile};
-use rpki_objects::{Crl, Strictness};
+use rpki_crl::Crl;
+use rpki_objects::Strictness;
 use std::alloc::Global;
 use std::marker::Model;
 

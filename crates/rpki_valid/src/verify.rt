@@ -3,7 +3,8 @@
 ghost use Rattle.std.specs.Prelude.{◌≡◌, ◌↔◌, ◌⊎◌, false, None, Option, IsTrue};
 ghost use Rattle.rpki_time.specs.Validity.{HoldsAt};
 ghost use Rattle.rpki_cert.specs.Cert.{find};
-ghost use Rattle.rpki_cert.specs.Known.{authority_key_identifier, are_understood};
+ghost use Rattle.rpki_x509.specs.Authority.{authority_key_identifier};
+ghost use Rattle.rpki_cert.specs.Known.{are_understood};
 ghost use Rattle.rpki_cert.specs.RuleError.{ChecksBy};
 ghost use Rattle.rpki_valid.specs.Valid.{HasReason, IsPeriodError, HasSigned, HasSubject, IsOtherSubject, ChecksSigned};
 ghost use Rattle.rpki_valid.specs.Valid.{HasAuthority, IsOtherAuthority, ChecksIssued, ChecksAnchor};
@@ -14,8 +15,7 @@ use rpki::der::ContentError;
 use rpki::oid;
 use rpki::repository::error::{ValidationError, VerificationError};
 use rpki::repository::x509::{NameOctets, Time, Validity, ValidityPeriodError};
-use rpki_cert::objects::{are_understood, find, is_identifier};
-use rpki_cert::{Cert, TbsCert};
+use rpki_cert::{Cert, TbsCert, are_understood, find_extension, is_identifier};
 
 /// The error of this text.
 pub fn unverified(text: &'static str) -> ValidationError
@@ -69,7 +69,7 @@ fn verify_own_authority(cert: &TbsCert, wanted: KeyIdentifier) -> Result<(), Val
     ensures { ChecksBy ((find authority_key_identifier cert.now.extensions ≡ None) ⊎ HasAuthority wanted cert.now)
         (IsOtherAuthority cert.now) result }
 {
-    match find(cert.extensions(), oid::CE_AUTHORITY_KEY_IDENTIFIER) {
+    match find_extension(cert.extensions(), oid::CE_AUTHORITY_KEY_IDENTIFIER) {
         Some(_) => verify_authority(cert, wanted),
         None => Ok(()),
     }

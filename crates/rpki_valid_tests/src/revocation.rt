@@ -10,7 +10,7 @@ use rpki::repository::x509::Time;
 use rpki_cert::{Cert, Profile};
 use rpki_cert_tests::certificates::{ANCHOR, AUTHORITY, DETACHED, ROUTER, SIGNER};
 use rpki_cert_tests::hexadecimal::octets_of;
-use rpki_objects::Crl;
+use rpki_crl::Crl;
 use rpki_valid::{CurrentCrl, ResourceCert, Staleness};
 use std::alloc::{AllocError, Global};
 use std::test::Fail;

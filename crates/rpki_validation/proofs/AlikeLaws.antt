@@ -7,7 +7,7 @@ use Rattle.rpki_contents.specs.Aspa.{AspaParts}
 use Rattle.rpki_cert.specs.declared.profile.Profile.{Profile}
 use Rattle.rpki_cert.specs.declared.profile.Profile.TheVariants.{Ca, Ee, Router}
 use Rattle.rpki_cert.specs.Cert.{CertParts}
-use Rattle.rpki_objects.specs.Crl.{CrlParts}
+use Rattle.rpki_crl.specs.Crl.{CrlParts}
 use Rattle.rpki_objects.specs.SignedObject.{ObjectParts}
 use Rattle.rpki_objects.specs.TypedObject.{TypedParts, aspa_object, origin_object}
 use Rattle.rpki_der.specs.Prelude.{Format}

@@ -19,7 +19,8 @@ use Rattle.rpki_cert.specs.declared.profile.rule.CertRule.TheVariants.{RouterSer
 use Rattle.rpki_cert.specs.declared.profile.rule.CertRule.TheVariants.{OwnResources, NoSubjectAccess, RouterPurpose}
 use Rattle.rpki_cert.specs.Access.{HasUri, flat}
 use Rattle.rpki_cert.specs.Cert.{TbsParts, find}
-use Rattle.rpki_cert.specs.ExtensionContent.{SpellsConstraints, WholeFault, constraints_content}
+use Rattle.rpki_cert.specs.ExtensionContent.{SpellsConstraints, constraints_content}
+use Rattle.rpki_x509.specs.Authority.{WholeFault}
 use Rattle.rpki_cert.specs.Known.{subject_info_access, basic_constraints, present, IsFoundWrong, SaysNone, SaysOnly}
 use Rattle.rpki_cert.specs.Profile.{HasProfile, common_rules, subject_rules, repository_rules, issuer_rules}
 use Rattle.rpki_cert.specs.Rule.{Obeys}

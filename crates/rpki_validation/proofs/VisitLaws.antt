@@ -6,7 +6,7 @@ use Rattle.jiff.specs.Types.{DateTime}
 use Rattle.rpki.specs.Provider.{Check}
 use Rattle.rpki_cert.specs.declared.profile.Profile.TheVariants.{Ca, Router}
 use Rattle.rpki_contents.specs.ListedFile.{ListedFile}
-use Rattle.rpki_objects.specs.Crl.{CrlParts}
+use Rattle.rpki_crl.specs.Crl.{CrlParts}
 use Rattle.rpki_valid.specs.declared.staleness.Staleness.TheVariants.{Refused}
 use Rattle.rpki_valid.specs.CrlIssued.{InForce, in_force}
 use Rattle.rpki_valid.specs.Verified.{Authority, Holder}

@@ -8,7 +8,7 @@ use Rattle.rpki_cert.specs.Cert.{CertParts}
 use Rattle.rpki_contents.specs.declared.route_origin.RouteOrigin.{RouteOrigin}
 use Rattle.rpki_contents.specs.Aspa.{AspaParts}
 use Rattle.rpki_contents.specs.ListedFile.{ListedFile}
-use Rattle.rpki_objects.specs.Crl.{CrlParts}
+use Rattle.rpki_crl.specs.Crl.{CrlParts}
 use Rattle.rpki_objects.specs.TypedObject.{TypedParts}
 use Rattle.rpki_valid.specs.CrlIssued.{CountsAt, InForce}
 use Rattle.rpki_valid.specs.Verified.{Authority, Holder}

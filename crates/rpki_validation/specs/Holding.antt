@@ -10,7 +10,7 @@ use Rattle.rpki_contents.specs.Aspa.{AspaParts}
 use Rattle.rpki_contents.specs.Roa.{AttestationParts}
 use Rattle.rpki_contents.specs.RouteOrigin.{origins}
 use Rattle.rpki_locator.specs.declared.anchor_uri.AnchorUri.{AnchorUri}
-use Rattle.rpki_objects.specs.Crl.{CrlParts}
+use Rattle.rpki_crl.specs.Crl.{CrlParts}
 use Rattle.rpki_objects.specs.TypedObject.{TypedParts}
 use Rattle.rpki_valid.specs.declared.staleness.Staleness.TheVariants.{Refused}
 use Rattle.rpki_valid.specs.Revocation.{IsCurrentAt}

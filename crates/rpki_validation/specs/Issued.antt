@@ -8,10 +8,11 @@ use Rattle.rpki_cert.specs.declared.profile.Profile.{Profile}
 use Rattle.rpki_cert.specs.declared.profile.Profile.TheVariants.{Ca, Router}
 use Rattle.rpki_cert.specs.Cert.{CertParts, SpellsCert, TbsParts, find}
 use Rattle.rpki_cert.specs.CertFault.{IsDecodedPart}
-use Rattle.rpki_cert.specs.ExtensionContent.{SpellsConstraints, WholeFault, constraints_content}
+use Rattle.rpki_cert.specs.ExtensionContent.{SpellsConstraints, constraints_content}
+use Rattle.rpki_x509.specs.Authority.{WholeFault}
 use Rattle.rpki_cert.specs.Known.{basic_constraints, IsFoundWrong}
 use Rattle.rpki_cert.specs.Profile.{HasProfile}
-use Rattle.rpki_objects.specs.Crl.{CrlParts}
+use Rattle.rpki_crl.specs.Crl.{CrlParts}
 use Rattle.rpki_objects.specs.SignedObject.{ObjectParts}
 use Rattle.rpki_objects.specs.TypedObject.{TypedParts, origin_object, aspa_object}
 use Rattle.rpki_valid.specs.declared.resource.set.ResourceSet.{ResourceSet}

@@ -10,7 +10,7 @@ use Rattle.rpki_cert.specs.Cert.{TbsParts}
 use Rattle.rpki_cert.specs.Known.{HasNone, subject_info_access}
 use Rattle.rpki_contents.specs.ListedFile.{ListedFile}
 use Rattle.rpki_contents.specs.Manifest.{ManifestParts}
-use Rattle.rpki_objects.specs.Crl.{CrlParts, crl}
+use Rattle.rpki_crl.specs.Crl.{CrlParts, crl}
 use Rattle.rpki_objects.specs.TypedObject.{TypedParts, manifest_object}
 use Rattle.rpki_validation.specs.declared.reason.Reason.{Reason}
 use Rattle.rpki_validation.specs.declared.reason.Reason.TheVariants.{MissingAnchor, NoRepository, NoManifest, Missing}

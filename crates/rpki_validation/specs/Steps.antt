@@ -10,7 +10,7 @@ use Rattle.rpki_contents.specs.ListedFile.{ListedFile}
 use Rattle.rpki_contents.specs.Manifest.{ManifestParts}
 use Rattle.rpki_contents.specs.Roa.{AttestationParts}
 use Rattle.rpki_locator.specs.declared.anchor_uri.AnchorUri.{AnchorUri}
-use Rattle.rpki_objects.specs.Crl.{CrlParts}
+use Rattle.rpki_crl.specs.Crl.{CrlParts}
 use Rattle.rpki_objects.specs.TypedObject.{TypedParts, manifest_object}
 use Rattle.rpki_text.specs.RsyncText.{RsyncUri}
 use Rattle.rpki_valid.specs.declared.resource.set.ResourceSet.{ResourceSet}

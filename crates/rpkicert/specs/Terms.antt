@@ -15,7 +15,7 @@ use Rattle.rpki_valid.specs.ErrorTexts.{not_inherited_text}
 use Rattle.rpkicert.specs.Fault.{bad_text}
 use Rattle.rpki_valid.specs.Valid.{HasReason, IsPeriodError, Unless, IsSignedBy, IsIssued, IsUnissued}
 use Rattle.rpki_contents.specs.Manifest.{ManifestParts, period_of}
-use Rattle.rpki_objects.specs.Crl.{CrlParts}
+use Rattle.rpki_crl.specs.Crl.{CrlParts}
 use Rattle.rpki_valid.specs.ObjectResources.{AreInherited}
 use Rattle.rpki_valid.specs.ObjectVerified.{IsSignedObject, IsUnsignedObject}
 use Rattle.rpki_valid.specs.Processed.{KeepsOwnOriginRules, IsOwnOriginError, KeepsOwnAspaRules, IsOwnAspaError}

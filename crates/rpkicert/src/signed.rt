@@ -12,7 +12,7 @@ use rpki::crypto::PublicKey;
 use rpki::repository::error::ValidationError;
 use rpki_cert::{Cert, TbsCert};
 use rpki_digests::RsaProvider;
-use rpki_objects::Crl;
+use rpki_crl::Crl;
 use rpki_valid::{unverified, verify_signature};
 
 /// What signatures are verified with, and digests made.

@@ -22,7 +22,7 @@ use rpki::repository::error::ValidationError;
 use rpki::repository::x509::{Time, Validity};
 use rpki_cert::{Cert, TbsCert};
 use rpki_fields::Object;
-use rpki_objects::Crl;
+use rpki_crl::Crl;
 use rpki_valid::{unverified, verify_issued, verify_period};
 use std::alloc::Global;
 

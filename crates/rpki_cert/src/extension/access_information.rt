@@ -9,7 +9,7 @@ ghost use Rattle.rpki_der.specs.Leaves.{IsOidOf};
 ghost use Rattle.rpki_der.specs.Parts.{Then};
 ghost use Rattle.rpki_der.specs.Values.{SpellsLeaf};
 ghost use Rattle.rpki_der.specs.Each.{SpellsSome};
-ghost use Rattle.rpki_cert.specs.InPlace.{Gives, GivesAll};
+ghost use Rattle.rpki_x509.specs.InPlace.{Gives, GivesAll};
 ghost use Rattle.rpki_cert.specs.GeneralName.{SpellsName};
 ghost use Rattle.rpki_cert.specs.Access.{Through, first_rsync, first_https, chosen, SpellsDescription, SpellsAccess};
 ghost use Rattle.rpki_cert.specs.AccessInformation.{access_parts, parts_of, joined, uri_at, obeyed};
@@ -18,10 +18,10 @@ use crate::extension::access_method::AccessMethod;
 use crate::extension::access_rule::AccessRule;
 use crate::extension::access_view::rsync_in;
 use crate::extension::general_name::take_name;
-use crate::read::part::inside;
 use rpki::der::{ConstOid, Constructed, DecodeError, Oid, Tag};
 use rpki::oid;
 use rpki::uri::HttpsView;
+use rpki_x509::inside;
 
 /// What access descriptions tell: of each method the first URI, and which rules all of them obey.
 #[derive(Clone, Copy)]

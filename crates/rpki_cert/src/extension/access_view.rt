@@ -4,13 +4,13 @@ ghost use Rattle.std.specs.Prelude.{◌≡◌, ◌≢◌, ◌∷◌, [], IfErr};
 ghost use Rattle.std.specs.Option.{option_copied};
 ghost use Rattle.rpki_der.specs.Cursor.{left};
 ghost use Rattle.rpki_der.specs.Each.{SpellsSome};
-ghost use Rattle.rpki_cert.specs.InPlace.{Gives, GivesAll};
+ghost use Rattle.rpki_x509.specs.InPlace.{Gives, GivesAll};
 ghost use Rattle.rpki_cert.specs.Access.{Through, SpellsUri, first_rsync, SpellsPointName, SpellsPoints};
 
 use crate::extension::general_name::take_text;
-use crate::read::part::inside;
 use rpki::der::{Class, Constructed, DecodeError, Tag};
 use rpki::uri::RsyncView;
+use rpki_x509::inside;
 
 /// The text of a general name that is a URI.
 fn take_uri<'a>(cons: &mut Constructed<'a>) -> Result<Option<&'a [u8]>, DecodeError>

@@ -5,17 +5,17 @@ ghost use Rattle.rpki_der.specs.Cursor.{left};
 ghost use Rattle.rpki_der.specs.Reading.{Reads};
 ghost use Rattle.rpki_der.specs.Format.{Format, Takes};
 ghost use Rattle.rpki_der.specs.declared.error.DecodeError.TheVariants.{OutOfMemory};
-ghost use Rattle.rpki_cert.specs.ExtensionContent.{SpellsConstraints, SpellsTagged, SpellsAuthority};
-ghost use Rattle.rpki_cert.specs.ExtensionContent.{authority_content, constraints_content, tagged_identifier};
+ghost use Rattle.rpki_cert.specs.ExtensionContent.{SpellsConstraints, constraints_content};
+ghost use Rattle.rpki_x509.specs.Authority.{authority_content};
 ghost use Rattle.rpki_cert.specs.ExtensionContent.{policies_content, subject_content, usage_content};
 ghost use Rattle.rpki_cert.specs.ContentLaws.{constraints-never, authority-never, subject-never, usage-never};
 ghost use Rattle.rpki_cert.specs.ContentLaws.{policies-never};
 
 use crate::extension::key_usage::KeyUsage;
 use crate::extension::policy::Overclaim;
-use crate::read::part::skip_primitive;
 use rpki::crypto::KeyIdentifier;
-use rpki::der::{Class, Constructed, DecodeError, Tag};
+use rpki::der::{Constructed, DecodeError, Tag};
+use rpki_x509::{skip_primitive, take_authority};
 
 /// What the octets of an extension are: one value, and nothing else.
 ///
@@ -46,28 +46,6 @@ fn skip_constraints(cons: &mut Constructed<'_>) -> Result<(), DecodeError>
     ensures { Reads (λ _. tt) SpellsConstraints constraints_content.fault (left cons.old) (left cons.new) result }
 {
     cons.in_sequence(|contents| skip_primitive(contents, Tag::BOOLEAN, &[0xff]))
-}
-
-/// A key identifier under the tag 0.
-fn take_tagged(cons: &mut Constructed<'_>) -> Result<KeyIdentifier, DecodeError>
-    ensures { Reads (λ k. k) SpellsTagged tagged_identifier.fault (left cons.old) (left cons.new) result }
-{
-    let mut after = *cons;
-    let octets = after.take_primitive_if(Tag::new(Class::Context, 0))?;
-    match KeyIdentifier::try_from(octets) {
-        Ok(identifier) => {
-            *cons = after;
-            Ok(identifier)
-        }
-        Err(_) => Err(DecodeError::content("invalid key identifier")),
-    }
-}
-
-/// The identifier of an issuer's key: a SEQUENCE of it alone, under the tag 0 (RFC 6487 4.8.3).
-pub fn take_authority(cons: &mut Constructed<'_>) -> Result<KeyIdentifier, DecodeError>
-    ensures { Reads (λ k. k) SpellsAuthority authority_content.fault (left cons.old) (left cons.new) result }
-{
-    cons.in_sequence(|contents| take_tagged(contents))
 }
 
 /// The basic constraints of a certification authority (RFC 6487 4.8.1).

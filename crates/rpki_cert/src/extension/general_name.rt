@@ -9,9 +9,9 @@ ghost use Rattle.rpki.specs.Name.{IsName};
 ghost use Rattle.rpki_cert.specs.GeneralName.{SpellsText, IsTextFault, IsPlainName, IsBuiltName, IsOtherName};
 ghost use Rattle.rpki_cert.specs.GeneralName.{SpellsName, IsNameFault};
 
-use crate::read::nested::are_values;
 use rpki::der::{Class, Constructed, Content, DecodeError, Oid, Tag};
 use rpki::repository::x509::NameView;
+use rpki_x509::are_values;
 
 /// Whether these are contents of a primitive name of this tag that is no URI: an IA5String under the tags 1 and 2, an
 /// address under 7, an object identifier under 8.

@@ -13,8 +13,8 @@ ghost use Rattle.rpki_cert.specs.ExtensionContent.{ArePolicyParts, SpellsPolicy,
 ghost use Rattle.rpki_cert.specs.ExtensionContent.{optional_qualifiers, policies_content, policy_value, policy_name};
 ghost use Rattle.rpki_cert.specs.ExtensionContent.{policy_parts, qualifier_value, qualifier_parts, qualifiers_value};
 
-use crate::read::part::skip_primitive;
 use rpki::der::{Constructed, DecodeError, Tag};
+use rpki_x509::skip_primitive;
 
 /// What is done where a certificate claims resources that its issuer's hasn't, as its policy says (RFC 8360 4).
 #[derive(Clone, Copy, Debug, PartialEq, Eq)]

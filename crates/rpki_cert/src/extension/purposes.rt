@@ -2,12 +2,13 @@
 
 ghost use Rattle.std.specs.Prelude.{◌≡◌, ◌≢◌, ◌||◌, IfErr};
 ghost use Rattle.rpki_der.specs.Cursor.{left};
-ghost use Rattle.rpki_cert.specs.InPlace.{GivesAll};
+ghost use Rattle.rpki_x509.specs.InPlace.{GivesAll};
 ghost use Rattle.rpki_cert.specs.ExtensionContent.{ArePurposes, SpellsPurposes};
 
-use crate::read::part::{inside, take_oid_as};
+use crate::read::part::take_oid_as;
 use rpki::der::{Constructed, DecodeError, Tag};
 use rpki::oid;
+use rpki_x509::inside;
 
 /// Whether one of the two is true.
 fn is_either(one: bool, other: bool) -> bool

@@ -11,7 +11,8 @@ ghost use Rattle.rpki.specs.ExtensionValue.{ExtensionParts};
 ghost use Rattle.rpki_cert.specs.Cert.{TbsParts, find};
 ghost use Rattle.rpki_cert.specs.ExtensionTable.{identifier_of};
 ghost use Rattle.rpki_cert.specs.Known.{certificate_policies, Says};
-ghost use Rattle.rpki_cert.specs.ExtensionContent.{SpellsConstraints, SpellsUsage, SpellsPurposes, WholeFault};
+ghost use Rattle.rpki_cert.specs.ExtensionContent.{SpellsConstraints, SpellsUsage, SpellsPurposes};
+ghost use Rattle.rpki_x509.specs.Authority.{WholeFault};
 ghost use Rattle.rpki_cert.specs.ExtensionContent.{constraints_content, usage_content};
 ghost use Rattle.rpki_cert.specs.Access.{SpellsPoints, SpellsHeldAccess};
 ghost use Rattle.rpki_cert.specs.AccessInformation.{SpellsUriOf, IsTold};
@@ -42,11 +43,11 @@ use crate::profile::inspected::Inspected;
 use crate::profile::key_rule::KeyBits;
 use crate::profile::name_values::ValueRule;
 use crate::profile::rule::CertRule;
-use crate::read::part::are_same;
 use crate::resource::extensions::{are_own, are_well_formed};
 use rpki::crypto::KeyIdentifier;
 use rpki::repository::error::ValidationError;
 use rpki::repository::x509::{ExtensionView, NameView, Serial, Validity};
+use rpki_x509::are_same;
 
 /// The error of a certificate that breaks the rule.
 fn rejected(rule: CertRule) -> ValidationError

@@ -8,9 +8,9 @@ ghost use Rattle.rpki.specs.PublicKey.{key_of};
 ghost use Rattle.rpki_der.specs.Leaves.{bits_of};
 ghost use Rattle.rpki_cert.specs.Keys.{IsModulus, SpellsExponent, AreRsaParts, SpellsRsaKey, IsRpkiKey, IsRouterKey};
 
-use crate::read::part::{inside, skip_primitive};
 use rpki::crypto::PublicKeyFormat;
 use rpki::der::{Constructed, Tag, Unsigned};
+use rpki_x509::{inside, skip_primitive};
 
 /// A key: its format, how many bits of its last octet are unused, and its octets.
 #[derive(Clone, Copy)]

@@ -11,12 +11,11 @@ use crate::extension::table::ExtensionTable;
 use crate::read::cert_error::CertError;
 use crate::read::cert_part::CertPart;
 use crate::read::listed::read_extensions;
-use crate::read::names::take_name;
-use crate::read::part::inside;
 use crate::read::version::skip_version;
 use rpki::crypto::{PublicKeyView, RpkiSignatureAlgorithm, SignatureAlgorithm};
 use rpki::der::{Constructed, Section, Tag};
 use rpki::repository::x509::{Serial, Validity};
+use rpki_x509::{inside, take_name};
 use std::alloc::Global;
 
 /// The subject's key, and the extensions.

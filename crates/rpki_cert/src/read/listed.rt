@@ -10,9 +10,9 @@ ghost use Rattle.rpki_cert.specs.View.{AreExtensionsAt};
 use crate::extension::table::{ExtensionTable, pass};
 use crate::read::cert_error::CertError;
 use crate::read::cert_part::CertPart;
-use crate::read::part::inside;
 use rpki::der::{Class, Constructed, DecodeError, Oid, Tag};
 use rpki::repository::x509::ExtensionView;
+use rpki_x509::inside;
 use std::alloc::Global;
 use std::collections::BTreeSet;
 

@@ -5,8 +5,8 @@ ghost use Rattle.rpki_der.specs.Reading.{Reads};
 ghost use Rattle.rpki_cert.specs.Cert.{SpellsVersion};
 ghost use Rattle.rpki_cert.specs.Cert.{version};
 
-use crate::read::part::skip_primitive;
 use rpki::der::{Class, Constructed, DecodeError, Tag};
+use rpki_x509::skip_primitive;
 
 /// Moves past the version of a certificate, which is v3(2), under the explicit tag 0 (RFC 5280 4.1.2.1).
 ///

@@ -3,33 +3,21 @@
 ghost use Rattle.std.specs.Prelude.{◌≡◌, ◌<◌, ◌++◌, IfOk, IfErr, is_some, length};
 ghost use Rattle.rpki_der.specs.Cursor.{left};
 ghost use Rattle.rpki_cert.specs.Cert.{CertParts, SpellsCert};
-ghost use Rattle.rpki_cert.specs.InPlace.{GivesAll};
-ghost use Rattle.rpki_cert.specs.View.{most_extensions, SpellsUsed, IsSignatureFault, ArePartsBehind};
-ghost use Rattle.rpki_cert.specs.View.{AreBehindWrong, AreContentsOf, AreContentsWrong, IsWrongBehind, IsCertAt};
+ghost use Rattle.rpki_x509.specs.InPlace.{GivesAll};
+ghost use Rattle.rpki_cert.specs.View.{most_extensions};
+ghost use Rattle.rpki_x509.specs.Signed.{SpellsUsed, IsSignatureFault};
+ghost use Rattle.rpki_x509.specs.SignedParts.{ArePartsBehind};
+ghost use Rattle.rpki_cert.specs.View.{of_signed, AreContentsOf, AreContentsWrong, IsWrongBehind, IsCertAt};
 ghost use Rattle.rpki_cert.specs.View.{IsCertError};
 
-use crate::cert::is_same;
 use crate::read::cert_error::CertError;
 use crate::read::cert_part::CertPart;
 use crate::read::fields::{TbsView, read_tbs};
-use crate::read::nested::{is_value, take_headed, value_fault};
-use crate::read::part::inside;
-use rpki::crypto::{RpkiSignatureAlgorithm, SignatureAlgorithm};
-use rpki::der::{Constructed, DecodeError, Section, Tag};
+use rpki::der::{Constructed, DecodeError, Tag};
+use rpki_x509::{
+    Parts, SignedError, SignedPart, inside, is_same, is_value, read_parts, take_headed, value_fault,
+};
 use std::alloc::Global;
-
-/// The parts of signed data.
-#[derive(Clone, Copy)]
-pub struct Parts<'a> {
-    /// The value that is signed.
-    pub data: Section<'a>,
-    /// The algorithm.
-    pub kind: RpkiSignatureAlgorithm,
-    /// The octets of the algorithm identifier.
-    pub algorithm: Section<'a>,
-    /// The octets of the signature.
-    pub signature: Section<'a>,
-}
 
 /// A certificate whose parts are borrowed from the octets that it was read from.
 #[derive(Drop)]
@@ -40,62 +28,17 @@ pub struct CertView<'a> {
     pub tbs: TbsView<'a>,
 }
 
-/// The octets of the signature that is the whole rest, and of which no bit is unused.
-///
-/// The errors are those of a BIT STRING; then `Trailing` if something follows it; then `Content` with the text
-/// `signature has unused bits`.
-fn read_signature<'a>(rest: Constructed<'a>) -> Result<&'a [u8], DecodeError>
-    ensures gives { GivesAll (λ v. v.now) SpellsUsed (left rest.entry) result }
-    ensures fault { IfErr result (λ e. IsSignatureFault (left rest.entry) e) }
+/// The error of a certificate whose signed data has this one.
+fn of_signed(wrong: SignedError) -> CertError
+    ensures { result ≡ of_signed wrong }
 {
-    let mut after = rest;
-    match after.take_bits() {
-        Ok(bits) => {
-            if !after.is_empty() {
-                return Err(DecodeError::Trailing);
-            }
-            if bits.unused() > 0 {
-                return Err(DecodeError::content("signature has unused bits"));
-            }
-            Ok(bits.octet_slice())
-        }
-        Err(e) => Err(e),
-    }
-}
-
-/// The parts of signed data: what is signed, and what follows it, which is all of these contents.
-pub fn read_parts<'a>(signed: &'a [u8], behind: Constructed<'a>) -> Result<Parts<'a>, CertError>
-    ensures signed { IfOk result (λ v. v.«data».octets.now ≡ signed.now) }
-    ensures ok { IfOk result (λ v. ArePartsBehind signed.now (left behind.entry) v) }
-    ensures err { IfErr result (λ q. AreBehindWrong (left behind.entry) q) }
-{
-    let octets = behind.rest();
-    let mut rest = behind;
-    let kind = match RpkiSignatureAlgorithm::x509_take_from(&mut rest) {
-        Ok(kind) => kind,
-        Err(e) => return Err(CertError {
-            part: CertPart::Algorithm,
-            error: e,
-        }),
+    let part = match wrong.part {
+        SignedPart::Algorithm => CertPart::Algorithm,
+        SignedPart::Signature => CertPart::Signature,
     };
-    let last = rest.rest();
-    match read_signature(rest) {
-        Ok(signature) => Ok(Parts {
-            data: Section {
-                octets: signed,
-                following: octets.len(),
-            },
-            kind,
-            algorithm: Section::before(octets, last),
-            signature: Section {
-                octets: signature,
-                following: 0,
-            },
-        }),
-        Err(e) => Err(CertError {
-            part: CertPart::Signature,
-            error: e,
-        }),
+    CertError {
+        part,
+        error: wrong.error,
     }
 }
 
@@ -111,7 +54,7 @@ fn read_behind<'a>(
 {
     let parts = match read_parts(signed, behind) {
         Ok(parts) => parts,
-        Err(wrong) => return Err(wrong),
+        Err(wrong) => return Err(of_signed(wrong)),
     };
     match read_tbs(room, Constructed::from_slice(signed)) {
         Ok(tbs) => {

@@ -142,7 +142,7 @@ fn is_own(choice: &ChoiceView<'_>) -> bool
 }
 
 /// Whether no addresses are those of the issuer.
-fn are_own_addresses(found: Option<IpResourcesView<'_>>) -> bool
+pub fn are_own_addresses(found: Option<IpResourcesView<'_>>) -> bool
     ensures { result ≡ are_own_addresses found.entry }
 {
     match found {
@@ -152,7 +152,7 @@ fn are_own_addresses(found: Option<IpResourcesView<'_>>) -> bool
 }
 
 /// Whether no numbers are those of the issuer.
-fn are_own_numbers(found: Option<ChoiceView<'_>>) -> bool
+pub fn are_own_numbers(found: Option<ChoiceView<'_>>) -> bool
     ensures { result ≡ are_own_numbers found.entry }
 {
     match found {

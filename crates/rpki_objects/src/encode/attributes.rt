@@ -1,7 +1,7 @@
 //! Signed attributes as they are written and signed (RFC 5652 5.3, 5.4; RFC 6488 2.1.6.4).
 
 ghost use Rattle.std.specs.Prelude.{◌≡◌, ◌<◌, ◌≤◌, ◌+◌, ◌^◌, ◌↔◌, IsTrue, IsSome, IfSome, length};
-ghost use Rattle.rpki_contents.specs.Listed.{listed_octets};
+ghost use Rattle.rpki_der.specs.Listed.{listed_octets};
 ghost use Rattle.rpki_objects.specs.SignedAttributes.{values_known, message_of};
 ghost use Rattle.rpki_objects.specs.EncodedAttributes.{attribute_octets, type_attribute, digest_attribute};
 ghost use Rattle.rpki_objects.specs.EncodedAttributes.{time_attribute, binary_attribute, digest_alone, time_and_digest};
@@ -9,12 +9,12 @@ ghost use Rattle.rpki_objects.specs.EncodedAttributes.{placed_where, attributes_
 ghost use Rattle.rpki_objects.specs.EncodedAttributes.{attributes_octets, message_octets, CanWriteType};
 ghost use Rattle.rpki_objects.specs.EncodedAttributes.{CanWriteAttributes, IsYearIn, IsFewIn, AreReadBack};
 
-use super::frame::ContextZeroFrame;
 use crate::known_attributes::KnownAttributes;
 use rpki::der::{Around, ConstOid, Oid, Primitive, PrimitiveContent, Sequence, Set, Values};
 use rpki::oid;
 use rpki::repository::x509::{Serial, Time, VariedTime};
 use rpki_contents::MessageDigest;
+use rpki_x509::ContextZeroFrame;
 use std::io;
 use std::io::Write;
 use std::marker::Model;

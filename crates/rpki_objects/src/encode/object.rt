@@ -8,7 +8,6 @@ ghost use Rattle.rpki_objects.specs.EncodedObject.{data_contents, object_octets,
 ghost use Rattle.rpki_objects.specs.EncodedObject.{IsObjectReadBack};
 
 use super::attributes::{AttributesBuilder, SignedAttrsEncoder};
-use super::frame::ContextZeroFrame;
 use crate::known_attributes::KnownAttributes;
 use rpki::crypto::{DigestAlgorithm, KeyIdentifier, RpkiSignatureAlgorithm, SignatureAlgorithm};
 use rpki::der::{
@@ -16,6 +15,7 @@ use rpki::der::{
 };
 use rpki::oid;
 use rpki::repository::x509::Serial;
+use rpki_x509::ContextZeroFrame;
 use std::io;
 use std::io::Write;
 use std::marker::Model;

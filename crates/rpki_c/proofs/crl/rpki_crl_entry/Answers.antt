@@ -1,6 +1,6 @@
 use Rattle.std.proofs.Common.{inl, inr, refl}
-use Rattle.rpki_objects.specs.Crl.{entry, entry_of}
-use Rattle.rpki_objects.proofs.EntriesLaws.{entry-no-memory}
+use Rattle.rpki_crl.specs.Crl.{entry, entry_of}
+use Rattle.rpki_crl.proofs.EntriesLaws.{entry-no-memory}
 use Rattle.rpki_c.proofs.MomentLaws.{moment}
 use Rattle.rpki_c.proofs.RefusedLaws.{front-refused}
 use Rattle.rpki_c.proofs.crl.rpki_crl_entry.Goals as goal

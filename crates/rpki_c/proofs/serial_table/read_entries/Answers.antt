@@ -1,8 +1,8 @@
 use Rattle.std.proofs.Common.{rules}
 use Rattle.rpki_der.proofs.FoldLaws.{takes-fold}
-use Rattle.rpki_objects.specs.Crl.{entry}
-use Rattle.rpki_objects.specs.CrlView.{Keeps}
-use Rattle.rpki_objects.proofs.EntriesLaws.{nowhere}
+use Rattle.rpki_crl.specs.Crl.{entry}
+use Rattle.rpki_crl.specs.CrlView.{Keeps}
+use Rattle.rpki_crl.proofs.EntriesLaws.{nowhere}
 use Rattle.rpki_c.proofs.SerialTableLaws.{entries-read}
 use Rattle.rpki_c.proofs.serial_table.read_entries.Goals as goal
 

@@ -2,8 +2,8 @@ use Rattle.std.proofs.Common.{◌≢◌, [], subst}
 use Rattle.std.proofs.lemmas.Bool.{iff_false}
 use Rattle.rpki_der.specs.Cursor.{left}
 use Rattle.rpki_der.proofs.InsideLaws.{unless-memory}
-use Rattle.rpki_objects.specs.Crl.{entry, entry_of}
-use Rattle.rpki_objects.proofs.EntriesLaws.{entry-no-memory}
+use Rattle.rpki_crl.specs.Crl.{entry, entry_of}
+use Rattle.rpki_crl.proofs.EntriesLaws.{entry-no-memory}
 use Rattle.rpki_c.proofs.SerialTableLaws.{writing-none, writing-next, writing-refused, writing-all, shorter}
 use Rattle.rpki_c.proofs.serial_table.write_serials.Goals as goal
 

@@ -1,7 +1,7 @@
 use Rattle.std.proofs.Common.{arith}
 use Rattle.std.proofs.lemmas.Result.{err_from_is_err_and}
 use Rattle.rpki_der.proofs.WritingLaws.{all-but-then}
-use Rattle.rpki_contents.proofs.ListedLaws.{beginning-left}
+use Rattle.rpki_der.proofs.ListedLaws.{beginning-left}
 use Rattle.rpki_contents.proofs.RoaWritingLaws.{prefix-few, first-fits, first-octets}
 use Rattle.rpki_contents.proofs.roa_encoder.write_prefixes.Goals as goal
 

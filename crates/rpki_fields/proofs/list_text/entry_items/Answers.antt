@@ -1,4 +1,4 @@
-use Rattle.rpki_objects.specs.Crl.{entry_of}
+use Rattle.rpki_crl.specs.Crl.{entry_of}
 use Rattle.rpki_fields.specs.ListText.{IsEntryItem}
 use Rattle.rpki_fields.proofs.EachIsLaws.{each-taken}
 use Rattle.rpki_fields.proofs.list_text.entry_items.Goals as goal

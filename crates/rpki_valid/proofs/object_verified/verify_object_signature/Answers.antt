@@ -1,4 +1,4 @@
-use Rattle.rpki_cert.proofs.TriedLaws.{tried-fault}
+use Rattle.rpki_x509.proofs.TriedLaws.{tried-fault}
 use Rattle.rpki_valid.proofs.ObjectVerifiedLaws.{other-type, other-digest, other-key, asked-last}
 use Rattle.rpki_valid.proofs.object_verified.verify_object_signature.Goals as goal
 

@@ -1,7 +1,7 @@
 use Rattle.rpki_cert.specs.declared.profile.Profile.TheVariants.{Ta}
 use Rattle.rpki_valid.specs.Verified.{checkers_of, terms_of}
 use Rattle.rpki_cert.proofs.RuleLaws.{has-policy, has-own}
-use Rattle.rpki_cert.proofs.TriedLaws.{tried-fault}
+use Rattle.rpki_x509.proofs.TriedLaws.{tried-fault}
 use Rattle.rpki_valid.proofs.VerifiedLaws.{root-settles, root-else, root-off, root-other-key}
 use Rattle.rpki_valid.proofs.verified.check_ta.Goals as goal
 

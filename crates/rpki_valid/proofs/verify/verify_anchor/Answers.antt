@@ -1,5 +1,5 @@
 use Rattle.std.proofs.Common.{inl}
-use Rattle.rpki_cert.proofs.TriedLaws.{tried-fault}
+use Rattle.rpki_x509.proofs.TriedLaws.{tried-fault}
 use Rattle.rpki_valid.proofs.verify.verify_anchor.Goals as goal
 
 pub returns-in_err-verify_signed : goal.returns-in_err-verify_signed

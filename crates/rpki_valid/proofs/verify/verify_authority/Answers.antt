@@ -1,12 +1,12 @@
 use Rattle.std.proofs.Common.{Some, false, sym}
-use Rattle.rpki_cert.specs.ExtensionContent.{SpellsAuthority}
+use Rattle.rpki_x509.specs.Authority.{SpellsAuthority}
 use Rattle.rpki_cert.specs.Cert.{find}
-use Rattle.rpki_cert.specs.Known.{authority_key_identifier}
+use Rattle.rpki_x509.specs.Authority.{authority_key_identifier}
 use Rattle.rpki_valid.specs.Valid.{HasReason}
-use Rattle.rpki_cert.proofs.SomeLaws.{not-true}
+use Rattle.rpki_x509.proofs.WholeLaws.{not-true}
 use Rattle.rpki_cert.proofs.ProfileLaws.{says-other, says-wrong}
 use Rattle.rpki_valid.proofs.verify.verify_authority.Goals as goal
-use Rattle.rpki_cert.specs.ExtensionContent.{WholeFault, authority_content}
+use Rattle.rpki_x509.specs.Authority.{WholeFault, authority_content}
 use Rattle.rpki_valid.specs.ErrorTexts.{authority_text}
 
 pub returns-else-is_identifier : goal.returns-else-is_identifier

@@ -3,10 +3,11 @@ use Rattle.rpki.specs.KeyIdentifier.{SpellsKeyIdentifier}
 use Rattle.rpki_cert.specs.Cert.{find}
 use Rattle.rpki_cert.specs.Known.{subject_key_identifier}
 use Rattle.rpki_valid.specs.Valid.{HasReason}
-use Rattle.rpki_cert.proofs.SomeLaws.{not-true}
+use Rattle.rpki_x509.proofs.WholeLaws.{not-true}
 use Rattle.rpki_cert.proofs.ProfileLaws.{says-other, says-wrong}
 use Rattle.rpki_valid.proofs.verify.verify_subject.Goals as goal
-use Rattle.rpki_cert.specs.ExtensionContent.{WholeFault, subject_content}
+use Rattle.rpki_x509.specs.Authority.{WholeFault}
+use Rattle.rpki_cert.specs.ExtensionContent.{subject_content}
 use Rattle.rpki_valid.specs.ErrorTexts.{subject_text}
 
 pub returns-else-is_identifier : goal.returns-else-is_identifier

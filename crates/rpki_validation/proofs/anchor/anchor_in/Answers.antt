@@ -1,4 +1,4 @@
-use Rattle.rpki_cert.proofs.TriedLaws.{tried-fault}
+use Rattle.rpki_x509.proofs.TriedLaws.{tried-fault}
 use Rattle.rpki_valid.specs.Verified.{terms_in}
 use Rattle.rpki_validation.specs.Basis.{basis_by}
 use Rattle.rpki_validation.proofs.AnchorLaws.{anchor-found, anchor-malformed, anchor-refused}

@@ -1,4 +1,4 @@
-use Rattle.rpki_cert.proofs.TriedLaws.{tried-fault}
+use Rattle.rpki_x509.proofs.TriedLaws.{tried-fault}
 use Rattle.rpki_validation.proofs.FindingLaws.{stops-malformed-cert}
 use Rattle.rpki_validation.proofs.issued.cert_in.Goals as goal
 

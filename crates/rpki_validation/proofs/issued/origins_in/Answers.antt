@@ -1,4 +1,4 @@
-use Rattle.rpki_cert.proofs.TriedLaws.{tried-fault}
+use Rattle.rpki_x509.proofs.TriedLaws.{tried-fault}
 use Rattle.rpki_objects.specs.TypedObject.{origin_object}
 use Rattle.rpki_valid.specs.Processed.{KeepsOriginRules, BreaksOriginRules}
 use Rattle.rpki_valid.specs.Verified.{verified_by}

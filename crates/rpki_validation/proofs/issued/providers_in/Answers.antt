@@ -1,4 +1,4 @@
-use Rattle.rpki_cert.proofs.TriedLaws.{tried-fault}
+use Rattle.rpki_x509.proofs.TriedLaws.{tried-fault}
 use Rattle.rpki_objects.specs.TypedObject.{aspa_object}
 use Rattle.rpki_valid.specs.Processed.{KeepsAspaRules, BreaksAspaRules}
 use Rattle.rpki_valid.specs.Verified.{verified_by}

@@ -1,5 +1,5 @@
 use Rattle.std.proofs.Common.{List, subst}
-use Rattle.rpki_cert.proofs.TriedLaws.{tried-fault}
+use Rattle.rpki_x509.proofs.TriedLaws.{tried-fault}
 use Rattle.rpki_contents.specs.ListedFile.{ListedFile}
 use Rattle.rpki_validation.proofs.FilesLaws.{IsUpTo, files-end, files-step, files-stop}
 use Rattle.rpki_validation.proofs.point.files_of.Goals as goal

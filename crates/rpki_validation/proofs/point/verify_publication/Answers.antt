@@ -1,4 +1,4 @@
-use Rattle.rpki_cert.proofs.TriedLaws.{tried-fault}
+use Rattle.rpki_x509.proofs.TriedLaws.{tried-fault}
 use Rattle.rpki_valid.specs.Verified.{verified_by}
 use Rattle.rpki_validation.proofs.StepLaws.{list-refused, manifest-refused, publication-holds}
 use Rattle.rpki_validation.proofs.point.verify_publication.Goals as goal

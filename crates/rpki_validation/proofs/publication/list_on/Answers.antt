@@ -1,5 +1,5 @@
 use Rattle.std.proofs.Common.{sym}
-use Rattle.rpki_cert.proofs.TriedLaws.{tried-fault}
+use Rattle.rpki_x509.proofs.TriedLaws.{tried-fault}
 use Rattle.rpki_validation.proofs.PublicationLaws.{list-found, no-list, none-listed, not-there}
 use Rattle.rpki_validation.proofs.publication.list_on.Goals as goal
 

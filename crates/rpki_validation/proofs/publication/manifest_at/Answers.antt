@@ -1,5 +1,5 @@
 use Rattle.std.proofs.Common.{◌∙◌, sym}
-use Rattle.rpki_cert.proofs.TriedLaws.{tried-fault}
+use Rattle.rpki_x509.proofs.TriedLaws.{tried-fault}
 use Rattle.rpki_text.specs.RsyncText.{uri_of}
 use Rattle.rpki_objects.specs.TypedObject.{manifest_object}
 use Rattle.rpki_validation.proofs.PublicationLaws.{value-found, value-malformed}

@@ -1,4 +1,4 @@
-use Rattle.rpki_cert.proofs.TriedLaws.{tried-fault}
+use Rattle.rpki_x509.proofs.TriedLaws.{tried-fault}
 use Rattle.std.proofs.Common.{◌∙◌, List, [], ◌∷◌, ap, refl, subst, sym}
 use Rattle.rpki_cert.specs.Cert.{CertParts}
 use Rattle.rpki_valid.specs.CrlIssued.{CountsAt}

@@ -1,5 +1,5 @@
 use Rattle.std.proofs.Common.{◌∙◌, List, [], ◌∷◌, ap, refl, subst, sym}
-use Rattle.rpki_cert.proofs.TriedLaws.{tried-fault}
+use Rattle.rpki_x509.proofs.TriedLaws.{tried-fault}
 use Rattle.rpki_cert.specs.Cert.{CertParts}
 use Rattle.rpki_contents.specs.Aspa.{AspaParts}
 use Rattle.rpki_objects.specs.SignedObject.{ObjectParts}

@@ -9,7 +9,7 @@ use Rattle.rpki_cert.specs.GeneralName.{SpellsName}
 use Rattle.rpki_cert.proofs.AccessLaws.{pair-first, pair-second, pair-more, pair-all}
 use Rattle.rpki_cert.proofs.GeneralNameLaws.{name-refused}
 use Rattle.rpki_cert.proofs.InformationLaws.{identifier-refused}
-use Rattle.rpki_cert.proofs.TriedLaws.{tried-all}
+use Rattle.rpki_x509.proofs.TriedLaws.{tried-all}
 use Rattle.rpki_cert.proofs.extension.access_information.description_in.Goals as goal
 
 pub returns-in_err-method-clause-gives : goal.returns-in_err-method-clause-gives

@@ -14,7 +14,7 @@ use Rattle.rpki_cert.specs.Access.{Through, SpellsDescription}
 use Rattle.rpki_cert.specs.AccessInformation.{access_parts, joined, parts_of}
 use Rattle.rpki_cert.proofs.GatherLaws.{gathers-all, gathers-on, gathers-none, gathers-end, gathers-nothing}
 use Rattle.rpki_cert.proofs.InformationLaws.{kept, next-told, none-told, all-told}
-use Rattle.rpki_cert.proofs.TriedLaws.{tried-all}
+use Rattle.rpki_x509.proofs.TriedLaws.{tried-all}
 use Rattle.rpki_cert.proofs.extension.access_information.gather.Goals as goal
 
 pub returns-then-is_empty-clause-gives : goal.returns-then-is_empty-clause-gives

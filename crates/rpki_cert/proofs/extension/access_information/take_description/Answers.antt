@@ -7,8 +7,8 @@ use Rattle.rpki_der.specs.Values.{SpellsLeaf}
 use Rattle.rpki_cert.specs.GeneralName.{SpellsName}
 use Rattle.rpki_cert.specs.Access.{SpellsDescription}
 use Rattle.rpki_cert.proofs.GatherLaws.{leaf-gives}
-use Rattle.rpki_cert.proofs.NameViewLaws.{leaf-missing}
-use Rattle.rpki_cert.proofs.TriedLaws.{tried-gives}
+use Rattle.rpki_x509.proofs.NameViewLaws.{leaf-missing}
+use Rattle.rpki_x509.proofs.TriedLaws.{tried-gives}
 use Rattle.rpki_cert.proofs.extension.access_information.take_description.Goals as goal
 
 pub returns-in_err-contents-clause-gives : goal.returns-in_err-contents-clause-gives

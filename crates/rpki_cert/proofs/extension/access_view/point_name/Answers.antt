@@ -3,7 +3,7 @@ use Rattle.std.specs.Option.{option_copied}
 use Rattle.rpki_der.specs.Each.{SpellsSome}
 use Rattle.rpki_cert.specs.Access.{Through, first_rsync, SpellsUri, SpellsFullName, SpellsPointName, context_0}
 use Rattle.rpki_cert.proofs.GatherLaws.{leaf-all, leaf-none, leaf-nothing}
-use Rattle.rpki_cert.proofs.TriedLaws.{tried-all}
+use Rattle.rpki_x509.proofs.TriedLaws.{tried-all}
 use Rattle.rpki_cert.proofs.extension.access_view.point_name.Goals as goal
 
 pub returns-in_err-name-clause-gives : goal.returns-in_err-name-clause-gives

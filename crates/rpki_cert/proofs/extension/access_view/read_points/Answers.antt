@@ -3,7 +3,7 @@ use Rattle.std.specs.Option.{option_copied}
 use Rattle.rpki_der.specs.TagName.{sequence}
 use Rattle.rpki_cert.specs.Access.{SpellsPointName, SpellsPoint, SpellsPoints}
 use Rattle.rpki_cert.proofs.GatherLaws.{leaf-all, leaf-none, leaf-nothing}
-use Rattle.rpki_cert.proofs.TriedLaws.{tried-all}
+use Rattle.rpki_x509.proofs.TriedLaws.{tried-all}
 use Rattle.rpki_cert.proofs.extension.access_view.read_points.Goals as goal
 
 pub returns-in_err-points-clause-gives : goal.returns-in_err-points-clause-gives

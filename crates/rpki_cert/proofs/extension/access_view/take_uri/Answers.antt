@@ -4,7 +4,7 @@ use Rattle.std.specs.Option.{option_copied}
 use Rattle.rpki_cert.specs.GeneralName.{SpellsText}
 use Rattle.rpki_cert.specs.Access.{SpellsUri}
 use Rattle.rpki_cert.proofs.AccessLaws.{accepts-through, text-refused, uri-refused}
-use Rattle.rpki_cert.proofs.TriedLaws.{tried-gives}
+use Rattle.rpki_x509.proofs.TriedLaws.{tried-gives}
 use Rattle.rpki_cert.proofs.extension.access_view.take_uri.Goals as goal
 
 pub returns-in_err-text-clause-gives : goal.returns-in_err-text-clause-gives

@@ -6,7 +6,7 @@ use Rattle.rpki_der.specs.Each.{SpellsSome}
 use Rattle.rpki_cert.specs.Access.{Through, SpellsUri, first_rsync}
 use Rattle.rpki_cert.proofs.AccessLaws.{copied-or, or-none, next-rsync, uri-some, uri-shorter}
 use Rattle.rpki_cert.proofs.GatherLaws.{gathers-all, gathers-on, gathers-none, gathers-end, gathers-nothing}
-use Rattle.rpki_cert.proofs.TriedLaws.{tried-all}
+use Rattle.rpki_x509.proofs.TriedLaws.{tried-all}
 use Rattle.rpki_cert.proofs.extension.access_view.uris_in.Goals as goal
 
 pub returns-then-is_empty-clause-gives : goal.returns-then-is_empty-clause-gives

@@ -1,6 +1,6 @@
 use Rattle.std.proofs.lemmas.Bool.{false≢true}
 use Rattle.rpki_cert.proofs.GeneralNameLaws.{directory-there, directory-end, directory-none}
-use Rattle.rpki_cert.proofs.NameViewLaws.{name-refused}
+use Rattle.rpki_x509.proofs.NameViewLaws.{name-refused}
 use Rattle.rpki_cert.proofs.extension.general_name.is_directory_name.Goals as goal
 
 pub returns-in-Ok : goal.returns-in-Ok

@@ -9,7 +9,7 @@ use Rattle.rpki_cert.specs.ExtensionContent.{router_purpose, SpellsPurpose, AreP
 use Rattle.rpki_cert.specs.Access.{IsOidAs}
 use Rattle.rpki_cert.proofs.GatherLaws.{gathers-all, gathers-on, gathers-none, gathers-end, gathers-nothing}
 use Rattle.rpki_cert.proofs.AccessLaws.{oid-refused, or-joined, as-purposes, no-purposes}
-use Rattle.rpki_cert.proofs.TriedLaws.{tried-all}
+use Rattle.rpki_x509.proofs.TriedLaws.{tried-all}
 use Rattle.rpki_cert.proofs.extension.purposes.purposes_in.Goals as goal
 
 pub returns-then-is_empty-clause-gives : goal.returns-then-is_empty-clause-gives

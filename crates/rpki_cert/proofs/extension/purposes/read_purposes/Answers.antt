@@ -2,7 +2,7 @@ use Rattle.std.proofs.Common.{true}
 use Rattle.rpki_der.specs.TagName.{sequence}
 use Rattle.rpki_cert.specs.ExtensionContent.{ArePurposes, SpellsPurposes}
 use Rattle.rpki_cert.proofs.GatherLaws.{leaf-all, leaf-none}
-use Rattle.rpki_cert.proofs.TriedLaws.{tried-all}
+use Rattle.rpki_x509.proofs.TriedLaws.{tried-all}
 use Rattle.rpki_cert.proofs.extension.purposes.read_purposes.Goals as goal
 
 pub returns-in_err-contents-clause-gives : goal.returns-in_err-contents-clause-gives

@@ -7,7 +7,8 @@ use Rattle.rpki_der.specs.FirstFault.RepeatedFault.{AtMember}
 use Rattle.rpki_der.proofs.LeafValueLaws.{leaf-shorter}
 use Rattle.rpki.specs.ExtensionValue.{IsExtensionContents}
 use Rattle.rpki_cert.specs.Known.{is_known}
-use Rattle.rpki_cert.proofs.ListedLaws.{extension-refused, nothing-there, faults-all, faults-on}
+use Rattle.rpki_x509.proofs.FrameLaws.{extension-refused}
+use Rattle.rpki_cert.proofs.ListedLaws.{nothing-there, faults-all, faults-on}
 use Rattle.rpki_cert.proofs.TableLaws.{passing-all, passing-first, passing-again, passing-none, passing-table}
 use Rattle.rpki_cert.proofs.TableLaws.{passing-end, both-known, one-unknown, free-slot, full-slot}
 use Rattle.rpki_cert.proofs.extension.table.pass.Goals as goal

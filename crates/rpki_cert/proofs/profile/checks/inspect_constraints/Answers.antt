@@ -1,6 +1,7 @@
 use Rattle.std.proofs.Common.{Some, true}
 use Rattle.rpki_cert.specs.ExtensionContent.{SpellsConstraints}
-use Rattle.rpki_cert.specs.ExtensionContent.{WholeFault, constraints_content}
+use Rattle.rpki_x509.specs.Authority.{WholeFault}
+use Rattle.rpki_cert.specs.ExtensionContent.{constraints_content}
 use Rattle.rpki_cert.specs.declared.profile.rule.CertRule.TheVariants.{BasicConstraints}
 use Rattle.rpki_cert.proofs.ProfileLaws.{found-wrong}
 use Rattle.rpki_cert.proofs.profile.checks.inspect_constraints.Goals as goal

@@ -1,12 +1,12 @@
 use Rattle.std.proofs.Common.{◌≡◌, ℕ, List, Option, Some, None, false, subst, inl, inr}
-use Rattle.rpki_cert.specs.ExtensionContent.{SpellsAuthority}
+use Rattle.rpki_x509.specs.Authority.{SpellsAuthority}
 use Rattle.rpki_cert.specs.declared.profile.rule.CertRule.TheVariants.{OwnAuthority}
 use Rattle.std.proofs.lemmas.Bool.{iff_false}
 use Rattle.rpki.specs.KeyIdentifier.{SpellsKeyIdentifier}
 use Rattle.rpki_cert.specs.Known.{Says}
 use Rattle.rpki_cert.proofs.ProfileLaws.{found-other, found-wrong}
 use Rattle.rpki_cert.proofs.profile.checks.inspect_own_authority.Goals as goal
-use Rattle.rpki_cert.specs.ExtensionContent.{WholeFault, authority_content}
+use Rattle.rpki_x509.specs.Authority.{WholeFault, authority_content}
 
 pub returns-else-has_identifier : goal.returns-else-has_identifier
 returns-else-has_identifier c = λ found subject h k.

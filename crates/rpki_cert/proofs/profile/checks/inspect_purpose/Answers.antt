@@ -2,7 +2,7 @@ use Rattle.std.proofs.Common.{Some, true, false, sym}
 use Rattle.rpki_cert.specs.ExtensionContent.{SpellsPurposes}
 use Rattle.rpki_cert.specs.declared.profile.rule.CertRule.TheVariants.{RouterPurpose}
 use Rattle.rpki_der.specs.Reading.{AnyFault}
-use Rattle.rpki_cert.proofs.SomeLaws.{not-true}
+use Rattle.rpki_x509.proofs.WholeLaws.{not-true}
 use Rattle.rpki_cert.proofs.ProfileLaws.{found-other, found-wrong}
 use Rattle.rpki_cert.proofs.profile.checks.inspect_purpose.Goals as goal
 

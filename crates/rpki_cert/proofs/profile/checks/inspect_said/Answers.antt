@@ -1,5 +1,5 @@
 use Rattle.std.proofs.Common.{Some}
-use Rattle.rpki_cert.specs.ExtensionContent.{WholeFault}
+use Rattle.rpki_x509.specs.Authority.{WholeFault}
 use Rattle.rpki_cert.proofs.ProfileLaws.{found-wrong}
 use Rattle.rpki_cert.proofs.profile.checks.inspect_said.Goals as goal
 

@@ -1,9 +1,10 @@
 use Rattle.std.proofs.Common.{Some, true, sym}
 use Rattle.rpki_cert.specs.ExtensionContent.{SpellsUsage}
-use Rattle.rpki_cert.proofs.SomeLaws.{not-true}
+use Rattle.rpki_x509.proofs.WholeLaws.{not-true}
 use Rattle.rpki_cert.proofs.ProfileLaws.{found-other, found-wrong}
 use Rattle.rpki_cert.proofs.profile.checks.inspect_usage.Goals as goal
-use Rattle.rpki_cert.specs.ExtensionContent.{WholeFault, usage_content}
+use Rattle.rpki_x509.specs.Authority.{WholeFault}
+use Rattle.rpki_cert.specs.ExtensionContent.{usage_content}
 
 pub returns-else-is_there : goal.returns-else-is_there
 returns-else-is_there c = λ found h.

@@ -5,10 +5,11 @@ use Rattle.rpki_cert.specs.Cert.{find}
 use Rattle.rpki_cert.specs.Known.{certificate_policies}
 use Rattle.rpki_cert.specs.ExtensionContent.{SpellsPolicies}
 use Rattle.rpki_cert.specs.RuleWords.{is_of_version, HasOneVersion}
-use Rattle.rpki_cert.proofs.SomeLaws.{not-true}
+use Rattle.rpki_x509.proofs.WholeLaws.{not-true}
 use Rattle.rpki_cert.proofs.ProfileLaws.{found-other, found-wrong}
 use Rattle.rpki_cert.proofs.profile.checks.inspect_version.Goals as goal
-use Rattle.rpki_cert.specs.ExtensionContent.{WholeFault, policies_content}
+use Rattle.rpki_x509.specs.Authority.{WholeFault}
+use Rattle.rpki_cert.specs.ExtensionContent.{policies_content}
 
 pub returns-else-is_of_version : goal.returns-else-is_of_version
 returns-else-is_of_version c = λ xs h k.

@@ -5,7 +5,7 @@ use Rattle.rpki_der.specs.Leaves.{IsOnly}
 use Rattle.rpki_der.proofs.LeavesLaws.{leaf-no-memory}
 use Rattle.rpki_der.proofs.InsideLaws.{unless-memory}
 use Rattle.rpki_cert.specs.Keys.{exponent, SpellsExponent}
-use Rattle.rpki_cert.proofs.NameViewLaws.{whole-there, whole-end, whole-none}
+use Rattle.rpki_x509.proofs.NameViewLaws.{whole-there, whole-end, whole-none}
 use Rattle.rpki_cert.proofs.profile.key_rule.is_exponent.Goals as goal
 
 pub returns-in-Ok : goal.returns-in-Ok

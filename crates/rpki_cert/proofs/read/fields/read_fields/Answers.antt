@@ -1,6 +1,7 @@
 use Rattle.std.proofs.Common.{refl}
 use Rattle.rpki_cert.specs.View.FirstWrong.{AtPart, Later}
-use Rattle.rpki_cert.proofs.FieldsLaws.{version-refused, serial-refused, algorithm-refused, fields-read}
+use Rattle.rpki_cert.proofs.FieldsLaws.{version-refused, serial-refused, fields-read}
+use Rattle.rpki_x509.proofs.FrameLaws.{algorithm-refused}
 use Rattle.rpki_cert.proofs.OneLaws.{has-then}
 use Rattle.rpki_cert.proofs.read.fields.read_fields.Goals as goal
 

@@ -1,7 +1,7 @@
 use Rattle.std.proofs.Common.{refl}
 use Rattle.rpki_cert.specs.View.FirstWrong.{AtPart, Later}
 use Rattle.rpki_cert.proofs.FieldsLaws.{period-refused, named-read}
-use Rattle.rpki_cert.proofs.NameViewLaws.{name-refused}
+use Rattle.rpki_x509.proofs.NameViewLaws.{name-refused}
 use Rattle.rpki_cert.proofs.OneLaws.{has-then}
 use Rattle.rpki_cert.proofs.read.fields.read_named.Goals as goal
 

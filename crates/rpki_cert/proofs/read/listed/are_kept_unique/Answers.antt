@@ -6,7 +6,7 @@ use Rattle.std.proofs.lemmas.Bool.{iff_false}
 use Rattle.rpki_der.specs.TagName.{sequence}
 use Rattle.rpki_der.proofs.LeafValueLaws.{leaf-shorter}
 use Rattle.rpki.specs.ExtensionValue.{IsExtensionContents}
-use Rattle.rpki_cert.proofs.ListedLaws.{extension-refused}
+use Rattle.rpki_x509.proofs.FrameLaws.{extension-refused}
 use Rattle.rpki_cert.proofs.UniqueLaws.{apart-first, apart-none, apart-end, seen-apart, seen-on, seen-twice}
 use Rattle.rpki_cert.proofs.read.listed.are_kept_unique.Goals as goal
 

@@ -3,7 +3,8 @@ use Rattle.std.proofs.lemmas.Bool.{iff_false}
 use Rattle.rpki_der.specs.TagName.{sequence}
 use Rattle.rpki_der.proofs.LeafValueLaws.{leaf-shorter}
 use Rattle.rpki.specs.ExtensionValue.{IsExtensionContents}
-use Rattle.rpki_cert.proofs.ListedLaws.{extension-refused, unique-on, unique-twice, unique-none, unique-end}
+use Rattle.rpki_x509.proofs.FrameLaws.{extension-refused}
+use Rattle.rpki_cert.proofs.ListedLaws.{unique-on, unique-twice, unique-none, unique-end}
 use Rattle.rpki_cert.proofs.read.listed.are_unique.Goals as goal
 
 pub extensions-smaller : goal.extensions-smaller

@@ -7,7 +7,8 @@ use Rattle.rpki_der.proofs.LeafValueLaws.{leaf-shorter}
 use Rattle.rpki.specs.ExtensionValue.{SpellsExtension, IsExtensionContents}
 use Rattle.rpki_cert.specs.Cert.{find, is_there}
 use Rattle.rpki_cert.proofs.GatherLaws.{gathers-all}
-use Rattle.rpki_cert.proofs.ListedLaws.{extension-refused, has-on, has-found, has-none, has-end}
+use Rattle.rpki_x509.proofs.FrameLaws.{extension-refused}
+use Rattle.rpki_cert.proofs.ListedLaws.{has-on, has-found, has-none, has-end}
 use Rattle.rpki_cert.proofs.read.listed.has_identifier.Goals as goal
 
 pub extensions-init : goal.extensions-init

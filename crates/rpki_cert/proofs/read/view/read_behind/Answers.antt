@@ -2,6 +2,7 @@ use Rattle.std.proofs.Common.{◌∙◌, refl, sym, subst}
 use Rattle.std.proofs.lemmas.Bool.{iff_false}
 use Rattle.rpki_der.specs.Members.{IsValue}
 use Rattle.rpki_der.proofs.MembersLaws.{value-accepted}
+use Rattle.rpki_cert.specs.View.AreBehindWrong.{Behind}
 use Rattle.rpki_cert.specs.View.AreContentsWrong.{InParts}
 use Rattle.rpki_cert.specs.View.FirstWrong.{Later}
 use Rattle.rpki_cert.proofs.TbsValueLaws.{tbs-value}
@@ -10,7 +11,7 @@ use Rattle.rpki_cert.proofs.read.view.read_behind.Goals as goal
 
 pub returns-in-Err-clause-err : goal.returns-in-Err-clause-err
 returns-in-Err-clause-err c = λ one. InParts
-    (Later _ _ (value-accepted c.args.signed.now _ one) c.in-Err.ensures.err)
+    (Later _ _ (value-accepted c.args.signed.now _ one) (Behind _ c.in-Err.ensures.err c.of_signed.ensures))
 
 pub returns-in-Err-read_tbs-clause-err : goal.returns-in-Err-read_tbs-clause-err
 returns-in-Err-read_tbs-clause-err c = λ one.

@@ -8,7 +8,7 @@ use Rattle.rpki_cert.specs.CertFault.{IsFrontTbsError}
 use Rattle.rpki_cert.specs.View.FirstWrong.{Later}
 use Rattle.rpki_cert.proofs.CertLaws.{unframed, refused-front, unkept-front, tbs-at, tbs-accepted, tbs-found}
 use Rattle.rpki_cert.proofs.CertLaws.{front-alone}
-use Rattle.rpki_cert.proofs.NestedLaws.{front-section}
+use Rattle.rpki_x509.proofs.NestedLaws.{front-section}
 use Rattle.rpki_cert.proofs.OneLaws.{tbs-one}
 use Rattle.rpki_cert.proofs.WrongLaws.{front-tbs-wrong}
 use Rattle.rpki_cert.proofs.tbs.TbsCert.take_from.Goals as goal

@@ -1,6 +1,6 @@
 use Rattle.std.proofs.Common.{arith}
 use Rattle.rpki_time.proofs.SerialReadingLaws.{serial-few}
-use Rattle.rpki_objects.specs.EncodedLaws.{number-few}
+use Rattle.rpki_x509.specs.TagLaws.{number-few}
 use Rattle.rpki_objects.proofs.encode.attributes.encode_binary.Goals as goal
 
 pub encode_attribute-requires-clause-value : goal.encode_attribute-requires-clause-value

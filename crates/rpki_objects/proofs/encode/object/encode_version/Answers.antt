@@ -1,7 +1,7 @@
 use Rattle.std.proofs.Common.{false, ap, ◌∙◌}
 use Rattle.rpki_der.specs.Prelude.{integer, tlv}
 use Rattle.rpki_time.specs.Serial.{serial_octets}
-use Rattle.rpki_objects.specs.EncodedLaws.{number-few}
+use Rattle.rpki_x509.specs.TagLaws.{number-few}
 use Rattle.rpki_objects.proofs.ObjectReadLaws.{three-octet}
 use Rattle.rpki_objects.proofs.encode.object.encode_version.Goals as goal
 

@@ -1,5 +1,5 @@
 use Rattle.std.proofs.Common.{refl}
-use Rattle.rpki_cert.proofs.FieldsLaws.{section-front}
+use Rattle.rpki_x509.proofs.FrameLaws.{section-front}
 use Rattle.rpki_objects.specs.SignedAttributes.{attributes_tag}
 use Rattle.rpki_objects.proofs.InPlaceLaws.{contents-refused}
 use Rattle.rpki_objects.proofs.ObjectViewLaws.{attributes-outside, attributes-other, attributes-taken}

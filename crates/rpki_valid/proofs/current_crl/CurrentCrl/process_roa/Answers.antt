@@ -1,5 +1,5 @@
 use Rattle.std.proofs.Common.{inl, inr}
-use Rattle.rpki_cert.proofs.TriedLaws.{tried-fault}
+use Rattle.rpki_x509.proofs.TriedLaws.{tried-fault}
 use Rattle.rpki_valid.proofs.current_crl.CurrentCrl.process_roa.Goals as goal
 
 pub returns-in_err-held-clause-exactly : goal.returns-in_err-held-clause-exactly

@@ -1,6 +1,6 @@
 use Rattle.std.proofs.Common.{Some}
 use Rattle.rpki_valid.specs.Verified.{verified_by}
-use Rattle.rpki_cert.proofs.TriedLaws.{tried-fault}
+use Rattle.rpki_x509.proofs.TriedLaws.{tried-fault}
 use Rattle.rpki_valid.proofs.ObjectVerifiedLaws.{not-signed, cert-decides}
 use Rattle.rpki_valid.proofs.current_crl.CurrentCrl.verify_object.Goals as goal
 

@@ -1,7 +1,7 @@
 use Rattle.std.specs.Option.{option_copied}
 use Rattle.rpki_valid.specs.Verified.{verified_by}
 use Rattle.rpki_cert.proofs.RuleLaws.{has-policy}
-use Rattle.rpki_cert.proofs.TriedLaws.{tried-fault}
+use Rattle.rpki_x509.proofs.TriedLaws.{tried-fault}
 use Rattle.rpki_valid.proofs.VerifiedLaws.{profile-then, profile-else, within-then}
 use Rattle.rpki_valid.proofs.verified.ResourceCert.check_link.Goals as goal
 

@@ -1,5 +1,5 @@
 use Rattle.rpki_valid.specs.Verified.{verified_by}
-use Rattle.rpki_cert.proofs.TriedLaws.{tried-fault}
+use Rattle.rpki_x509.proofs.TriedLaws.{tried-fault}
 use Rattle.rpki_valid.proofs.IssuedLaws.{unsigned, not-out}
 use Rattle.rpki_valid.proofs.verified.ResourceCert.verify_list.Goals as goal
 

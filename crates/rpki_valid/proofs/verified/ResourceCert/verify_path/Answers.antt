@@ -1,6 +1,6 @@
 use Rattle.std.specs.Option.{option_copied}
 use Rattle.rpki_valid.specs.Verified.{verified_by}
-use Rattle.rpki_cert.proofs.TriedLaws.{tried-fault}
+use Rattle.rpki_x509.proofs.TriedLaws.{tried-fault}
 use Rattle.rpki_valid.proofs.VerifiedLaws.{off-period, off-issued, off-revoked, path-settles}
 use Rattle.rpki_valid.proofs.verified.ResourceCert.verify_path.Goals as goal
 

@@ -1,4 +1,4 @@
-use Rattle.rpki_cert.proofs.TriedLaws.{tried-fault}
+use Rattle.rpki_x509.proofs.TriedLaws.{tried-fault}
 use Rattle.rpki_validation.proofs.PublicationLaws.{no-folder, no-place, no-manifest, no-list-there, publication-found}
 use Rattle.rpki_validation.proofs.publication.Publication.of.Goals as goal
 

@@ -4,7 +4,7 @@ use Rattle.rpki_der.specs.Each.{SpellsSome}
 use Rattle.rpki_cert.specs.Access.{Through, SpellsDescription, SpellsAccess}
 use Rattle.rpki_cert.specs.AccessInformation.{access_parts, parts_of}
 use Rattle.rpki_cert.proofs.GatherLaws.{leaf-all, leaf-none}
-use Rattle.rpki_cert.proofs.TriedLaws.{tried-all}
+use Rattle.rpki_x509.proofs.TriedLaws.{tried-all}
 use Rattle.rpki_cert.proofs.extension.access_information.AccessInformation.read.Goals as goal
 
 pub returns-in_err-contents-clause-gives : goal.returns-in_err-contents-clause-gives

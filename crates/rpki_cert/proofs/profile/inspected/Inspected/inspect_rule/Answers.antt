@@ -1,7 +1,8 @@
 use Rattle.std.proofs.Common.{IsTrue}
 use Rattle.rpki_cert.specs.declared.profile.rule.CertRule.TheVariants.{ResourceBlocks, OwnResources}
 use Rattle.rpki_cert.specs.Cert.{find}
-use Rattle.rpki_cert.specs.Known.{authority_info_access, authority_key_identifier, basic_constraints}
+use Rattle.rpki_cert.specs.Known.{authority_info_access, basic_constraints}
+use Rattle.rpki_x509.specs.Authority.{authority_key_identifier}
 use Rattle.rpki_cert.specs.Known.{certificate_policies, key_usage, subject_info_access, subject_key_identifier}
 use Rattle.rpki_cert.specs.ResourceExtensions.{AreWellFormed, AreOwn}
 use Rattle.rpki_cert.specs.RuleError.{SaysRule}

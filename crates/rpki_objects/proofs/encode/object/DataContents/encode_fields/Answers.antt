@@ -1,4 +1,4 @@
-use Rattle.rpki_objects.proofs.WrittenLaws.{appended}
+use Rattle.rpki_x509.proofs.WrittenLaws.{appended}
 use Rattle.rpki_objects.proofs.encode.object.DataContents.encode_fields.Goals as goal
 
 pub returns-clause-octets : goal.returns-clause-octets

@@ -3,7 +3,7 @@ use Rattle.rpki_der.specs.Prelude.{TagName, tlv}
 use Rattle.rpki_objects.specs.SignedAttributes.{AttributeValues}
 use Rattle.rpki_objects.specs.EncodedAttributes.{attributes_octets}
 use Rattle.rpki_objects.specs.EncodedObject.{built_of}
-use Rattle.rpki_objects.proofs.WrittenLaws.{appended}
+use Rattle.rpki_x509.proofs.WrittenLaws.{appended}
 use Rattle.rpki_objects.proofs.ObjectWritingLaws.{parts-few}
 use Rattle.rpki_objects.proofs.encode.object.SignerContents.encode_fields.Goals as goal
 

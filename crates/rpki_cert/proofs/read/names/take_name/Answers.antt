@@ -1,6 +1,0 @@
-use Rattle.std.proofs.Common.{ap, length}
-use Rattle.rpki_cert.proofs.read.names.take_name.Goals as goal
-
-pub returns-in-Ok : goal.returns-in-Ok
-returns-in-Ok c =
-    (_, c.in-Ok.ensures, record { octets = c.octets.ensures.octets; following = ap length c.rest.ensures })

@@ -1,0 +1,93 @@
+//! Revocation lists, read in place without memory (RFC 5280 5.1, RFC 6487 5).
+
+ghost use Rattle.std.specs.Prelude.{◌≡◌, IfOk, IfErr};
+ghost use Rattle.rpki_der.specs.Prelude.{left};
+ghost use Rattle.rpki_crl.specs.Crl.{CrlParts};
+ghost use Rattle.rpki_crl.specs.CrlView.{signed_part, IsCrlAt, IsCrlBehind, IsCrlWrong, IsWrongBehind};
+
+use crate::crl_part::CrlPart;
+use crate::list_view::{TbsListView, read_tbs};
+use rpki::crypto::RpkiSignatureAlgorithm;
+use rpki::der::{Constructed, Section, Tag};
+use rpki_x509::{SignedPart, inside, is_same, is_value, read_parts, take_headed};
+
+/// A revocation list whose parts are borrowed from the octets that it was read from.
+#[derive(Clone, Copy)]
+pub struct CrlView<'a> {
+    /// The value that is signed.
+    pub data: Section<'a>,
+    /// The algorithm.
+    pub kind: RpkiSignatureAlgorithm,
+    /// The octets of the algorithm identifier.
+    pub algorithm: Section<'a>,
+    /// The octets of the signature.
+    pub signature: Section<'a>,
+    /// What is signed; its sections are in the octets that are signed.
+    pub tbs: TbsListView<'a>,
+}
+
+/// The part of a list that a part of signed data is.
+fn signed_part(part: SignedPart) -> CrlPart
+    ensures { result ≡ signed_part part }
+{
+    match part {
+        SignedPart::Algorithm => CrlPart::Algorithm,
+        SignedPart::Signature => CrlPart::Signature,
+    }
+}
+
+/// The list of what is signed and of what follows it, which is all of these contents. Whether what is signed is a value
+/// with everything nested in it is seen by its fields; where one of them is wrong, it isn't known.
+fn read_behind<'a>(signed: &'a [u8], behind: Constructed<'a>) -> Result<CrlView<'a>, CrlPart>
+    ensures ok { IfOk result (λ v. IsCrlBehind signed.now (left behind.entry) v) }
+    ensures err { IfErr result (λ q. IsWrongBehind signed.now (left behind.entry) q) }
+{
+    let parts = match read_parts(signed, behind) {
+        Ok(parts) => parts,
+        Err(wrong) => return Err(signed_part(wrong.part)),
+    };
+    let tbs = match read_tbs(Constructed::from_slice(signed)) {
+        Ok(tbs) => tbs,
+        Err(part) => return Err(part),
+    };
+    if !is_same(tbs.signature, parts.kind) {
+        return Err(CrlPart::SameAlgorithm);
+    }
+    Ok(CrlView {
+        data: parts.data,
+        kind: parts.kind,
+        algorithm: parts.algorithm,
+        signature: parts.signature,
+        tbs,
+    })
+}
+
+impl<'a> CrlView<'a> {
+    /// A revocation list, and nothing else, as [Crl::decode](crate::Crl::decode) reads it. Allocates nothing.
+    ///
+    /// The error is the malformed part: of the signed data the leftmost; then of what is signed the leftmost; then
+    /// that both algorithm identifiers are the same.
+    pub fn read(octets: &'a [u8]) -> Result<CrlView<'a>, CrlPart>
+        ensures ok { IfOk result (λ v. (x : CrlParts) × IsCrlAt octets.now v x) }
+        ensures err { IfErr result (λ q. IsCrlWrong octets.now q) }
+    {
+        let mut behind = match inside(Constructed::from_slice(octets), Tag::SEQUENCE) {
+            Ok(contents) => contents,
+            Err(_) => return Err(CrlPart::List),
+        };
+        let signed = match take_headed(&mut behind) {
+            Some(signed) => signed,
+            None => return Err(CrlPart::Signed),
+        };
+        match read_behind(signed, behind) {
+            Ok(found) => Ok(found),
+            Err(part) => {
+                if is_value(signed) {
+                    Err(part)
+                } else {
+                    Err(CrlPart::Signed)
+                }
+            }
+        }
+    }
+}

@@ -1,0 +1,83 @@
+//! The entries of a revocation list, read in place without memory (RFC 5280 5.1.2.6).
+
+ghost use Rattle.std.specs.Prelude.{◌↔◌, IsTrue};
+ghost use Rattle.rpki_der.specs.Cursor.{left};
+ghost use Rattle.rpki_der.specs.Fold.{TakesStep};
+ghost use Rattle.rpki.specs.Prelude.{SpellsAny};
+ghost use Rattle.rpki_crl.specs.Crl.{entry, each_entry};
+ghost use Rattle.rpki_crl.specs.CrlView.{FindsSerial, Keeps, Looks, TakesRevoked};
+
+use crate::crl_entry::CrlEntry;
+use rpki::der::{Constructed, DecodeError, Section, Tag};
+use rpki::repository::x509::Serial;
+
+/// Whether the rest is entries, in sequence.
+fn are_entries(contents: Constructed<'_>) -> bool
+    ensures { IsTrue result ↔ SpellsAny each_entry.spells tt (left contents.entry) }
+{
+    let mut rest = contents;
+    let read = rest.fold_each(
+        (),
+        |rest, all|
+            ensures { TakesStep Keeps entry all (left rest.old) (left rest.new) result }
+        {
+            match CrlEntry::take_from(rest) {
+                Ok(_) => Ok(all),
+                Err(e) => Err(e),
+            }
+        },
+    );
+    read.is_ok()
+}
+
+/// The contents of the list of entries at the front; none, in front of the whole rest, where no SEQUENCE is there.
+/// Moves past it.
+pub(crate) fn take_revoked<'a>(cons: &mut Constructed<'a>) -> Option<Section<'a>>
+    ensures { TakesRevoked (left cons.old) (left cons.new) result }
+{
+    if !cons.has_tag(Tag::SEQUENCE) {
+        return Some(Section {
+            octets: &[],
+            following: cons.rest().len(),
+        });
+    }
+    match cons.take_sequence() {
+        Ok(contents) => {
+            if !are_entries(contents) {
+                return None;
+            }
+            Some(Section {
+                octets: contents.rest(),
+                following: cons.rest().len(),
+            })
+        }
+        Err(_) => None,
+    }
+}
+
+/// Whether one of these entries, which are in sequence, has this serial number: the contents octets of the list
+/// of revoked certificates, as [CrlView](crate::CrlView) has them. All of them are read. Allocates nothing; takes a
+/// step an entry.
+///
+/// The errors are those of the first that is no entry: of [CrlEntry::take_from].
+pub fn entries_contain(entries: &[u8], serial: Serial) -> Result<bool, DecodeError>
+    ensures { FindsSerial serial entries.now result }
+{
+    let mut rest = Constructed::from_slice(entries);
+    rest.fold_each(
+        false,
+        |rest, found|
+            ensures { TakesStep (Looks serial) entry found (left rest.old) (left rest.new) result }
+        {
+            match CrlEntry::take_from(rest) {
+                Ok(entry) => {
+                    if entry.user_certificate == serial {
+                        return Ok(true);
+                    }
+                    Ok(found)
+                }
+                Err(e) => Err(e),
+            }
+        },
+    )
+}

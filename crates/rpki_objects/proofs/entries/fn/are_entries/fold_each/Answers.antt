@@ -1,5 +1,0 @@
-use Rattle.rpki_der.specs.Fold.FoldFault.{AtValue}
-use Rattle.rpki_objects.proofs.entries.fn.are_entries.fold_each.Goals as goal
-
-pub returns-in-Err : goal.returns-in-Err
-returns-in-Err c = λ some. AtValue some c.in-Err.ensures.refuses c.in-Err.ensures.kind

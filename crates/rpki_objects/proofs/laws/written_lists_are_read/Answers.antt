@@ -1,5 +1,0 @@
-use Rattle.rpki_objects.proofs.ListReadLaws.{crl-read}
-use Rattle.rpki_objects.proofs.laws.written_lists_are_read.Goals as goal
-
-pub returns : goal.returns
-returns c = crl-read

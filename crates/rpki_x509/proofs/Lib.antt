@@ -1,0 +1,16 @@
+-- Which lemma file answers which question.
+--
+-- Values with everything nested in them, and by their headers: NestedLaws. A name: NameViewLaws. Readers that take no
+--   memory, one value in all of the octets, sections: FrameLaws. What a `?` hands on: TriedLaws.
+-- Signed data: without unused bits WholeLaws, its parts SignedPartsLaws. A value that stands for another:
+--   StandingForLaws. That what is spelled is values: ValuesLaws. What is written: WrittenLaws.
+
+pub mod FrameLaws
+pub mod NameViewLaws
+pub mod NestedLaws
+pub mod SignedPartsLaws
+pub mod StandingForLaws
+pub mod TriedLaws
+pub mod ValuesLaws
+pub mod WholeLaws
+pub mod WrittenLaws
