@@ -1,7 +1,7 @@
 /*
  * rpki.h: the DER and X.509 layer of the RPKI, for C99 and C++.
  *
- * Each call below is proved: its contract stands in crates/rpki_c/src, and docs/PROVED.md lists it. A call reads octets
+ * Each call below is proved: its contract is in crates/rpki_c/src, and docs/PROVED.md lists it. A call reads octets
  * of the caller's, returns a status, and where the status is 0 (RPKI_OK) writes what it found to `out`. Nothing is kept
  * from call to call, nothing has to be freed, and no call writes to its input. Parts of the input are handed out as
  * spans (struct rpki_span), a pointer into it and a size; those of URIs, which are passed in again beside the text, as
@@ -153,12 +153,12 @@ enum {
     RPKI_OTHER_KINDS = 61,     /* a signer's certificate lists other kinds of resources than it has to (RFC 9582 5) */
 
     /* The parts below are tested in the order of their numbers, but where a call says another; a part is also what
-       follows a SEQUENCE that is to be all, or the last. So octets behind the whole come before all that is inside. */
+       follows a SEQUENCE that is to be all, or the last. So octets after the whole come before all that is inside. */
 
-    /* Of rpki_certificate, and of rpki_crl, which has none of 70, 73 to 75, 77 and 78: the part that is wrong. */
+    /* Of rpki_certificate, and of rpki_crl, which has none of 70, 73 to 75, 77 and 78: the malformed part. */
     RPKI_PART_CERTIFICATE = 64,     /* the SEQUENCE around all: it isn't there, or something follows it */
     RPKI_PART_SIGNED = 65,          /* what is signed is no value, with everything nested in it */
-    RPKI_PART_ALGORITHM = 66,       /* the algorithm identifier behind it is not that of RSA with SHA-256 */
+    RPKI_PART_ALGORITHM = 66,       /* the algorithm identifier after it is not that of RSA with SHA-256 */
     RPKI_PART_SIGNATURE = 67,       /* the signature: it is no BIT STRING, has unused bits, or something follows */
     RPKI_PART_TBS = 68,             /* what is signed is no SEQUENCE */
     RPKI_PART_VERSION = 69,         /* the version is not v3, or of a list not v2 */
@@ -221,13 +221,13 @@ enum {
     RPKI_RULE_SUBJECT_SIZE = 157,            /* each value a string of 1 to 64 characters (RFC 5280 A.1) */
     RPKI_RULE_ROUTER_SERIAL_NUMBER = 158,    /* in a router's name a PrintableString (RFC 8209 3.1.1) */
 
-    /* Of rpki_crl alone: the part that is wrong. */
+    /* Of rpki_crl alone: the malformed part. */
     RPKI_PART_THIS_UPDATE = 120, /* when the list was issued */
     RPKI_PART_NEXT_UPDATE = 121, /* when the next list is issued at the latest */
     RPKI_PART_REVOKED_CERTS =
         122, /* the certificates that are revoked: one is no serial number and time, and no more */
 
-    /* Of rpki_signed_object, beside those of rpki_certificate: the part that is wrong. */
+    /* Of rpki_signed_object, beside those of rpki_certificate: the malformed part. */
     RPKI_PART_OBJECT = 123,              /* the SEQUENCE around all: it isn't there, or something follows it */
     RPKI_PART_OBJECT_TYPE = 124,         /* the type is not id-signedData */
     RPKI_PART_SIGNED_DATA = 125,         /* the tag and the SEQUENCE of signed data, or something follows it */
@@ -244,7 +244,7 @@ enum {
     RPKI_PART_SIGNATURE_ALGORITHM = 136, /* not that of RSA, or of RSA with SHA-256 (RFC 7935 2) */
     RPKI_PART_OBJECT_SIGNATURE = 137,    /* no OCTET STRING, or something follows: unsigned attributes may not */
 
-    /* Of rpki_manifest: the part that is wrong. */
+    /* Of rpki_manifest: the malformed part. */
     RPKI_PART_MANIFEST = 138,             /* the SEQUENCE around all: it isn't there, or something follows it */
     RPKI_PART_MANIFEST_NUMBER = 139,      /* the number is no unsigned INTEGER of at most 20 octets, or a version is */
     RPKI_PART_MANIFEST_THIS_UPDATE = 140, /* when the manifest was issued: no GeneralizedTime */
@@ -253,12 +253,12 @@ enum {
     RPKI_PART_FILE_LIST = 143,            /* the files: one is no name and digest, and no more; or something follows */
     RPKI_PART_UPDATE_ORDER = 144,         /* the next update is not after this update */
 
-    /* Of rpki_roa: the part that is wrong. */
+    /* Of rpki_roa: the malformed part. */
     RPKI_PART_ROA = 145,            /* the SEQUENCE around all: it isn't there, or something follows it */
     RPKI_PART_AS_ID = 146,          /* the AS number is no INTEGER below 2^32, or a version is there */
     RPKI_PART_ADDRESS_BLOCKS = 147, /* the prefixes: a family, a prefix, or something that follows them */
 
-    /* Of rpki_aspa: the part that is wrong. */
+    /* Of rpki_aspa: the malformed part. */
     RPKI_PART_ASPA = 148,         /* the SEQUENCE around all: it isn't there, or something follows it */
     RPKI_PART_ASPA_VERSION = 149, /* the version is not 1 */
     RPKI_PART_CUSTOMER = 150,     /* the customer is no INTEGER below 2^32 */
@@ -270,7 +270,7 @@ enum {
     RPKI_OTHER_ISSUER = 153,    /* its issuer has another name than the other's subject */
     RPKI_OTHER_AUTHORITY = 154, /* it has no authority key identifier, or not that of the other's key */
 
-    /* Of calls that read URIs: the first of these that is wrong, in the order 160, 163, 162, then 164 to 166 from the
+    /* Of calls that read URIs: the first of these that is broken, in the order 160, 163, 162, then 164 to 166 from the
        left, then 161. Of a path that is joined to a URI: 160, 162 of the path alone, then 164 to 166 from the left, and
        last 162 of the text that joining gives. */
     RPKI_URI_INVALID_CHARACTERS = 160, /* a character that a URI may not have */
@@ -369,7 +369,7 @@ struct rpki_walked {
 /* The parent of an entry that is inside no other. */
 #define RPKI_NO_PARENT SIZE_MAX
 
-/* One header of a value, and where its value stands. */
+/* One header of a value, and where its value is. */
 struct rpki_entry {
     size_t start;      /* where the header begins */
     size_t contents;   /* where the contents begin */
@@ -447,12 +447,12 @@ struct rpki_extension_parts {
 /* The parts of a certificate (RFC 5280 4.1). Names and the key have their headers, for the calls that read them. */
 struct rpki_certificate_parts {
     struct rpki_span data;       /* what is signed: a SEQUENCE, its header included */
-    struct rpki_span algorithm;  /* the algorithm identifier behind it, its header included */
+    struct rpki_span algorithm;  /* the algorithm identifier after it, its header included */
     struct rpki_span signature;  /* the octets of the signature's bits */
     struct rpki_span issuer;     /* the issuer's name, its header included */
     struct rpki_span subject;    /* the subject's name, its header included */
     struct rpki_span public_key; /* the subject's key, its header included */
-    struct rpki_span extensions; /* the extensions, one after another, each with its header */
+    struct rpki_span extensions; /* the extensions, in sequence, each with its header */
     struct rpki_period validity; /* the period of validity */
     uint8_t serial_number[20];   /* the serial number, with zeros in front */
     uint8_t key_format;          /* RPKI_RSA or RPKI_ECDSA_P256 */
@@ -546,15 +546,15 @@ struct rpki_general_name_parts {
 
 /* The parts of a revocation list (RFC 5280 5.1). The name has its header, for the calls that read names. */
 struct rpki_crl_parts {
-    struct rpki_span data;          /* what is signed: a SEQUENCE, its header included */
-    struct rpki_span algorithm;     /* the algorithm identifier behind it, its header included */
-    struct rpki_span signature;     /* the octets of the signature's bits */
-    struct rpki_span issuer;        /* the issuer's name, its header included */
-    struct rpki_span revoked_certs; /* the certificates that are revoked, one after another, each with its header; of
-                                       size 0 where there are none, or the list of them is left out */
-    struct rpki_moment this_update; /* when the list was issued */
-    struct rpki_moment next_update; /* when the next list is issued at the latest */
-    uint8_t crl_number[20];         /* the number of the list, with zeros in front (RFC 5280 5.2.3) */
+    struct rpki_span data;                /* what is signed: a SEQUENCE, its header included */
+    struct rpki_span algorithm;           /* the algorithm identifier after it, its header included */
+    struct rpki_span signature;           /* the octets of the signature's bits */
+    struct rpki_span issuer;              /* the issuer's name, its header included */
+    struct rpki_span revoked_certs;       /* the certificates that are revoked, in sequence, each with its header; of
+                                             size 0 where there are none, or the list of them is left out */
+    struct rpki_moment this_update;       /* when the list was issued */
+    struct rpki_moment next_update;       /* when the next list is issued at the latest */
+    uint8_t crl_number[20];               /* the number of the list, with zeros in front (RFC 5280 5.2.3) */
     uint8_t authority_key_identifier[20]; /* the identifier of the key that signed the list (RFC 5280 5.2.1) */
     bool has_parameters;                  /* whether the algorithm identifiers have parameters, a NULL */
 };
@@ -590,7 +590,7 @@ struct rpki_signed_object_parts {
 
 /* The parts of a manifest (RFC 9286 4.2). */
 struct rpki_manifest_parts {
-    struct rpki_span files;         /* the files, one after another, each with its header; of size 0 if none */
+    struct rpki_span files;         /* the files, in sequence, each with its header; of size 0 if none */
     size_t count;                   /* how many files there are */
     struct rpki_moment this_update; /* when the manifest was issued */
     struct rpki_moment next_update; /* when the next manifest is issued at the latest */
@@ -605,7 +605,7 @@ struct rpki_manifest_file_parts {
 
 /* The parts of a route origin attestation (RFC 9582 4). */
 struct rpki_roa_parts {
-    struct rpki_span v4; /* the prefixes of IPv4, one after another, each with its header; of size 0 if none */
+    struct rpki_span v4; /* the prefixes of IPv4, in sequence, each with its header; of size 0 if none */
     struct rpki_span v6; /* those of IPv6 */
     size_t v4_count;     /* how many prefixes of IPv4 there are */
     size_t v6_count;     /* how many prefixes of IPv6 there are */
@@ -614,7 +614,7 @@ struct rpki_roa_parts {
 
 /* A prefix of a route origin attestation (RFC 9582 4.3.2). */
 struct rpki_roa_address_parts {
-    uint8_t address[16]; /* the lowest address; behind the four octets of IPv4 stand zeros */
+    uint8_t address[16]; /* the lowest address; after the four octets of IPv4 are zeros */
     uint8_t length;      /* how many bits the prefix has */
     uint8_t max_length;  /* how many bits a prefix in it that is announced may have: `length` unless has_max_length */
     bool has_max_length; /* whether the maximum length is there; it may be `length` all the same */
@@ -622,7 +622,7 @@ struct rpki_roa_address_parts {
 
 /* The parts of an attestation of providers (draft-ietf-sidrops-aspa-profile, version 1). */
 struct rpki_aspa_parts {
-    struct rpki_span providers; /* the providers, one after another, each with its header */
+    struct rpki_span providers; /* the providers, in sequence, each with its header */
     size_t count;               /* how many providers there are */
     uint32_t customer;          /* the AS number of the customer */
 };
@@ -643,7 +643,7 @@ enum { RPKI_IPV4 = 4, RPKI_IPV6 = 6 };
 
 /* A block of addresses, or that the addresses of a family are those of the issuer (RFC 3779 2.2.3). */
 struct rpki_ip_block {
-    uint8_t low[16];   /* the lowest address, most significant octet first; behind the 4 octets of IPv4 stand zeros */
+    uint8_t low[16];   /* the lowest address, most significant octet first; after the 4 octets of IPv4 are zeros */
     uint8_t high[16];  /* the highest address, likewise */
     uint8_t family;    /* RPKI_IPV4 or RPKI_IPV6 */
     bool is_inherited; /* whether the family's addresses are those of the issuer; then `low` and `high` are zeros */
@@ -658,7 +658,7 @@ struct rpki_as_block {
 
 /* The parts of an rsync URI, rsync://AUTHORITY/MODULE/PATH (RFC 5781). */
 struct rpki_rsync_parts {
-    struct rpki_place authority;   /* not empty; a port stands in it */
+    struct rpki_place authority;   /* not empty; a port is in it */
     struct rpki_place module_name; /* not empty, without slashes */
     struct rpki_place path;        /* what follows the slash after the module; may be empty */
 };
@@ -697,7 +697,7 @@ rpki_status rpki_take(struct rpki_span *rest, uint8_t identifier, struct rpki_sp
 
 /*
  * Takes the value at the front of `rest` as rpki_take does, where it has the tag that `identifier` names: an element
- * that may be left out. `*is_there` becomes whether it has. Where it hasn't, or nothing is left, the status is RPKI_OK,
+ * that may be left out. `*is_there` becomes whether it has. Where it hasn't, or nothing remains, the status is RPKI_OK,
  * `rest` stays, and `contents` has size 0: the element has its default.
  *
  * Where the tag is there the statuses are those of rpki_take: RPKI_UNEXPECTED says that the form is another one. Unless
@@ -830,11 +830,11 @@ rpki_status rpki_extension(const uint8_t *octets, size_t size, struct rpki_exten
 /*
  * Reads a resource certificate (RFC 5280 4.1, in the form of RFC 6487 4), and says what its parts are: signed data of
  * RSA with SHA-256; version 3; each extension's identifier once; and what is signed names the same algorithm. Names
- * have attributes with any values; rpki_name_inspect holds them to a profile. The extensions are read one after another
+ * have attributes with any values; rpki_name_inspect checks them against a profile. The extensions are read in sequence
  * with rpki_header and rpki_extension. Whether they are those of a profile, and whether the signature is that of a key,
  * is not looked at. Takes no memory.
  *
- * Where a status is not 0, it is an RPKI_PART_ number: from 64 to 67 the part of the signed data that is wrong, the
+ * Where a status is not 0, it is an RPKI_PART_ number: from 64 to 67 the malformed part of the signed data, the
  * leftmost (of RPKI_PART_ALGORITHM rpki_signed_data says whether that is another algorithm); else from 68 to 78 the
  * part of what is signed, the leftmost; else 79. RPKI_PART_EXTENSION_COUNT says nothing else of the octets: the
  * certificate may be well-formed. No certificate of the RPKI has so many. Where there are so many, a malformed one
@@ -843,7 +843,7 @@ rpki_status rpki_extension(const uint8_t *octets, size_t size, struct rpki_exten
 rpki_status rpki_certificate(const uint8_t *octets, size_t size, struct rpki_certificate_parts *out) RPKI_CHECKED;
 
 /*
- * What is wrong with the part that is wrong. The status is that of rpki_certificate. Where it is an RPKI_PART_ number,
+ * What is wrong with the malformed part. The status is that of rpki_certificate. Where it is an RPKI_PART_ number,
  * `*error` becomes one of RPKI_TRUNCATED to RPKI_TRAILING, as a reader of that part returns it; RPKI_CONTENT of
  * RPKI_PART_EXTENSION_COUNT, RPKI_PART_EXTENSION_IDENTIFIERS and RPKI_PART_SAME_ALGORITHM. Of RPKI_PART_SIGNATURE
  * RPKI_TRAILING, for what follows it, comes before RPKI_CONTENT, for unused bits. RPKI_OK: the octets are a
@@ -865,7 +865,7 @@ rpki_status rpki_certificate_extensions(const uint8_t *octets, size_t size,
 /*
  * Reads a resource certificate, as rpki_certificate does, and says what one extension is, and whether it is
  * critical: that of this number, an RPKI_EXTENSION_ constant. `is_there` is false where it has none. Neither its octets
- * nor other extensions are looked at, so one that is wrong hides no other. Takes no memory.
+ * nor other extensions are looked at, so a malformed one hides no other. Takes no memory.
  *
  * RPKI_NO_ANSWER: no extension has the number; then the octets are not looked at. Else as rpki_certificate.
  */
@@ -874,9 +874,9 @@ rpki_status rpki_certificate_extension(const uint8_t *octets, size_t size, uint8
 
 /*
  * Reads a resource certificate, as rpki_certificate does, and holds it to the profile of this number, an
- * RPKI_CERTIFICATE_ constant (RFC 6487 4, RFC 8209 3.1, RFC 9323 2). With `strict` false the names are not held to
- * theirs. Whether the signature is that of a key, a moment is in the period, or the issuer has the resources, is not
- * looked at. Takes no memory.
+ * RPKI_CERTIFICATE_ constant (RFC 6487 4, RFC 8209 3.1, RFC 9323 2). With `strict` false the names are not checked
+ * against theirs. Whether the signature is that of a key, a moment is in the period, or the issuer has the resources,
+ * is not looked at. Takes no memory.
  *
  * The status is from 85 to 119, or from 156 to 158, where the octets are a certificate that breaks a rule of the
  * profile: the first of these that is broken. Of a trust anchor they are tested in the order 85, 86, 87, 156, 112, 94,
@@ -939,7 +939,7 @@ rpki_status rpki_access_description(struct rpki_span *rest, struct rpki_access_p
 rpki_status rpki_general_name(struct rpki_span *rest, struct rpki_general_name_parts *out) RPKI_CHECKED;
 
 /*
- * The general names, one after another, of CRL distribution points, which are all of the octets (RFC 5280 4.2.1.13): of
+ * The general names, in sequence, of CRL distribution points, which are all of the octets (RFC 5280 4.2.1.13): of
  * exactly one point, which has a full name and nothing else (RFC 6487 4.8.6). The names are not read; a
  * full name of no names, which RFC 5280 forbids, is accepted.
  */
@@ -954,7 +954,7 @@ rpki_status rpki_distribution_point(const uint8_t *octets, size_t size, struct r
  * other extension; and what is signed names the same algorithm. Whether the signature is that of a key, and whether a
  * later list is due, is not looked at. Takes no memory.
  *
- * Where a status is not 0, it is an RPKI_PART_ number: from 64 to 67 the part of the signed data that is wrong, the
+ * Where a status is not 0, it is an RPKI_PART_ number: from 64 to 67 the malformed part of the signed data, the
  * leftmost; else of 68, 69, 71, 72, 120, 121, 122, 76, in this order, the part of what is signed, the leftmost;
  * else 79.
  */
@@ -1008,7 +1008,7 @@ bool rpki_serials_have(const struct rpki_serial_number *serials, size_t count, c
  * the certificate's: "What decides whether something is valid" has the calls. What is signed are the octets of
  * signed_attributes, with 0x31 for their first (RFC 5652 5.4).
  *
- * Where a status is not 0, it is an RPKI_PART_ number: the leftmost part that is wrong; of the certificate the one that
+ * Where a status is not 0, it is an RPKI_PART_ number: the leftmost malformed part; of the certificate the one that
  * rpki_certificate names, from 64 to 79.
  */
 rpki_status rpki_signed_object(const uint8_t *octets, size_t size, bool strict,
@@ -1035,7 +1035,7 @@ rpki_status rpki_signed_object_checked(const uint8_t *octets, size_t size, bool 
  *
  * Whether two files have the same name, which RFC 9286 4.2.1 forbids, is not looked at either: ask rpki_manifest_names.
  *
- * Where a status is not 0, it is an RPKI_PART_ number: from 138 to 143 the leftmost part that is wrong; else 144.
+ * Where a status is not 0, it is an RPKI_PART_ number: from 138 to 143 the leftmost malformed part; else 144.
  */
 rpki_status rpki_manifest(const uint8_t *octets, size_t size, struct rpki_manifest_parts *out) RPKI_CHECKED;
 
@@ -1063,7 +1063,7 @@ rpki_status rpki_manifest_names(const uint8_t *octets, size_t size, struct rpki_
  * IPv4 is in front of IPv6 (RFC 9582 4.3.3). Prefixes in another order, or twice, are accepted. Whether they are
  * resources of the certificate is not looked at. Takes no memory.
  *
- * Where a status is not 0, it is an RPKI_PART_ number, from 145 to 147: the leftmost part that is wrong.
+ * Where a status is not 0, it is an RPKI_PART_ number, from 145 to 147: the leftmost malformed part.
  */
 rpki_status rpki_roa(const uint8_t *octets, size_t size, bool strict, struct rpki_roa_parts *out) RPKI_CHECKED;
 
@@ -1082,7 +1082,7 @@ rpki_status rpki_roa_address(struct rpki_span *rest, uint8_t family, struct rpki
  * customer and the providers are: version 1; the customer; and providers, one at least, each above the one
  * before it, none of which is the customer. Takes no memory.
  *
- * Where a status is not 0, it is an RPKI_PART_ number, from 148 to 151: the leftmost part that is wrong.
+ * Where a status is not 0, it is an RPKI_PART_ number, from 148 to 151: the leftmost malformed part.
  */
 rpki_status rpki_aspa(const uint8_t *octets, size_t size, struct rpki_aspa_parts *out) RPKI_CHECKED;
 
@@ -1289,7 +1289,7 @@ rpki_status rpki_manifest_file_is(const uint8_t digest[32], const uint8_t *octet
 /* ---- URIs ---- */
 
 /*
- * Reads an rsync URI (RFC 5781), and says where its parts stand. The scheme may be in upper case. No segment is `.`,
+ * Reads an rsync URI (RFC 5781), and says where its parts are. The scheme may be in upper case. No segment is `.`,
  * `..` or, but for the last, empty: so the path stays in its module. That is a promise on the text as it is spelled:
  * `%2e%2e` is a segment like another, as nothing is decoded. Who decodes `%` and two digits, to make the name of a file
  * for example, has to look for `..` and for slashes after that.
@@ -1300,7 +1300,7 @@ rpki_status rpki_manifest_file_is(const uint8_t digest[32], const uint8_t *octet
 rpki_status rpki_rsync_parse(const uint8_t *text, size_t size, struct rpki_rsync_parts *out) RPKI_CHECKED;
 
 /*
- * Says where in the text `uri` the path stands that leads from `base` to it: the segments after those of `base`, with
+ * Says where in the text `uri` the path is that leads from `base` to it: the segments after those of `base`, with
  * the last slash. The place is empty, at the end of the text, where both have the same segments. Authorities are
  * compared without regard to case, all else exactly.
  *
@@ -1329,7 +1329,7 @@ rpki_status rpki_rsync_join(const uint8_t *base, size_t base_size, const uint8_t
 rpki_status rpki_rsync_parent(const uint8_t *text, size_t size, size_t *out) RPKI_CHECKED;
 
 /*
- * Reads an https URI, and says where its parts stand. Its segments and its length are free, and the authority may be
+ * Reads an https URI, and says where its parts are. Its segments and its length are free, and the authority may be
  * empty. RPKI_URI_INVALID_CHARACTERS, RPKI_URI_BAD_SCHEME or RPKI_URI_BAD_URI, the first in this order.
  */
 rpki_status rpki_https_parse(const uint8_t *text, size_t size, struct rpki_https_parts *out) RPKI_CHECKED;
@@ -1407,7 +1407,7 @@ rpki_status rpki_https_parts_canonical(const uint8_t *text, size_t size, const s
 
 /*
  * The URI above is the first `*out` octets of the text: one last slash of the path dropped, and then everything after
- * the last slash that is left. RPKI_NO_ANSWER: nothing is left.
+ * the last remaining slash. RPKI_NO_ANSWER: nothing remains.
  */
 rpki_status rpki_https_parts_parent(const uint8_t *text, size_t size, const struct rpki_https_parts *parts,
                                     size_t *out) RPKI_CHECKED;
@@ -1467,7 +1467,7 @@ rpki_status rpki_base64_write(const uint8_t *octets, size_t size, bool url_safe,
  * The octets of a text in base 64. `flavour` is one of the three below; another number is RPKI_BASE64_SLURM.
  *
  * RPKI_INVALID_SYMBOL to RPKI_INVALID_PADDING: the text is not base 64 of the flavour, and `*at` becomes the place of
- * the octet that is wrong, or that where the symbols end, or for missing padding the size of the text. In the flavour
+ * the malformed octet, or that where the symbols end, or for missing padding the size of the text. In the flavour
  * of XML a place counts without white space, but for octets that are not UTF-8, and the size with it. In the other two,
  * octets that are not UTF-8 are no symbols. Any other status leaves `*at`.
  *
@@ -1545,7 +1545,7 @@ rpki_status rpki_extension_write(const uint8_t *id, size_t id_size, bool critica
 rpki_status rpki_serial_decimal(const uint8_t serial[20], uint8_t *out, size_t capacity, size_t *written) RPKI_CHECKED;
 
 /*
- * The twenty octets of the serial number that decimal digits write, of which any number of zeros may stand in front.
+ * The twenty octets of the serial number that decimal digits write, of which any number of zeros may be in front.
  * RPKI_CONTENT: there are none, another octet is among them, or the number is 2^159 or more.
  */
 rpki_status rpki_serial_of_decimal(const uint8_t *text, size_t size, uint8_t out[20]) RPKI_CHECKED;
@@ -2007,7 +2007,7 @@ static inline size_t rpki_first_child(const struct rpki_entry *entries, size_t c
 }
 
 /*
- * The number of the next entry in the value around entry `number`, or RPKI_NO_ENTRY. Entries stand in order of place:
+ * The number of the next entry in the value around entry `number`, or RPKI_NO_ENTRY. Entries are in order of place:
  * it is found by steps that double, since it is often near, and then by halving.
  */
 static inline size_t rpki_next_sibling(const struct rpki_entry *entries, size_t count, size_t number) {
@@ -2029,7 +2029,7 @@ static inline size_t rpki_next_sibling(const struct rpki_entry *entries, size_t 
     return high < count && entries[high].parent == entries[number].parent ? high : RPKI_NO_ENTRY;
 }
 
-/* Where the contents of an entry's value stand. */
+/* Where the contents of an entry's value are. */
 static inline struct rpki_place rpki_contents(const struct rpki_entry *entry) {
     struct rpki_place place;
     place.start = entry->contents;

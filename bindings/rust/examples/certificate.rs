@@ -63,7 +63,7 @@ fn main() -> Result<(), Box<dyn Error>> {
         println!("extension {}: {critical}, {} octets", extension.id(), extension.octets().len());
     }
 
-    // The parts are slices of the octets: where one stands is how far it is from their front.
+    // The parts are slices of the octets: where one is is how far it is from their front.
     let signed = SignedData::decode(&octets)?;
     let place = |part: &[u8]| part.as_ptr() as usize - octets.as_ptr() as usize;
     let with = if signed.has_parameters() { "with" } else { "without" };

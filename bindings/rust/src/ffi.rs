@@ -371,7 +371,7 @@ pub(crate) fn certificate_checked(
     Ok((parts, extensions))
 }
 
-/// The part of a certificate that is wrong, and what is wrong with it, as statuses.
+/// The malformed part of a certificate, and what is wrong with it, as statuses.
 pub(crate) fn certificate_error(octets: &[u8]) -> Result<(), (Status, Status)> {
     compared();
     let mut error = OK;
@@ -510,9 +510,9 @@ fn told<T: Default>(call: impl FnOnce(&mut T) -> Status) -> Result<T, Status> {
     }
 }
 
-/// Where the parts of a URI stand, of a text that was read.
+/// Where the parts of a URI are, of a text that was read.
 pub(crate) trait Parts: Copy {
-    /// Where the parts of a text stand; a text is refused that has other octets than those of ASCII.
+    /// Where the parts of a text are; a text is refused that has other octets than those of ASCII.
     fn of(text: &[u8]) -> Result<Self, Status>;
 }
 
@@ -540,14 +540,15 @@ impl Front {
     }
 }
 
-/// Where the first parts of an rsync URI end, `rsync://AUTHORITY/MODULE/PATH`: what is left is the path.
+/// Where the first parts of an rsync URI end, `rsync://AUTHORITY/MODULE/PATH`: the rest is the
+/// path.
 #[derive(Clone, Copy)]
 pub(crate) struct RsyncEnds {
     front: Front,
     module_name: usize,
 }
 
-/// How many octets stand before the authority: `rsync://` or `https://`.
+/// How many octets are before the authority: `rsync://` or `https://`.
 const SCHEME: usize = 8;
 
 impl RsyncEnds {
@@ -599,7 +600,7 @@ impl Parts for RsyncEnds {
     }
 }
 
-/// Where the authority of an https URI ends: what is left is the path.
+/// Where the authority of an https URI ends: the rest is the path.
 #[derive(Clone, Copy)]
 pub(crate) struct HttpsEnds {
     front: Front,
@@ -680,7 +681,7 @@ impl<P: Parts> Parsed<P> {
         unsafe { std::str::from_utf8_unchecked(&self.text) }
     }
 
-    /// The scheme, the authority, and what stands between them.
+    /// The scheme, the authority, and what is between them.
     #[inline]
     pub(crate) fn up_to(&self, end: usize) -> &str {
         &self.as_str()[..end]

@@ -1,9 +1,10 @@
 //! The names of the crate rpki over a proved DER and X.509 layer for the resource public key infrastructure (RPKI).
 //!
-//! The library behind this crate is written in Rust with contracts, and each call is proved to meet its contract: it
-//! accepts exactly the grammars of docs/SPECIFICATION.md, and does not panic, overflow, read out of bounds or run
-//! forever. It is linked as a static library, `librpki.a`; README.md says where the build looks for it, and what each
-//! type rests on. What is in this crate is not proved: it passes slices, and turns spans of them into slices again.
+//! The library under this crate is written in Rust with contracts, and each call is proved to meet
+//! its contract: it accepts exactly the grammars of docs/SPECIFICATION.md, and does not panic,
+//! overflow, read out of bounds or run forever. It is linked as a static library, `librpki.a`;
+//! README.md says where the build looks for it, and what each type rests on. What is in this crate
+//! is not proved: it passes slices, and turns spans of them into slices again.
 //!
 //! The modules `crypto`, `oid`, `repository`, `resources`, `uri` and `util` have the types of the crate rpki 0.20,
 //! which own their octets and share them; `view` has the calls of the library on borrowed octets.

@@ -1,7 +1,8 @@
 //! URIs: rsync (RFC 5781) and https.
 //!
-//! A URI keeps the text that it was read from, and shares it with its copies, its parents and the octets that it came
-//! from. It is read once: every later question is answered by where its parts stand.
+//! A URI keeps the text that it was read from, and shares it with its copies, its parents and the
+//! octets that it came from. It is read once: every later question is answered by where its parts
+//! are.
 
 use crate::encode;
 use crate::ffi::{self, HttpsEnds, Parsed, RsyncEnds};
@@ -248,7 +249,7 @@ impl Rsync {
         if other.parsed.ends().places_of_module() != ends.places_of_module() {
             return None;
         }
-        // The other's text, without a slash behind its path.
+        // The other's text, without a slash after its path.
         let base = match other.as_slice() {
             [base @ .., b'/'] if base.len() > ends.module_name() => base,
             base => base,
@@ -389,8 +390,8 @@ impl Https {
         }
     }
 
-    /// The URI above: one last slash of the path dropped, and then everything after the last slash that is left; `None`
-    /// where nothing is left. It shares this one's text.
+    /// The URI above: one last slash of the path dropped, and then everything after the last
+    /// remaining slash; `None` where nothing remains. It shares this one's text.
     pub fn parent(&self) -> Option<Self> {
         match self.parsed.parent() {
             Ok(size) => Some(Https { parsed: self.parsed.front(size) }),

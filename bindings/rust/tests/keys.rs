@@ -12,7 +12,8 @@ use rpki::DecodeError;
 use rpki_proved as rpki;
 use std::cell::RefCell;
 
-/// A SubjectPublicKeyInfo of this algorithm identifier, and of these bits behind their count of unused ones.
+/// A SubjectPublicKeyInfo of this algorithm identifier, and of these bits after their count of
+/// unused ones.
 fn key_of(algorithm: &[u8], bits: &[u8]) -> Vec<u8> {
     let bits = [&[3, bits.len() as u8], bits].concat();
     [&[0x30, (algorithm.len() + bits.len()) as u8], algorithm, &bits].concat()

@@ -55,7 +55,7 @@ fn number(found: Option<impl ToString>) -> String {
     found.map_or("-".to_string(), |number| number.to_string())
 }
 
-/// What the object says is what the words of a row say, behind the status.
+/// What the object says is what the words of a row say, after the status.
 fn compare(all: &[u8], object: &SignedObject, words: &[&str]) {
     let attributes = object.signed_attrs();
     assert_eq!(object.to_bytes(), all);

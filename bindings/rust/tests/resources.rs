@@ -315,7 +315,7 @@ fn equal_blocks() {
     assert_eq!(IpBlock::all(), whole);
     for (one, other, wanted) in [
         (prefix("10.0.0.0", 8), range("10.0.0.0", "10.255.255.255"), false),
-        // The last address of a range that is written of IP version 4 has ones behind its 32 bits.
+        // The last address of a range that is written of IP version 4 has ones after its 32 bits.
         (prefix("10.0.0.0", 8), IpBlock::from_v4_str("10.0.0.0-10.255.255.255").unwrap(), true),
         (prefix("10.0.0.0", 8), IpBlock::from((v4("10.0.0.0"), v4("10.255.255.255").to_max(32))), true),
         (prefix("10.0.0.0", 8), prefix("10.9.8.7", 8), true),

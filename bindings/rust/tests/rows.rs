@@ -18,7 +18,7 @@ fn hex(octets: &[u8]) -> String {
     octets.iter().map(|octet| format!("{octet:02X}")).collect()
 }
 
-/// The octets of one token without `N*`, and what is left of the text.
+/// The octets of one token without `N*`, and the rest of the text.
 fn token<'t>(text: &'t str, names: &Names) -> (Vec<u8>, &'t str) {
     if let Some(quoted) = text.strip_prefix('"') {
         let (inside, rest) = quoted.split_once('"').expect("the end of a text");

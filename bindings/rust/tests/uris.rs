@@ -104,7 +104,7 @@ fn a_path_ends() {
     assert!(!rsync("rsync://host/module/").ends_with("/") && rsync("rsync://host/module/a/").ends_with("/"));
 }
 
-/// A text that is no longer shared stands elsewhere.
+/// A text that is no longer shared is elsewhere.
 #[test]
 fn unshared_texts_stand_elsewhere() {
     let shared = Bytes::from_static(b"rsync://host/module/a");
@@ -119,7 +119,7 @@ fn unshared_texts_stand_elsewhere() {
     assert!(uri.as_slice().as_ptr() != shared.as_ptr() && uri == shared);
 }
 
-/// What is shared stays: a copy and a parent stand in the same memory.
+/// What is shared stays: a copy and a parent are in the same memory.
 #[test]
 fn copies_and_parents_are_shared() {
     let uri = rsync("rsync://host/module/a/b");

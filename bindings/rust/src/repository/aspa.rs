@@ -81,7 +81,7 @@ impl AsProviderAttestation {
     /// Reads an attestation that is all of the octets.
     ///
     /// # Errors
-    /// The part that is wrong.
+    /// The malformed part.
     pub fn decode(octets: impl IntoOctets) -> Result<Self, AspaError> {
         let octets = octets.into_octets();
         let found = ffi::aspa(&octets).map_err(AspaError::from_status)?;
@@ -118,7 +118,7 @@ impl ProviderAsSet {
         self.len == 0
     }
 
-    /// The octets of the providers, one after another.
+    /// The octets of the providers, in sequence.
     pub fn as_slice(&self) -> &[u8] {
         &self.octets
     }
@@ -174,7 +174,7 @@ impl Aspa {
     /// verified.
     ///
     /// # Errors
-    /// The part that is wrong; the content is of another type.
+    /// The malformed part; the content is of another type.
     pub fn decode(octets: impl IntoOctets, strict: bool) -> Result<Self, ValidationError> {
         let object = SignedObject::decode(octets, strict)?;
         object.must_be_of(ffi::TYPE_ASPA)?;

@@ -23,8 +23,8 @@ pub use extensions::{ExtensionError, KeyUsage, KnownExtension, KnownExtensions, 
 pub use rule::CertRule;
 pub use valid::ResourceCert;
 
-/// The part of a certificate that is wrong: of the signed data the leftmost; then of what is signed the leftmost; then
-/// that both algorithm identifiers are the same.
+/// The malformed part of a certificate: of the signed data the leftmost; then of what is signed the
+/// leftmost; then that both algorithm identifiers are the same.
 #[derive(Clone, Copy, Debug, PartialEq, Eq, Hash)]
 #[non_exhaustive]
 pub enum CertPart {
@@ -32,7 +32,7 @@ pub enum CertPart {
     Certificate,
     /// What is signed is no value, with everything nested in it.
     Signed,
-    /// The algorithm identifier behind it is not that of RSA with SHA-256.
+    /// The algorithm identifier after it is not that of RSA with SHA-256.
     Algorithm,
     /// The signature is no BIT STRING, or something follows it.
     Signature,
@@ -117,7 +117,7 @@ impl fmt::Display for CertPart {
     }
 }
 
-/// Why octets are no certificate: the part that is wrong, and what is wrong with it.
+/// Why octets are no certificate: the malformed part, and what is wrong with it.
 #[derive(Clone, Copy, Debug, PartialEq, Eq, Hash)]
 pub struct CertError {
     part: CertPart,
@@ -131,7 +131,7 @@ impl CertError {
         Some(CertError { part: CertPart::from_status(part), reason: DecodeError::from_status(reason) })
     }
 
-    /// The part that is wrong.
+    /// The malformed part.
     pub fn part(&self) -> CertPart {
         self.part
     }
@@ -185,7 +185,7 @@ impl Cert {
     /// Reads a certificate that is all of the octets.
     ///
     /// # Errors
-    /// The part that is wrong, and what is wrong with it.
+    /// The malformed part, and what is wrong with it.
     pub fn decode(octets: impl IntoOctets) -> Result<Self, CertError> {
         Cert::read(octets.into_octets(), ffi::CERTIFICATE_CA)
     }
@@ -281,7 +281,7 @@ impl Cert {
         Extensions { rest: &self.extensions }
     }
 
-    /// The octets of the extensions, one after another.
+    /// The octets of the extensions, in sequence.
     pub fn extension_octets(&self) -> &Bytes {
         &self.extensions
     }
@@ -301,9 +301,10 @@ impl Cert {
         ffi::certificate_inspect(&self.octets, profile, strict).map_err(CertRule::from_status)
     }
 
-    /// Holds the certificate to the profile of trust anchors (RFC 6487 4): that of certification authorities, but
-    /// without CRL distribution points and authority information access. With `strict` false the names are not held to
-    /// theirs. Resources have to be critical and canonical; a trust anchor inherits none.
+    /// Holds the certificate to the profile of trust anchors (RFC 6487 4): that of certification
+    /// authorities, but without CRL distribution points and authority information access. With
+    /// `strict` false the names are not checked against theirs. Resources have to be critical and
+    /// canonical; a trust anchor inherits none.
     ///
     /// # Errors
     /// The rule that it breaks first.

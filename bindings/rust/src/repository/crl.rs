@@ -25,7 +25,7 @@ pub enum CrlError {
     List,
     /// What is signed is no value, with everything nested in it.
     Signed,
-    /// The algorithm identifier behind it is not that of RSA with SHA-256.
+    /// The algorithm identifier after it is not that of RSA with SHA-256.
     Algorithm,
     /// The signature is no BIT STRING, has unused bits, or something follows it.
     Signature,
@@ -127,7 +127,7 @@ impl Crl {
     /// Reads a revocation list that is all of the octets.
     ///
     /// # Errors
-    /// The part that is wrong.
+    /// The malformed part.
     pub fn decode(octets: impl IntoOctets) -> Result<Self, CrlError> {
         let octets = octets.into_octets();
         let found = ffi::crl(&octets).map_err(CrlError::from_status)?;
@@ -307,7 +307,7 @@ impl Deref for CurrentCrl {
 pub struct RevokedCertificates(Bytes);
 
 impl RevokedCertificates {
-    /// The octets of the entries, one after another.
+    /// The octets of the entries, in sequence.
     pub fn as_slice(&self) -> &[u8] {
         &self.0
     }

@@ -96,7 +96,7 @@ impl ManifestContent {
     /// tells them.
     ///
     /// # Errors
-    /// The part that is wrong.
+    /// The malformed part.
     pub fn decode(octets: impl IntoOctets) -> Result<Self, ManifestError> {
         let octets = octets.into_octets();
         let found = ffi::manifest(&octets).map_err(ManifestError::from_status)?;
@@ -247,7 +247,7 @@ impl Manifest {
     /// verified.
     ///
     /// # Errors
-    /// The part that is wrong; the content is of another type.
+    /// The malformed part; the content is of another type.
     pub fn decode(octets: impl IntoOctets, strict: bool) -> Result<Self, ValidationError> {
         let object = SignedObject::decode(octets, strict)?;
         object.must_be_of(ffi::TYPE_MANIFEST)?;

@@ -81,7 +81,7 @@ impl RouteOriginAttestation {
     /// 4.3.3).
     ///
     /// # Errors
-    /// The part that is wrong.
+    /// The malformed part.
     pub fn decode(octets: impl IntoOctets, strict: bool) -> Result<Self, RoaError> {
         let octets = octets.into_octets();
         let found = ffi::roa(&octets, strict).map_err(RoaError::from_status)?;
@@ -151,7 +151,7 @@ impl RoaIpAddresses {
         self.len == 0
     }
 
-    /// The octets of the prefixes, one after another.
+    /// The octets of the prefixes, in sequence.
     pub fn as_slice(&self) -> &[u8] {
         &self.octets
     }
@@ -287,7 +287,7 @@ impl From<FriendlyRoaIpAddress> for MaxLenPrefix {
 }
 
 impl fmt::Display for FriendlyRoaIpAddress {
-    /// `10.0.0.0/8`, and behind it `-24` where the maximum length is there.
+    /// `10.0.0.0/8`, and after it `-24` where the maximum length is there.
     fn fmt(&self, f: &mut fmt::Formatter) -> fmt::Result {
         write!(f, "{}/{}", self.address(), self.address_length())?;
         match self.addr.max_length {
@@ -309,7 +309,7 @@ impl Roa {
     /// [RouteOriginAttestation::decode]. Nothing is verified.
     ///
     /// # Errors
-    /// The part that is wrong; the content is of another type.
+    /// The malformed part; the content is of another type.
     pub fn decode(octets: impl IntoOctets, strict: bool) -> Result<Self, ValidationError> {
         let object = SignedObject::decode(octets, strict)?;
         object.must_be_of(ffi::TYPE_ROA)?;

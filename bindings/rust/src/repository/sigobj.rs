@@ -33,7 +33,7 @@ pub enum SignedObjectError {
     Certificates,
     /// The set has something else than one certificate, or one of which this part is wrong.
     Certificate(CertPart),
-    /// There is no set of signers behind the certificate, or something follows it.
+    /// There is no set of signers after the certificate, or something follows it.
     Signers,
     /// The set has something else than one signer.
     Signer,
@@ -162,7 +162,7 @@ pub struct SignedAttrs {
 }
 
 impl SignedAttrs {
-    /// What is signed: the attributes as they came, but behind the tag of a SET (RFC 5652 5.4).
+    /// What is signed: the attributes as they came, but after the tag of a SET (RFC 5652 5.4).
     pub fn encode_verify(&self) -> Vec<u8> {
         let mut message = self.octets.to_vec();
         message[0] = 0x31;
@@ -260,7 +260,7 @@ impl SignedObject {
     /// (RFC 9589 4).
     ///
     /// # Errors
-    /// The part that is wrong.
+    /// The malformed part.
     pub fn decode(octets: impl IntoOctets, strict: bool) -> Result<Self, SignedObjectError> {
         let octets = octets.into_octets();
         let part = |part: ffi::Span| octets.slice(part.range(&octets));

@@ -22,7 +22,7 @@ pub enum ReadError {
     Text,
     /// A line in front of the empty one is no URI, or there is none.
     Uri,
-    /// There is no empty line behind the URIs, or what follows it is not base 64.
+    /// There is no empty line after the URIs, or what follows it is not base 64.
     Base64,
     /// What follows it is not the base 64 of a public key.
     Key(DecodeError),

@@ -12,7 +12,7 @@ use std::str::FromStr;
 pub enum PrefixError {
     /// There are more bits than an address of the family has.
     LenOverflow,
-    /// A bit of the address behind those is 1.
+    /// A bit of the address after those is 1.
     NonZeroHost,
 }
 
@@ -32,9 +32,9 @@ impl Error for PrefixError {}
 pub enum ParsePrefixError {
     /// It has no slash.
     MissingLen,
-    /// What stands before the slash is no address.
+    /// What is before the slash is no address.
     InvalidAddr,
-    /// What stands behind it are no digits of a number.
+    /// What follows it are no digits of a number.
     InvalidLen,
     /// The address and the number are no prefix.
     InvalidPrefix(PrefixError),
@@ -84,7 +84,7 @@ impl Prefix {
     /// The prefix of so many first bits of this address.
     ///
     /// # Errors
-    /// There are not so many, or a bit behind them is 1.
+    /// There are not so many, or a bit after them is 1.
     pub fn new(addr: IpAddr, len: u8) -> Result<Self, PrefixError> {
         let prefix = Prefix::new_relaxed(addr, len)?;
         if prefix.addr != addr {
@@ -93,7 +93,7 @@ impl Prefix {
         Ok(prefix)
     }
 
-    /// The same, where bits behind those are made 0.
+    /// The same, where bits after those are made 0.
     ///
     /// # Errors
     /// There are not so many bits.
@@ -185,7 +185,7 @@ fn in_family_of(other: IpAddr, addr: Addr) -> IpAddr {
     }
 }
 
-/// An address, a slash, and the digits of the count of bits; all bits behind those are 0.
+/// An address, a slash, and the digits of the count of bits; all bits after those are 0.
 impl FromStr for Prefix {
     type Err = ParsePrefixError;
 
@@ -234,9 +234,9 @@ impl Error for MaxLenError {}
 /// Why a text is no prefix with a maximum length.
 #[derive(Clone, Debug, PartialEq, Eq)]
 pub enum ParseMaxLenPrefixError {
-    /// What stands before the hyphen is no prefix.
+    /// What is before the hyphen is no prefix.
     InvalidPrefix(ParsePrefixError),
-    /// What stands behind it are no digits of a number.
+    /// What follows it are no digits of a number.
     InvalidMaxLenFormat,
     /// The number is no maximum length of the prefix.
     InvalidMaxLenValue(MaxLenError),
@@ -320,7 +320,7 @@ impl From<Prefix> for MaxLenPrefix {
     }
 }
 
-/// A prefix, and behind a hyphen the digits of the maximum length, where it is there.
+/// A prefix, and after a hyphen the digits of the maximum length, where it is there.
 impl FromStr for MaxLenPrefix {
     type Err = ParseMaxLenPrefixError;
 
@@ -334,7 +334,7 @@ impl FromStr for MaxLenPrefix {
     }
 }
 
-/// `192.0.2.0/24`, and behind it `-26` where the maximum length is there.
+/// `192.0.2.0/24`, and after it `-26` where the maximum length is there.
 impl fmt::Display for MaxLenPrefix {
     fn fmt(&self, f: &mut fmt::Formatter) -> fmt::Result {
         self.prefix.fmt(f)?;

@@ -14,7 +14,8 @@ const fn pairs() -> [[u8; 2]; 256] {
     pairs
 }
 
-/// Writes two digits for each octet to the front of the buffer, and returns them. What is behind them stays.
+/// Writes two digits for each octet to the front of the buffer, and returns them. What is after
+/// them stays.
 ///
 /// ```
 /// let mut buffer = [b'-'; 5];

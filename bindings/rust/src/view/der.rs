@@ -120,15 +120,17 @@ impl<'a> Walked<'a> {
 /// ```
 ///
 /// # Errors
-/// From the left, the first header that is none, or `Truncated` for the first value that passes the end of the value
-/// around it or of the octets. `OutOfMemory` where the walk could not keep where the values end that it is inside of.
+/// From the left, the first header that isn't one, or `Truncated` for the first value that passes
+/// the end of the value around it or of the octets. `OutOfMemory` where the walk could not keep
+/// where the values end that it is inside of.
 pub fn walk(octets: &[u8]) -> Result<Walked<'_>, DecodeError> {
     let walked = ffi::walk(octets).map_err(DecodeError::from_status)?;
     Ok(Walked { octets: &octets[..walked.size], headers: walked.headers })
 }
 
-/// The place where the value at the front of the octets goes wrong: where the leftmost value begins that is none,
-/// itself or nested in it, and so of what [`walk`] returns. None where a value begins the octets.
+/// The place where the value at the front of the octets goes wrong: where the leftmost value begins
+/// that isn't one, itself or nested in it, and so of what [`walk`] returns. None where a value
+/// begins the octets.
 ///
 /// ```
 /// // A SEQUENCE of two values, of which the second has no header.

@@ -98,8 +98,8 @@ fn families(entries: &[ffi::IpBlock]) -> (IpBlocks, IpBlocks) {
     (IpBlocks::of_entries(AddressFamily::Ipv4, v4), IpBlocks::of_entries(AddressFamily::Ipv6, v6))
 }
 
-/// Each function without a moment is the one with `_at` at now, by the machine's clock. With `strict` false names are
-/// not held to their profile.
+/// Each function without a moment is the one with `_at` at now, by the machine's clock. With
+/// `strict` false names are not checked against their profile.
 impl Cert {
     /// Checks that this is the certificate of the trust anchor: of its profile ([Cert::inspect_ta]), with the locator's
     /// key, signed by it, and valid now (RFC 8630 3).

@@ -69,7 +69,7 @@ impl From<Asn> for u32 {
     }
 }
 
-/// Decimal digits, which `AS` may stand before, in either case.
+/// Decimal digits, after `AS` in either case or without it.
 impl FromStr for Asn {
     type Err = ParseAsnError;
 
@@ -412,7 +412,7 @@ impl AsBlocks {
     }
 }
 
-/// Blocks are put in one after another, in any order, and make a set.
+/// Blocks are put in one by one, in any order, and make a set.
 #[derive(Clone, Debug, Default)]
 pub struct AsBlocksBuilder(Vec<AsBlock>);
 

@@ -29,9 +29,10 @@ fn first_bits(address: u128, count: u32) -> Bytes {
     value(BIT_STRING, &contents)
 }
 
-/// A block of addresses of so many bits: as a prefix where it is one, else as a range, of which zeros at the end of the
-/// lowest address and ones at the end of the highest are left out (RFC 3779 2.2.3.7 to 2.2.3.9). The bits behind those
-/// of an address are 0 in the lowest, and 1 in the highest.
+/// A block of addresses of so many bits: as a prefix where it is one, else as a range, of which
+/// zeros at the end of the lowest address and ones at the end of the highest are left out (RFC 3779
+/// 2.2.3.7 to 2.2.3.9). The bits after those of an address are 0 in the lowest, and 1 in the
+/// highest.
 pub(super) fn addresses((low, high): Ends, width: u8) -> Bytes {
     let (zeros, ones) = (low.trailing_zeros().min(128), high.trailing_ones().min(128));
     let shared = (low ^ high).leading_zeros();

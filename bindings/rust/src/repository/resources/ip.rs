@@ -170,7 +170,7 @@ impl Addr {
         Addr(self.0 | Addr::below(prefix_len))
     }
 
-    /// Ones behind so many bits.
+    /// Ones after so many bits.
     fn below(prefix_len: u8) -> u128 {
         u128::MAX.checked_shr(prefix_len.into()).unwrap_or(0)
     }
@@ -267,7 +267,8 @@ impl Prefix {
         self.addr.to_max(self.len)
     }
 
-    /// The prefix of IP version 4 that a text is, as `10.0.0.0/8`. Bits behind the shared ones are made 0.
+    /// The prefix of IP version 4 that a text is, as `10.0.0.0/8`. Bits after the shared ones are
+    /// made 0.
     ///
     /// # Errors
     /// Another text.
@@ -275,7 +276,8 @@ impl Prefix {
         Prefix::read(AddressFamily::Ipv4, s)
     }
 
-    /// The prefix of IP version 6 that a text is, as `2001:db8::/32`. Bits behind the shared ones are made 0.
+    /// The prefix of IP version 6 that a text is, as `2001:db8::/32`. Bits after the shared ones
+    /// are made 0.
     ///
     /// # Errors
     /// Another text.
@@ -621,7 +623,7 @@ impl FromStr for IpBlocks {
     }
 }
 
-/// Blocks are put in one after another, in any order, and make a set.
+/// Blocks are put in one by one, in any order, and make a set.
 #[derive(Clone, Debug, Default)]
 pub struct IpBlocksBuilder(Vec<IpBlock>);
 
@@ -760,8 +762,8 @@ impl IpResources {
     /// these resources; `None` where neither family has any.
     ///
     /// # Errors
-    /// A block of `v4` begins or ends within an address of IP version 4: one of its ends differs in bits behind the
-    /// first 32 from the first and the last such address.
+    /// A block of `v4` begins or ends within an address of IP version 4: one of its ends differs in
+    /// bits after the first 32 from the first and the last such address.
     ///
     /// ```
     /// use rpki_proved::repository::resources::{IpResources, Ipv4Blocks, Ipv6Blocks, OtherFamily};

@@ -18,7 +18,7 @@ impl fmt::Display for TimeParseError {
 
 impl Error for TimeParseError {}
 
-/// What is left of a text.
+/// The rest of a text.
 struct Reader<'a>(&'a str);
 
 impl Reader<'_> {
@@ -27,7 +27,7 @@ impl Reader<'_> {
         self.0 = self.0.trim_start();
     }
 
-    /// Passes this character, or refuses what is left.
+    /// Passes this character, or refuses the rest.
     fn pass(&mut self, character: char) -> Option<()> {
         self.0 = self.0.strip_prefix(character)?;
         Some(())
@@ -54,7 +54,7 @@ impl Reader<'_> {
         self.number()
     }
 
-    /// A year: one to four digits, or any number of them behind a sign.
+    /// A year: one to four digits, or any number of them after a sign.
     fn year(&mut self) -> Option<i64> {
         self.space();
         if self.pass('-').is_some() {
@@ -76,8 +76,8 @@ impl Reader<'_> {
         Some(())
     }
 
-    /// The seconds that the clocks of a zone are ahead: `Z`, `UTC` in any case, or a sign, two digits of hours, and two
-    /// of minutes behind any number of colons and white space.
+    /// The seconds that the clocks of a zone are ahead: `Z`, `UTC` in any case, or a sign, two
+    /// digits of hours, and two of minutes after any number of colons and white space.
     fn zone(&mut self) -> Option<i64> {
         self.space();
         let first = self.0.chars().next()?;
