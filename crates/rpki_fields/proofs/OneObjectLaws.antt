@@ -14,8 +14,8 @@ use Rattle.rpki_objects.specs.TypedObject.{TypedParts, manifest_object, origin_o
 use Rattle.rpki_fields.specs.declared.kind.Kind.{Kind}
 use Rattle.rpki_fields.specs.declared.kind.Kind.TheVariants as K
 use Rattle.rpki_fields.specs.declared.object.Object.{Object}
-use Rattle.rpki_fields.specs.declared.object.Object.TheVariants.{Certificate, RevocationList, FileList, RouteOrigins}
-use Rattle.rpki_fields.specs.declared.object.Object.TheVariants.{Providers, OtherContent, OtherCertificate}
+use Rattle.rpki_fields.specs.declared.object.Object.TheVariants.{Certificate, Crl, Manifest, Roa}
+use Rattle.rpki_fields.specs.declared.object.Object.TheVariants.{Aspa, SignedObject, OtherCertificate}
 use Rattle.rpki_fields.specs.OtherCert.{AlgorithmParts, AlgorithmFields, OtherCertParts, CertFields, cert_fields_of}
 use Rattle.rpki_fields.specs.Object.{SpellsFields, IsOf, IsNone, IsCertificate, IsNoCertificate, NoOtherCert}
 use Rattle.rpki_fields.specs.Object.IsNoCertificate.{Neither, Lacking}
@@ -80,22 +80,22 @@ no-certificate octets e x z (Lacking y n) g = z y
 
 pub one-of : (kind : Kind) (octets : List ℕ) (x y : Object) → IsOf kind octets x → IsOf kind octets y → x ≡ y
 one-of K.Certificate octets x y g h = one-certificate octets x y g h
-one-of K.RevocationList octets x y g h = g.2 ∙ ap (λ (l : CrlParts). RevocationList l) (h.1.1 g.0 g.1.0) ∙ sym h.2
-one-of K.FileList octets x y g h = g.2 ∙ ap (λ (m : TypedParts ManifestParts). FileList m) (h.1.1 g.0 g.1.0) ∙ sym h.2
-one-of K.RouteOrigins octets x y g h = g.2 ∙ ap (λ (r : TypedParts AttestationParts). RouteOrigins r) (h.1.1 g.0 g.1.0)
+one-of K.Crl octets x y g h = g.2 ∙ ap (λ (l : CrlParts). Crl l) (h.1.1 g.0 g.1.0) ∙ sym h.2
+one-of K.Manifest octets x y g h = g.2 ∙ ap (λ (m : TypedParts ManifestParts). Manifest m) (h.1.1 g.0 g.1.0) ∙ sym h.2
+one-of K.Roa octets x y g h = g.2 ∙ ap (λ (r : TypedParts AttestationParts). Roa r) (h.1.1 g.0 g.1.0)
     ∙ sym h.2
-one-of K.Providers octets x y g h = g.2 ∙ ap (λ (a : TypedParts AspaParts). Providers a) (h.1.1 g.0 g.1.0) ∙ sym h.2
-one-of K.OtherContent octets x y g h =
+one-of K.Aspa octets x y g h = g.2 ∙ ap (λ (a : TypedParts AspaParts). Aspa a) (h.1.1 g.0 g.1.0) ∙ sym h.2
+one-of K.SignedObject octets x y g h =
     let same : g.0 ≡ h.0 = ap object_from (h.1.1 _ g.1.0) in
-    g.2 ∙ ap (λ (o : ObjectParts). OtherContent o) same ∙ sym h.2
+    g.2 ∙ ap (λ (o : ObjectParts). SignedObject o) same ∙ sym h.2
 
 pub none-of : (kind : Kind) (octets : List ℕ) (e : DecodeError) (x : Object) → (e ≡ der.OutOfMemory → ⊥)
     → IsNone kind octets e → IsOf kind octets x → ⊥
 none-of K.Certificate octets e x z n g = no-certificate octets e x z n g
-none-of K.RevocationList octets e x z n g = unless-taken e (SpellsNothing crl.spells octets) z n.0 g.0 g.1.0
-none-of K.FileList octets e x z n g = unless-taken e (SpellsNothing (manifest_object false).spells octets) z n.0 g.0
+none-of K.Crl octets e x z n g = unless-taken e (SpellsNothing crl.spells octets) z n.0 g.0 g.1.0
+none-of K.Manifest octets e x z n g = unless-taken e (SpellsNothing (manifest_object false).spells octets) z n.0 g.0
     g.1.0
-none-of K.RouteOrigins octets e x z n g =
+none-of K.Roa octets e x z n g =
     unless-taken e (SpellsNothing (origin_object none_strict).spells octets) z n.0 g.0 g.1.0
-none-of K.Providers octets e x z n g = unless-taken e (SpellsNothing (aspa_object false).spells octets) z n.0 g.0 g.1.0
-none-of K.OtherContent octets e x z n g = unless-taken e (SpellsNothing SpellsFields octets) z n.0 _ g.1.0
+none-of K.Aspa octets e x z n g = unless-taken e (SpellsNothing (aspa_object false).spells octets) z n.0 g.0 g.1.0
+none-of K.SignedObject octets e x z n g = unless-taken e (SpellsNothing SpellsFields octets) z n.0 _ g.1.0

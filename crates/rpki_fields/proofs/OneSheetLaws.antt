@@ -17,8 +17,8 @@ use Rattle.rpki_objects.specs.SignedObject.{ObjectParts}
 use Rattle.rpki_objects.specs.TypedObject.{TypedParts}
 use Rattle.std.specs.Prelude.{codes, false, Option, Some, None}
 use Rattle.rpki_fields.specs.declared.object.Object.{Object}
-use Rattle.rpki_fields.specs.declared.object.Object.TheVariants.{Certificate, RevocationList, FileList, RouteOrigins}
-use Rattle.rpki_fields.specs.declared.object.Object.TheVariants.{Providers, OtherContent, OtherCertificate}
+use Rattle.rpki_fields.specs.declared.object.Object.TheVariants.{Certificate, Crl, Manifest, Roa}
+use Rattle.rpki_fields.specs.declared.object.Object.TheVariants.{Aspa, SignedObject, OtherCertificate}
 use Rattle.rpki_fields.specs.AccessText.{AreDescribed, access_listing, issuer_shown, signer_shown, subject_shown}
 use Rattle.rpki_fields.specs.AccessText.{HasListing, HasSubjectAccess, HasAccess}
 use Rattle.rpki_fields.specs.ContentText.{AreManifestFields, IsManifestSheet, IsOriginSheet, IsProviderSheet}
@@ -151,14 +151,14 @@ with-access shown t P one a b g h =
 pub one-sheet : (octets : List ℕ) (x : Object) (a b : SheetParts) → IsSheet octets x a → IsSheet octets x b → a ≡ b
 one-sheet octets (Certificate c) a b g h =
     with-access subject_shown c.tbs (IsCertSheet octets c.tbs) (one-cert-sheet octets c.tbs) a b g h
-one-sheet octets (RevocationList l) a b g h = one-list-sheet l.list a b g h
-one-sheet octets (FileList m) a b g h =
+one-sheet octets (Crl l) a b g h = one-list-sheet l.list a b g h
+one-sheet octets (Manifest m) a b g h =
     with-access signer_shown m.object.cert.tbs (IsManifestSheet m) (one-manifest-sheet m) a b g h
-one-sheet octets (RouteOrigins r) a b g h =
+one-sheet octets (Roa r) a b g h =
     with-access signer_shown r.object.cert.tbs (IsOriginSheet r) (one-origin-sheet r) a b g h
-one-sheet octets (Providers p) a b g h =
+one-sheet octets (Aspa p) a b g h =
     with-access signer_shown p.object.cert.tbs (IsProviderSheet p) (one-provider-sheet p) a b g h
-one-sheet octets (OtherContent o) a b g h =
+one-sheet octets (SignedObject o) a b g h =
     with-access signer_shown o.cert.tbs (IsOtherSheet o) (one-other-sheet o) a b g h
 one-sheet octets (OtherCertificate c) a b g h = g.2
     ∙ ap (λ (fields : List FieldParts). plain_sheet fields) (one-other-fields octets c g.0 h.0 g.1 h.1) ∙ sym h.2

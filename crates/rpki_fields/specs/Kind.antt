@@ -3,8 +3,8 @@
 use Rattle.std.specs.Prelude.{ℕ, nat_lt, nat_eq, ◌-◌, Bool, if◌then◌else◌, List, [], ◌∷◌, drop, codes}
 use Rattle.std.specs.List.{starts_with}
 use Rattle.rpki_fields.specs.declared.kind.Kind.{Kind}
-use Rattle.rpki_fields.specs.declared.kind.Kind.TheVariants.{Certificate, RevocationList, FileList, RouteOrigins}
-use Rattle.rpki_fields.specs.declared.kind.Kind.TheVariants.{Providers, OtherContent}
+use Rattle.rpki_fields.specs.declared.kind.Kind.TheVariants.{Certificate, Crl, Manifest, Roa}
+use Rattle.rpki_fields.specs.declared.kind.Kind.TheVariants.{Aspa, SignedObject}
 use Rattle.rpki_objects.specs.TypedObject.{manifest_type, origin_type, aspa_type}
 
 -- ---- values, by their first octets (X.690 8.1.2, 8.1.3)
@@ -37,15 +37,15 @@ content_type_in contents = inside (behind (behind (inside (inside (behind conten
 -- octets
 abbrev pub content_kind : List ℕ → Kind
 content_kind front =
-    if begins front (6 ∷ 11 ∷ manifest_type) then FileList
-    else if begins front (6 ∷ 11 ∷ origin_type) then RouteOrigins
-    else if begins front (6 ∷ 11 ∷ aspa_type) then Providers
-    else OtherContent
+    if begins front (6 ∷ 11 ∷ manifest_type) then Manifest
+    else if begins front (6 ∷ 11 ∷ origin_type) then Roa
+    else if begins front (6 ∷ 11 ∷ aspa_type) then Aspa
+    else SignedObject
 
 -- Of a signed value: what is signed of a revocation list begins with version 2, the INTEGER 1 (RFC 5280 5.1.2.1); of a
 -- certificate with a tag, or with its serial number.
 abbrev pub signed_kind : List ℕ → Kind
-signed_kind signed = if begins signed (2 ∷ 1 ∷ 1 ∷ []) then RevocationList else Certificate
+signed_kind signed = if begins signed (2 ∷ 1 ∷ 1 ∷ []) then Crl else Certificate
 
 -- The kind by what is in the SEQUENCE around all: a signed object begins with an object identifier (RFC 5652 3), a
 -- revocation list or a certificate with the SEQUENCE that is signed (RFC 5280 4.1, 5.1).
@@ -63,8 +63,8 @@ kind_of octets = if begins octets (48 ∷ []) then kind_inside (inside octets) e
 
 abbrev pub kind_text : Kind → List ℕ
 kind_text Certificate = codes "certificate"
-kind_text RevocationList = codes "revocation list"
-kind_text FileList = codes "manifest"
-kind_text RouteOrigins = codes "route origin attestation"
-kind_text Providers = codes "provider attestation"
-kind_text OtherContent = codes "signed object"
+kind_text Crl = codes "revocation list"
+kind_text Manifest = codes "manifest"
+kind_text Roa = codes "route origin attestation"
+kind_text Aspa = codes "provider attestation"
+kind_text SignedObject = codes "signed object"

@@ -15,8 +15,8 @@ use Rattle.rpki_objects.specs.TypedObject.{TypedParts, manifest_object, origin_o
 use Rattle.rpki_fields.specs.declared.kind.Kind.{Kind}
 use Rattle.rpki_fields.specs.declared.kind.Kind.TheVariants as K
 use Rattle.rpki_fields.specs.declared.object.Object.{Object}
-use Rattle.rpki_fields.specs.declared.object.Object.TheVariants.{Certificate, RevocationList, FileList, RouteOrigins}
-use Rattle.rpki_fields.specs.declared.object.Object.TheVariants.{Providers, OtherContent, OtherCertificate}
+use Rattle.rpki_fields.specs.declared.object.Object.TheVariants.{Certificate, Crl, Manifest, Roa}
+use Rattle.rpki_fields.specs.declared.object.Object.TheVariants.{Aspa, SignedObject, OtherCertificate}
 use Rattle.rpki_fields.specs.OtherCert.{OtherCertParts, other_cert, cert_fields_of, has_other}
 use Rattle.rpki_fields.specs.OtherText.{objection}
 
@@ -46,15 +46,15 @@ IsCertificate octets x =
 -- families are read as they were before RFC 9589 and RFC 9582 4.3.3.
 abbrev pub IsOf : Kind → List ℕ → Object → Type 0
 IsOf K.Certificate octets x = IsCertificate octets x
-IsOf K.RevocationList octets x = (l : CrlParts) × SpellsOnly crl.spells l octets × (x ≡ RevocationList l)
-IsOf K.FileList octets x =
-    (m : TypedParts ManifestParts) × SpellsOnly (manifest_object false).spells m octets × (x ≡ FileList m)
-IsOf K.RouteOrigins octets x =
-    (r : TypedParts AttestationParts) × SpellsOnly (origin_object none_strict).spells r octets × (x ≡ RouteOrigins r)
-IsOf K.Providers octets x =
-    (a : TypedParts AspaParts) × SpellsOnly (aspa_object false).spells a octets × (x ≡ Providers a)
-IsOf K.OtherContent octets x =
-    (o : ObjectParts) × SpellsOnly SpellsFields (object_fields_of o) octets × (x ≡ OtherContent o)
+IsOf K.Crl octets x = (l : CrlParts) × SpellsOnly crl.spells l octets × (x ≡ Crl l)
+IsOf K.Manifest octets x =
+    (m : TypedParts ManifestParts) × SpellsOnly (manifest_object false).spells m octets × (x ≡ Manifest m)
+IsOf K.Roa octets x =
+    (r : TypedParts AttestationParts) × SpellsOnly (origin_object none_strict).spells r octets × (x ≡ Roa r)
+IsOf K.Aspa octets x =
+    (a : TypedParts AspaParts) × SpellsOnly (aspa_object false).spells a octets × (x ≡ Aspa a)
+IsOf K.SignedObject octets x =
+    (o : ObjectParts) × SpellsOnly SpellsFields (object_fields_of o) octets × (x ≡ SignedObject o)
 
 -- the octets spell nothing, and the error is the one that is due; or allocation failed
 abbrev pub IsUnspelled : {V : Type 0} → (V → List ℕ → Type 0) → (List ℕ → DecodeError → Type 0) → List ℕ → DecodeError
@@ -71,28 +71,28 @@ pub data IsNoCertificate (octets : List ℕ) (e : DecodeError) : Type 0 where
 -- the octets are no object of the kind
 abbrev pub IsNone : Kind → List ℕ → DecodeError → Type 0
 IsNone K.Certificate = IsNoCertificate
-IsNone K.RevocationList = IsUnspelled crl.spells crl.fault
-IsNone K.FileList = IsUnspelled (manifest_object false).spells (manifest_object false).fault
-IsNone K.RouteOrigins = IsUnspelled (origin_object none_strict).spells (origin_object none_strict).fault
-IsNone K.Providers = IsUnspelled (aspa_object false).spells (aspa_object false).fault
-IsNone K.OtherContent = IsUnspelled SpellsFields (signed_object false).fault
+IsNone K.Crl = IsUnspelled crl.spells crl.fault
+IsNone K.Manifest = IsUnspelled (manifest_object false).spells (manifest_object false).fault
+IsNone K.Roa = IsUnspelled (origin_object none_strict).spells (origin_object none_strict).fault
+IsNone K.Aspa = IsUnspelled (aspa_object false).spells (aspa_object false).fault
+IsNone K.SignedObject = IsUnspelled SpellsFields (signed_object false).fault
 
 -- the certificate in the profile of the RPKI that an object is, or that its signer has; a revocation list has none
 abbrev pub cert_of : Object → Option TbsParts
 cert_of (Certificate c) = Some c.tbs
-cert_of (RevocationList l) = None
-cert_of (FileList m) = Some m.object.cert.tbs
-cert_of (RouteOrigins r) = Some r.object.cert.tbs
-cert_of (Providers a) = Some a.object.cert.tbs
-cert_of (OtherContent o) = Some o.cert.tbs
+cert_of (Crl l) = None
+cert_of (Manifest m) = Some m.object.cert.tbs
+cert_of (Roa r) = Some r.object.cert.tbs
+cert_of (Aspa a) = Some a.object.cert.tbs
+cert_of (SignedObject o) = Some o.cert.tbs
 cert_of (OtherCertificate c) = None
 
 -- what the RPKI doesn't use of an object
 abbrev pub objection_to : Object → Option (List ℕ)
 objection_to (Certificate c) = None
-objection_to (RevocationList l) = None
-objection_to (FileList m) = None
-objection_to (RouteOrigins r) = None
-objection_to (Providers a) = None
-objection_to (OtherContent o) = None
+objection_to (Crl l) = None
+objection_to (Manifest m) = None
+objection_to (Roa r) = None
+objection_to (Aspa a) = None
+objection_to (SignedObject o) = None
 objection_to (OtherCertificate c) = Some (objection c)

@@ -3,8 +3,8 @@ use Rattle.std.specs.Prelude.{◌≡◌, ℕ, false, List, codes}
 use Rattle.rpki_cert.specs.Cert.{TbsParts}
 use Rattle.rpki_cert.specs.AccessDescription.{Description}
 use Rattle.rpki_fields.specs.declared.object.Object.{Object}
-use Rattle.rpki_fields.specs.declared.object.Object.TheVariants.{Certificate, RevocationList, FileList, RouteOrigins}
-use Rattle.rpki_fields.specs.declared.object.Object.TheVariants.{Providers, OtherContent, OtherCertificate}
+use Rattle.rpki_fields.specs.declared.object.Object.TheVariants.{Certificate, Crl, Manifest, Roa}
+use Rattle.rpki_fields.specs.declared.object.Object.TheVariants.{Aspa, SignedObject, OtherCertificate}
 use Rattle.rpki_fields.specs.AccessText.{HasAccess, subject_shown, signer_shown}
 use Rattle.rpki_fields.specs.CertText.{AreFields}
 use Rattle.rpki_fields.specs.ContentText.{IsManifestSheet, IsOriginSheet, IsProviderSheet, IsOtherSheet}
@@ -28,10 +28,10 @@ WithAccess shown t P s = (sheet : SheetParts) × P sheet × HasAccess shown t.ex
 -- the sheet of the object that these octets are
 abbrev pub IsSheet : List ℕ → Object → SheetParts → Type 0
 IsSheet octets (Certificate c) s = WithAccess subject_shown c.tbs (IsCertSheet octets c.tbs) s
-IsSheet octets (RevocationList l) s = IsListSheet l.list s
-IsSheet octets (FileList m) s = WithAccess signer_shown m.object.cert.tbs (IsManifestSheet m) s
-IsSheet octets (RouteOrigins r) s = WithAccess signer_shown r.object.cert.tbs (IsOriginSheet r) s
-IsSheet octets (Providers a) s = WithAccess signer_shown a.object.cert.tbs (IsProviderSheet a) s
-IsSheet octets (OtherContent o) s = WithAccess signer_shown o.cert.tbs (IsOtherSheet o) s
+IsSheet octets (Crl l) s = IsListSheet l.list s
+IsSheet octets (Manifest m) s = WithAccess signer_shown m.object.cert.tbs (IsManifestSheet m) s
+IsSheet octets (Roa r) s = WithAccess signer_shown r.object.cert.tbs (IsOriginSheet r) s
+IsSheet octets (Aspa a) s = WithAccess signer_shown a.object.cert.tbs (IsProviderSheet a) s
+IsSheet octets (SignedObject o) s = WithAccess signer_shown o.cert.tbs (IsOtherSheet o) s
 IsSheet octets (OtherCertificate c) s =
     (fields : List FieldParts) × AreOtherFields octets c fields × (s ≡ plain_sheet fields)

@@ -64,8 +64,8 @@ IsObjectPart C octets o =
 
 abbrev pub IsPlace : Kind → List ℕ → Option Place → Type 0
 IsPlace K.Certificate = IsPart ReadsCert IsCertWrong P.Cert
-IsPlace K.RevocationList = IsPart ReadsList IsCrlWrong P.List
-IsPlace K.FileList = IsObjectPart IsFilesPart
-IsPlace K.RouteOrigins = IsObjectPart IsOriginsPart
-IsPlace K.Providers = IsObjectPart IsProvidersPart
-IsPlace K.OtherContent = IsObjectPart IsOtherPart
+IsPlace K.Crl = IsPart ReadsList IsCrlWrong P.List
+IsPlace K.Manifest = IsObjectPart IsFilesPart
+IsPlace K.Roa = IsObjectPart IsOriginsPart
+IsPlace K.Aspa = IsObjectPart IsProvidersPart
+IsPlace K.SignedObject = IsObjectPart IsOtherPart

@@ -25,15 +25,15 @@ pub enum Kind {
     /// A certificate (RFC 6487 4, RFC 8209 3.1).
     Certificate,
     /// A revocation list (RFC 6487 5).
-    RevocationList,
+    Crl,
     /// A manifest (RFC 9286).
-    FileList,
+    Manifest,
     /// A route origin attestation (RFC 9582).
-    RouteOrigins,
+    Roa,
     /// An attestation of providers (draft-ietf-sidrops-aspa-profile).
-    Providers,
+    Aspa,
     /// A signed object of any other content (RFC 6488).
-    OtherContent,
+    SignedObject,
 }
 
 /// What follows the identifier octet and the length octets of the value at the front.
@@ -75,13 +75,13 @@ fn content_kind(front: &[u8]) -> Kind
     ensures { result ≡ content_kind front.now }
 {
     if front.starts_with(MANIFEST) {
-        Kind::FileList
+        Kind::Manifest
     } else if front.starts_with(ORIGINS) {
-        Kind::RouteOrigins
+        Kind::Roa
     } else if front.starts_with(PROVIDERS) {
-        Kind::Providers
+        Kind::Aspa
     } else {
-        Kind::OtherContent
+        Kind::SignedObject
     }
 }
 
@@ -90,7 +90,7 @@ fn signed_kind(signed: &[u8]) -> Kind
     ensures { result ≡ signed_kind signed.now }
 {
     if signed.starts_with(VERSION) {
-        Kind::RevocationList
+        Kind::Crl
     } else {
         Kind::Certificate
     }
@@ -128,11 +128,11 @@ impl Kind {
     {
         match self {
             Kind::Certificate => "certificate",
-            Kind::RevocationList => "revocation list",
-            Kind::FileList => "manifest",
-            Kind::RouteOrigins => "route origin attestation",
-            Kind::Providers => "provider attestation",
-            Kind::OtherContent => "signed object",
+            Kind::Crl => "revocation list",
+            Kind::Manifest => "manifest",
+            Kind::Roa => "route origin attestation",
+            Kind::Aspa => "provider attestation",
+            Kind::SignedObject => "signed object",
         }
     }
 }

@@ -6,8 +6,7 @@ ghost use Rattle.rpki_der.specs.Prelude.{left, CanShare, Reads, Decodes, IsWhole
 ghost use Rattle.rpki_cert.specs.Cert.{SpellsCert};
 ghost use Rattle.rpki_cert.specs.CertFault.{IsCertFault};
 ghost use Rattle.rpki_fields.specs.declared.kind.Kind.TheVariants as K;
-ghost use Rattle.rpki_fields.specs.declared.object.Object.TheVariants.{Certificate, FileList, RouteOrigins};
-ghost use Rattle.rpki_fields.specs.declared.object.Object.TheVariants.{Providers, OtherContent, OtherCertificate};
+ghost use Rattle.rpki_fields.specs.declared.object.Object.TheVariants as O;
 ghost use Rattle.rpki_fields.specs.Object.{IsOf, IsNone, IsUnspelled, cert_of, objection_to};
 ghost use Rattle.rpki_fields.specs.ObjectText.{IsCertSheet, IsSheet};
 
@@ -38,15 +37,15 @@ pub enum Object {
     /// A certificate.
     Certificate(Cert),
     /// A revocation list.
-    RevocationList(Crl),
+    Crl(Crl),
     /// A manifest.
-    FileList(Manifest),
+    Manifest(Manifest),
     /// A route origin attestation.
-    RouteOrigins(Roa),
+    Roa(Roa),
     /// An attestation of providers.
-    Providers(Aspa),
+    Aspa(Aspa),
     /// A signed object of any other content.
-    OtherContent(SignedObject),
+    SignedObject(SignedObject),
     /// A certificate of an algorithm that the RPKI doesn't use.
     OtherCertificate(OtherCert),
 }
@@ -104,50 +103,50 @@ fn certificate(alloc: Global, octets: Bytes) -> Result<Object, DecodeError>
 
 /// The revocation list that the octets are.
 fn revocation_list(alloc: Global, octets: Bytes) -> Result<Object, DecodeError>
-    ensures { MatchResult result (IsOf K.RevocationList octets) (IsNone K.RevocationList octets) }
+    ensures { MatchResult result (IsOf K.Crl octets) (IsNone K.Crl octets) }
 {
     match Crl::decode(alloc, octets) {
-        Ok(list) => Ok(Object::RevocationList(list)),
+        Ok(list) => Ok(Object::Crl(list)),
         Err(e) => Err(e),
     }
 }
 
 /// The manifest that the octets are.
 fn file_list(alloc: Global, octets: Bytes) -> Result<Object, DecodeError>
-    ensures { MatchResult result (IsOf K.FileList octets) (IsNone K.FileList octets) }
+    ensures { MatchResult result (IsOf K.Manifest octets) (IsNone K.Manifest octets) }
 {
     match Manifest::decode(alloc, octets, false) {
-        Ok(manifest) => Ok(Object::FileList(manifest)),
+        Ok(manifest) => Ok(Object::Manifest(manifest)),
         Err(e) => Err(e),
     }
 }
 
 /// The route origin attestation that the octets are.
 fn route_origins(alloc: Global, octets: Bytes) -> Result<Object, DecodeError>
-    ensures { MatchResult result (IsOf K.RouteOrigins octets) (IsNone K.RouteOrigins octets) }
+    ensures { MatchResult result (IsOf K.Roa octets) (IsNone K.Roa octets) }
 {
     match Roa::decode(alloc, octets, Strictness::default()) {
-        Ok(origins) => Ok(Object::RouteOrigins(origins)),
+        Ok(origins) => Ok(Object::Roa(origins)),
         Err(e) => Err(e),
     }
 }
 
 /// The attestation of providers that the octets are.
 fn providers(alloc: Global, octets: Bytes) -> Result<Object, DecodeError>
-    ensures { MatchResult result (IsOf K.Providers octets) (IsNone K.Providers octets) }
+    ensures { MatchResult result (IsOf K.Aspa octets) (IsNone K.Aspa octets) }
 {
     match Aspa::decode(alloc, octets, false) {
-        Ok(attestation) => Ok(Object::Providers(attestation)),
+        Ok(attestation) => Ok(Object::Aspa(attestation)),
         Err(e) => Err(e),
     }
 }
 
 /// The signed object that the octets are.
 fn other_content(alloc: Global, octets: Bytes) -> Result<Object, DecodeError>
-    ensures { MatchResult result (IsOf K.OtherContent octets) (IsNone K.OtherContent octets) }
+    ensures { MatchResult result (IsOf K.SignedObject octets) (IsNone K.SignedObject octets) }
 {
     match SignedObject::decode(alloc, octets, false) {
-        Ok(object) => Ok(Object::OtherContent(object)),
+        Ok(object) => Ok(Object::SignedObject(object)),
         Err(e) => Err(e),
     }
 }
@@ -163,7 +162,7 @@ fn own_sheet(alloc: Global, octets: &[u8], tbs: &TbsCert) -> Result<Sheet, Alloc
 
 /// The sheet of the certificate that these octets are.
 fn cert_sheet(alloc: Global, octets: &[u8], cert: &Cert) -> Result<Sheet, AllocError>
-    ensures { IfOk result (λ s. IsSheet octets.now (Certificate cert.now) s) }
+    ensures { IfOk result (λ s. IsSheet octets.now (O.Certificate cert.now) s) }
 {
     let sheet = own_sheet(alloc, octets, cert.tbs())?;
     cert_access(alloc, sheet, cert.tbs())
@@ -171,7 +170,7 @@ fn cert_sheet(alloc: Global, octets: &[u8], cert: &Cert) -> Result<Sheet, AllocE
 
 /// The sheet of a manifest.
 fn file_sheet(alloc: Global, octets: &[u8], manifest: &Manifest) -> Result<Sheet, AllocError>
-    ensures { IfOk result (λ s. IsSheet octets.now (FileList manifest.now) s) }
+    ensures { IfOk result (λ s. IsSheet octets.now (O.Manifest manifest.now) s) }
 {
     let sheet = manifest_sheet(alloc, manifest)?;
     signer_access(alloc, sheet, manifest.object().cert().tbs())
@@ -179,7 +178,7 @@ fn file_sheet(alloc: Global, octets: &[u8], manifest: &Manifest) -> Result<Sheet
 
 /// The sheet of a route origin attestation.
 fn route_sheet(alloc: Global, octets: &[u8], origins: &Roa) -> Result<Sheet, AllocError>
-    ensures { IfOk result (λ s. IsSheet octets.now (RouteOrigins origins.now) s) }
+    ensures { IfOk result (λ s. IsSheet octets.now (O.Roa origins.now) s) }
 {
     let sheet = origin_sheet(alloc, origins)?;
     signer_access(alloc, sheet, origins.object().cert().tbs())
@@ -187,7 +186,7 @@ fn route_sheet(alloc: Global, octets: &[u8], origins: &Roa) -> Result<Sheet, All
 
 /// The sheet of an attestation of providers.
 fn aspa_sheet(alloc: Global, octets: &[u8], attestation: &Aspa) -> Result<Sheet, AllocError>
-    ensures { IfOk result (λ s. IsSheet octets.now (Providers attestation.now) s) }
+    ensures { IfOk result (λ s. IsSheet octets.now (O.Aspa attestation.now) s) }
 {
     let sheet = provider_sheet(alloc, attestation)?;
     signer_access(alloc, sheet, attestation.object().cert().tbs())
@@ -195,7 +194,7 @@ fn aspa_sheet(alloc: Global, octets: &[u8], attestation: &Aspa) -> Result<Sheet,
 
 /// The sheet of a signed object of any other content.
 fn content_sheet(alloc: Global, octets: &[u8], object: &SignedObject) -> Result<Sheet, AllocError>
-    ensures { IfOk result (λ s. IsSheet octets.now (OtherContent object.now) s) }
+    ensures { IfOk result (λ s. IsSheet octets.now (O.SignedObject object.now) s) }
 {
     let sheet = other_sheet(alloc, object)?;
     signer_access(alloc, sheet, object.cert().tbs())
@@ -203,7 +202,7 @@ fn content_sheet(alloc: Global, octets: &[u8], object: &SignedObject) -> Result<
 
 /// The sheet of the certificate of other algorithms that these octets are.
 fn other_cert_sheet(alloc: Global, octets: &[u8], cert: &OtherCert) -> Result<Sheet, AllocError>
-    ensures { IfOk result (λ s. IsSheet octets.now (OtherCertificate cert.now) s) }
+    ensures { IfOk result (λ s. IsSheet octets.now (O.OtherCertificate cert.now) s) }
 {
     let fields = other_fields(alloc, octets, cert)?;
     Ok(Sheet::plain(fields))
@@ -221,11 +220,11 @@ impl Object {
     {
         match kind {
             Kind::Certificate => certificate(alloc, octets),
-            Kind::RevocationList => revocation_list(alloc, octets),
-            Kind::FileList => file_list(alloc, octets),
-            Kind::RouteOrigins => route_origins(alloc, octets),
-            Kind::Providers => providers(alloc, octets),
-            Kind::OtherContent => other_content(alloc, octets),
+            Kind::Crl => revocation_list(alloc, octets),
+            Kind::Manifest => file_list(alloc, octets),
+            Kind::Roa => route_origins(alloc, octets),
+            Kind::Aspa => providers(alloc, octets),
+            Kind::SignedObject => other_content(alloc, octets),
         }
     }
 
@@ -236,11 +235,11 @@ impl Object {
     {
         match self {
             Object::Certificate(cert) => Some(cert.tbs()),
-            Object::RevocationList(_) => None,
-            Object::FileList(manifest) => Some(manifest.object().cert().tbs()),
-            Object::RouteOrigins(origins) => Some(origins.object().cert().tbs()),
-            Object::Providers(attestation) => Some(attestation.object().cert().tbs()),
-            Object::OtherContent(object) => Some(object.cert().tbs()),
+            Object::Crl(_) => None,
+            Object::Manifest(manifest) => Some(manifest.object().cert().tbs()),
+            Object::Roa(origins) => Some(origins.object().cert().tbs()),
+            Object::Aspa(attestation) => Some(attestation.object().cert().tbs()),
+            Object::SignedObject(object) => Some(object.cert().tbs()),
             Object::OtherCertificate(_) => None,
         }
     }
@@ -279,11 +278,11 @@ impl Object {
     {
         match self {
             Object::Certificate(cert) => cert_sheet(alloc, octets, cert),
-            Object::RevocationList(list) => list_sheet(alloc, list),
-            Object::FileList(manifest) => file_sheet(alloc, octets, manifest),
-            Object::RouteOrigins(origins) => route_sheet(alloc, octets, origins),
-            Object::Providers(attestation) => aspa_sheet(alloc, octets, attestation),
-            Object::OtherContent(object) => content_sheet(alloc, octets, object),
+            Object::Crl(list) => list_sheet(alloc, list),
+            Object::Manifest(manifest) => file_sheet(alloc, octets, manifest),
+            Object::Roa(origins) => route_sheet(alloc, octets, origins),
+            Object::Aspa(attestation) => aspa_sheet(alloc, octets, attestation),
+            Object::SignedObject(object) => content_sheet(alloc, octets, object),
             Object::OtherCertificate(cert) => other_cert_sheet(alloc, octets, cert),
         }
     }

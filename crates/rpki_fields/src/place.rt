@@ -38,7 +38,7 @@ fn cert_place(octets: &[u8]) -> Option<Place>
 
 /// The malformed part of octets that should be a revocation list.
 fn list_place(octets: &[u8]) -> Option<Place>
-    ensures { IsPlace K.RevocationList octets.now result }
+    ensures { IsPlace K.Crl octets.now result }
 {
     match CrlView::read(octets) {
         Ok(_) => None,
@@ -78,7 +78,7 @@ fn providers_part(octets: &[u8]) -> Option<Place>
 
 /// The malformed part of octets that should be a manifest.
 fn files_place(octets: &[u8]) -> Option<Place>
-    ensures { IsPlace K.FileList octets.now result }
+    ensures { IsPlace K.Manifest octets.now result }
 {
     match SignedObjectView::read(octets, false) {
         Ok(object) => files_part(object.content.content.octets),
@@ -88,7 +88,7 @@ fn files_place(octets: &[u8]) -> Option<Place>
 
 /// The malformed part of octets that should be a route origin attestation.
 fn origins_place(octets: &[u8]) -> Option<Place>
-    ensures { IsPlace K.RouteOrigins octets.now result }
+    ensures { IsPlace K.Roa octets.now result }
 {
     match SignedObjectView::read(octets, false) {
         Ok(object) => origins_part(object.content.content.octets),
@@ -98,7 +98,7 @@ fn origins_place(octets: &[u8]) -> Option<Place>
 
 /// The malformed part of octets that should be an attestation of providers.
 fn providers_place(octets: &[u8]) -> Option<Place>
-    ensures { IsPlace K.Providers octets.now result }
+    ensures { IsPlace K.Aspa octets.now result }
 {
     match SignedObjectView::read(octets, false) {
         Ok(object) => providers_part(object.content.content.octets),
@@ -108,7 +108,7 @@ fn providers_place(octets: &[u8]) -> Option<Place>
 
 /// The malformed part of octets that should be a signed object.
 fn other_place(octets: &[u8]) -> Option<Place>
-    ensures { IsPlace K.OtherContent octets.now result }
+    ensures { IsPlace K.SignedObject octets.now result }
 {
     match SignedObjectView::read(octets, false) {
         Ok(_) => None,
@@ -124,11 +124,11 @@ impl Place {
     {
         match kind {
             Kind::Certificate => cert_place(octets),
-            Kind::RevocationList => list_place(octets),
-            Kind::FileList => files_place(octets),
-            Kind::RouteOrigins => origins_place(octets),
-            Kind::Providers => providers_place(octets),
-            Kind::OtherContent => other_place(octets),
+            Kind::Crl => list_place(octets),
+            Kind::Manifest => files_place(octets),
+            Kind::Roa => origins_place(octets),
+            Kind::Aspa => providers_place(octets),
+            Kind::SignedObject => other_place(octets),
         }
     }
 }

@@ -18,7 +18,7 @@ use Rattle.rpki_valid.specs.Processed.{ChecksOwnRules, KeepsOwnOriginRules, IsOw
 use Rattle.rpki_valid.specs.Processed.{IsOwnAspaError}
 use Rattle.rpki_objects.specs.TypedObject.{TypedParts}
 use Rattle.rpki_fields.specs.declared.object.Object.{Object}
-use Rattle.rpki_fields.specs.declared.object.Object.TheVariants.{FileList, RouteOrigins, Providers}
+use Rattle.rpki_fields.specs.declared.object.Object.TheVariants.{Manifest, Roa, Aspa}
 use Rattle.rpkicert.specs.declared.fault.Clause.{Clause}
 use Rattle.rpkicert.specs.declared.fault.Clause.TheVariants as C
 use Rattle.rpkicert.specs.declared.fault.Fault.{Fault}
@@ -148,7 +148,7 @@ pub inherited : (m : TypedParts ManifestParts) (checked : Result (Unit {0}) Vali
     (r : Result (Unit {0}) Fault)
     → ChecksBy (AreInherited m.object.cert.tbs.extensions) (HasReason not_inherited_text)
     checked
-    → r ≡ by_clause C.Inherited checked → Judges (KeepsResources (FileList m)) (BreaksResources (FileList m)) r
+    → r ≡ by_clause C.Inherited checked → Judges (KeepsResources (Manifest m)) (BreaksResources (Manifest m)) r
 inherited m checked r h e =
     judged C.Inherited (AreInherited m.object.cert.tbs.extensions)
     (HasReason not_inherited_text) r
@@ -172,12 +172,12 @@ module _ (clause : Clause) (P : Type 0) (E : ValidationError → Type 0) where
 
 pub origins : (o : TypedParts AttestationParts) (checked : Result (Unit {0}) ValidationError)
     (r : Result (Unit {0}) Fault) → ChecksOwnRules (KeepsOwnOriginRules o) (IsOwnOriginError o) checked
-    → r ≡ judged_by C.Origins checked → Judges (KeepsResources (RouteOrigins o)) (BreaksResources (RouteOrigins o)) r
+    → r ≡ judged_by C.Origins checked → Judges (KeepsResources (Roa o)) (BreaksResources (Roa o)) r
 origins o = own-rules C.Origins (KeepsOwnOriginRules o) (IsOwnOriginError o)
 
 pub customer : (a : TypedParts AspaParts) (checked : Result (Unit {0}) ValidationError)
     (r : Result (Unit {0}) Fault) → ChecksOwnRules (KeepsOwnAspaRules a) (IsOwnAspaError a) checked
-    → r ≡ judged_by C.Customer checked → Judges (KeepsResources (Providers a)) (BreaksResources (Providers a)) r
+    → r ≡ judged_by C.Customer checked → Judges (KeepsResources (Aspa a)) (BreaksResources (Aspa a)) r
 customer a = own-rules C.Customer (KeepsOwnAspaRules a) (IsOwnAspaError a)
 
 module _ (x : Object) where

@@ -7,8 +7,8 @@ use Rattle.jiff.specs.Words.{civil_nanos, parse_timestamp, Error}
 use Rattle.rpki_time.specs.Time.{IsTimeNanos}
 use Rattle.rpki_cert.specs.Cert.{TbsParts}
 use Rattle.rpki_fields.specs.declared.object.Object.{Object}
-use Rattle.rpki_fields.specs.declared.object.Object.TheVariants.{Certificate, RevocationList, FileList, RouteOrigins}
-use Rattle.rpki_fields.specs.declared.object.Object.TheVariants.{Providers, OtherContent, OtherCertificate}
+use Rattle.rpki_fields.specs.declared.object.Object.TheVariants.{Certificate, Crl, Manifest, Roa}
+use Rattle.rpki_fields.specs.declared.object.Object.TheVariants.{Aspa, SignedObject, OtherCertificate}
 use Rattle.rpki_fields.specs.declared.rendering.Form.{Form}
 use Rattle.rpkicert.specs.declared.fault.Fault.{Fault}
 use Rattle.rpkicert.specs.declared.fault.Fault.TheVariants.{NoCertificate, OtherAlgorithm}
@@ -48,11 +48,11 @@ IsNoMoment word = IsOkAnd (moment_of word) IsTimeNanos → ⊥
 -- the certificate that an object is, as that of an issuer
 abbrev pub certificate_in : Object → Result TbsParts Fault
 certificate_in (Certificate c) = Ok c.tbs
-certificate_in (RevocationList l) = Err NoCertificate
-certificate_in (FileList m) = Err NoCertificate
-certificate_in (RouteOrigins r) = Err NoCertificate
-certificate_in (Providers a) = Err NoCertificate
-certificate_in (OtherContent o) = Err NoCertificate
+certificate_in (Crl l) = Err NoCertificate
+certificate_in (Manifest m) = Err NoCertificate
+certificate_in (Roa r) = Err NoCertificate
+certificate_in (Aspa a) = Err NoCertificate
+certificate_in (SignedObject o) = Err NoCertificate
 certificate_in (OtherCertificate c) = Err OtherAlgorithm
 
 -- the same of what was found; or why there is none

@@ -2,8 +2,8 @@
 use Rattle.std.specs.Prelude.{ℕ, Bool, true, false, if◌then◌else◌, List, codes}
 use Rattle.rpki_cert.specs.Cert.{CertParts}
 use Rattle.rpki_fields.specs.declared.object.Object.{Object}
-use Rattle.rpki_fields.specs.declared.object.Object.TheVariants.{Certificate, RevocationList, FileList, RouteOrigins}
-use Rattle.rpki_fields.specs.declared.object.Object.TheVariants.{Providers, OtherContent, OtherCertificate}
+use Rattle.rpki_fields.specs.declared.object.Object.TheVariants.{Certificate, Crl, Manifest, Roa}
+use Rattle.rpki_fields.specs.declared.object.Object.TheVariants.{Aspa, SignedObject, OtherCertificate}
 use Rattle.rpkicert.specs.declared.fault.Clause.{Clause}
 use Rattle.rpkicert.specs.declared.fault.Clause.TheVariants as C
 use Rattle.rpkicert.specs.declared.fault.Fault.{Fault}
@@ -40,11 +40,11 @@ of_certificate c = if is_self_issued c then Good else Unchecked
 -- of an object that holds by itself, without an issuer
 abbrev pub signature_alone : Object → Signature
 signature_alone (Certificate c) = of_certificate c
-signature_alone (RevocationList l) = Unchecked
-signature_alone (FileList m) = Own
-signature_alone (RouteOrigins r) = Own
-signature_alone (Providers a) = Own
-signature_alone (OtherContent o) = Own
+signature_alone (Crl l) = Unchecked
+signature_alone (Manifest m) = Own
+signature_alone (Roa r) = Own
+signature_alone (Aspa a) = Own
+signature_alone (SignedObject o) = Own
 signature_alone (OtherCertificate c) = Unchecked
 
 -- of an object that holds, and is of the issuer, if one is asked for

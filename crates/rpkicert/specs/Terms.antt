@@ -21,8 +21,8 @@ use Rattle.rpki_valid.specs.ObjectVerified.{IsSignedObject, IsUnsignedObject}
 use Rattle.rpki_valid.specs.Processed.{KeepsOwnOriginRules, IsOwnOriginError, KeepsOwnAspaRules, IsOwnAspaError}
 use Rattle.rpki_objects.specs.SignedObject.{ObjectParts}
 use Rattle.rpki_fields.specs.declared.object.Object.{Object}
-use Rattle.rpki_fields.specs.declared.object.Object.TheVariants.{Certificate, RevocationList, FileList, RouteOrigins}
-use Rattle.rpki_fields.specs.declared.object.Object.TheVariants.{Providers, OtherContent, OtherCertificate}
+use Rattle.rpki_fields.specs.declared.object.Object.TheVariants.{Certificate, Crl, Manifest, Roa}
+use Rattle.rpki_fields.specs.declared.object.Object.TheVariants.{Aspa, SignedObject, OtherCertificate}
 use Rattle.rpkicert.specs.declared.profile.Inspection.{Inspection}
 use Rattle.rpkicert.specs.declared.fault.Clause.{Clause}
 use Rattle.rpkicert.specs.declared.fault.Clause.TheVariants as C
@@ -47,21 +47,21 @@ no_terms = term_parts None None None
 -- the certificate that the object is, or that of its signer
 abbrev pub signer_of : Object → Option CertParts
 signer_of (Certificate c) = Some c
-signer_of (RevocationList l) = None
-signer_of (FileList m) = Some m.object.cert
-signer_of (RouteOrigins r) = Some r.object.cert
-signer_of (Providers a) = Some a.object.cert
-signer_of (OtherContent o) = Some o.cert
+signer_of (Crl l) = None
+signer_of (Manifest m) = Some m.object.cert
+signer_of (Roa r) = Some r.object.cert
+signer_of (Aspa a) = Some a.object.cert
+signer_of (SignedObject o) = Some o.cert
 signer_of (OtherCertificate c) = None
 
 -- the signed object that the object is, whatever its content
 abbrev pub signed_of : Object → Option ObjectParts
 signed_of (Certificate c) = None
-signed_of (RevocationList l) = None
-signed_of (FileList m) = Some m.object
-signed_of (RouteOrigins r) = Some r.object
-signed_of (Providers a) = Some a.object
-signed_of (OtherContent o) = Some o
+signed_of (Crl l) = None
+signed_of (Manifest m) = Some m.object
+signed_of (Roa r) = Some r.object
+signed_of (Aspa a) = Some a.object
+signed_of (SignedObject o) = Some o
 signed_of (OtherCertificate c) = None
 
 -- its subject is its issuer (RFC 5280 3.2)
@@ -76,31 +76,31 @@ self_issued c = if is_self_issued c then Some c else None
 abbrev pub anchor_of : Option TbsParts → Object → Option CertParts
 anchor_of (Some issuer) x = None
 anchor_of None (Certificate c) = self_issued c
-anchor_of None (RevocationList l) = None
-anchor_of None (FileList m) = None
-anchor_of None (RouteOrigins r) = None
-anchor_of None (Providers a) = None
-anchor_of None (OtherContent o) = None
+anchor_of None (Crl l) = None
+anchor_of None (Manifest m) = None
+anchor_of None (Roa r) = None
+anchor_of None (Aspa a) = None
+anchor_of None (SignedObject o) = None
 anchor_of None (OtherCertificate c) = None
 
 -- the revocation list that the object is
 abbrev pub list_of : Object → Option CrlParts
 list_of (Certificate c) = None
-list_of (RevocationList l) = Some l
-list_of (FileList m) = None
-list_of (RouteOrigins r) = None
-list_of (Providers a) = None
-list_of (OtherContent o) = None
+list_of (Crl l) = Some l
+list_of (Manifest m) = None
+list_of (Roa r) = None
+list_of (Aspa a) = None
+list_of (SignedObject o) = None
 list_of (OtherCertificate c) = None
 
 -- the content of the manifest that the object is
 abbrev pub manifest_of : Object → Option ManifestParts
 manifest_of (Certificate c) = None
-manifest_of (RevocationList l) = None
-manifest_of (FileList m) = Some m.content
-manifest_of (RouteOrigins r) = None
-manifest_of (Providers a) = None
-manifest_of (OtherContent o) = None
+manifest_of (Crl l) = None
+manifest_of (Manifest m) = Some m.content
+manifest_of (Roa r) = None
+manifest_of (Aspa a) = None
+manifest_of (SignedObject o) = None
 manifest_of (OtherCertificate c) = None
 
 -- of a list, from this update to the next (RFC 5280 5.1.2.4, 5.1.2.5)
@@ -212,11 +212,11 @@ IsSigned x = WhereSome IsSignedRight (signed_of x)
 -- (draft-ietf-sidrops-aspa-profile 4).
 abbrev pub KeepsResources : Object → Type 0
 KeepsResources (Certificate c) = Unit {0}
-KeepsResources (RevocationList l) = Unit {0}
-KeepsResources (FileList m) = AreInherited m.object.cert.tbs.extensions
-KeepsResources (RouteOrigins r) = KeepsOwnOriginRules r
-KeepsResources (Providers a) = KeepsOwnAspaRules a
-KeepsResources (OtherContent o) = Unit {0}
+KeepsResources (Crl l) = Unit {0}
+KeepsResources (Manifest m) = AreInherited m.object.cert.tbs.extensions
+KeepsResources (Roa r) = KeepsOwnOriginRules r
+KeepsResources (Aspa a) = KeepsOwnAspaRules a
+KeepsResources (SignedObject o) = Unit {0}
 KeepsResources (OtherCertificate c) = Unit {0}
 
 -- without an issuer, a self-issued certificate is signed by its own key
@@ -275,12 +275,12 @@ SaysOf E a wanted clause e = (clause ≡ wanted) × HasSome (λ x. E x e) a
 -- the clause and the error of resources that the content isn't within
 abbrev pub BreaksResources : Object → Wrong
 BreaksResources (Certificate c) clause e = ⊥
-BreaksResources (RevocationList l) clause e = ⊥
-BreaksResources (FileList m) clause e =
+BreaksResources (Crl l) clause e = ⊥
+BreaksResources (Manifest m) clause e =
     (clause ≡ C.Inherited) × HasReason not_inherited_text e
-BreaksResources (RouteOrigins r) clause e = (clause ≡ C.Origins) × IsOwnOriginError r e
-BreaksResources (Providers a) clause e = (clause ≡ C.Customer) × IsOwnAspaError a e
-BreaksResources (OtherContent o) clause e = ⊥
+BreaksResources (Roa r) clause e = (clause ≡ C.Origins) × IsOwnOriginError r e
+BreaksResources (Aspa a) clause e = (clause ≡ C.Customer) × IsOwnAspaError a e
+BreaksResources (SignedObject o) clause e = ⊥
 BreaksResources (OtherCertificate c) clause e = ⊥
 
 abbrev pub BreaksUpdates : TermParts → Object → Wrong

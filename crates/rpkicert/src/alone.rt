@@ -23,10 +23,10 @@ pub fn signed(object: &Object) -> Option<&SignedObject>
     ensures { option_map (λ o. o.now) result ≡ signed_of object.now }
 {
     match object {
-        Object::FileList(manifest) => Some(manifest.object()),
-        Object::RouteOrigins(origins) => Some(origins.object()),
-        Object::Providers(attestation) => Some(attestation.object()),
-        Object::OtherContent(object) => Some(object),
+        Object::Manifest(manifest) => Some(manifest.object()),
+        Object::Roa(origins) => Some(origins.object()),
+        Object::Aspa(attestation) => Some(attestation.object()),
+        Object::SignedObject(object) => Some(object),
         _ => None,
     }
 }
@@ -78,9 +78,9 @@ fn hold_resources(alloc: Global, object: &Object) -> Result<(), Fault>
     ensures { Judges (KeepsResources object.now) (BreaksResources object.now) result }
 {
     match object {
-        Object::FileList(manifest) => by(Clause::Inherited, verify_own_manifest(manifest)),
-        Object::RouteOrigins(origins) => judged_by(Clause::Origins, verify_own_roa(origins, alloc)),
-        Object::Providers(attestation) => judged_by(
+        Object::Manifest(manifest) => by(Clause::Inherited, verify_own_manifest(manifest)),
+        Object::Roa(origins) => judged_by(Clause::Origins, verify_own_roa(origins, alloc)),
+        Object::Aspa(attestation) => judged_by(
             Clause::Customer,
             verify_own_aspa(attestation, alloc),
         ),

@@ -63,9 +63,9 @@ fn signature_alone(object: &Object) -> Signature
 {
     match object {
         Object::Certificate(cert) => of_certificate(cert),
-        Object::RevocationList(_) | Object::OtherCertificate(_) => Signature::Unchecked,
-        Object::FileList(_) | Object::RouteOrigins(_) => Signature::Own,
-        Object::Providers(_) | Object::OtherContent(_) => Signature::Own,
+        Object::Crl(_) | Object::OtherCertificate(_) => Signature::Unchecked,
+        Object::Manifest(_) | Object::Roa(_) => Signature::Own,
+        Object::Aspa(_) | Object::SignedObject(_) => Signature::Own,
     }
 }
 

@@ -11,8 +11,8 @@ ghost use Rattle.rpkicert.specs.TermsView.{ChecksOne};
 use rpki::crypto::PublicKey;
 use rpki::repository::error::ValidationError;
 use rpki_cert::{Cert, TbsCert};
-use rpki_digests::RsaProvider;
 use rpki_crl::Crl;
+use rpki_digests::RsaProvider;
 use rpki_valid::{unverified, verify_signature};
 
 /// What signatures are verified with, and digests made.

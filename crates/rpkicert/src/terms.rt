@@ -21,8 +21,8 @@ use crate::signed::{PROVIDER, check_anchor, is_self_issued, verify_list};
 use rpki::repository::error::ValidationError;
 use rpki::repository::x509::{Time, Validity};
 use rpki_cert::{Cert, TbsCert};
-use rpki_fields::Object;
 use rpki_crl::Crl;
+use rpki_fields::Object;
 use rpki_valid::{unverified, verify_issued, verify_period};
 use std::alloc::Global;
 
@@ -43,11 +43,11 @@ fn signer(object: &Object) -> Option<&Cert>
 {
     match object {
         Object::Certificate(cert) => Some(cert),
-        Object::RevocationList(_) => None,
-        Object::FileList(manifest) => Some(manifest.object().cert()),
-        Object::RouteOrigins(origins) => Some(origins.object().cert()),
-        Object::Providers(attestation) => Some(attestation.object().cert()),
-        Object::OtherContent(object) => Some(object.cert()),
+        Object::Crl(_) => None,
+        Object::Manifest(manifest) => Some(manifest.object().cert()),
+        Object::Roa(origins) => Some(origins.object().cert()),
+        Object::Aspa(attestation) => Some(attestation.object().cert()),
+        Object::SignedObject(object) => Some(object.cert()),
         Object::OtherCertificate(_) => None,
     }
 }
@@ -80,7 +80,7 @@ fn list(object: &Object) -> Option<&Crl>
     ensures { option_map (λ l. l.now) result ≡ list_of object.now }
 {
     match object {
-        Object::RevocationList(list) => Some(list),
+        Object::Crl(list) => Some(list),
         _ => None,
     }
 }
@@ -100,9 +100,7 @@ fn list_period(object: &Object) -> Option<Validity>
     ensures { result ≡ list_period object.now }
 {
     match object {
-        Object::RevocationList(list) => {
-            Some(Validity::new(list.this_update(), list.next_update()))
-        }
+        Object::Crl(list) => { Some(Validity::new(list.this_update(), list.next_update())) }
         _ => None,
     }
 }
@@ -112,7 +110,7 @@ fn manifest_period(object: &Object) -> Option<Validity>
     ensures { result ≡ manifest_period object.now }
 {
     match object {
-        Object::FileList(manifest) => {
+        Object::Manifest(manifest) => {
             let content = manifest.content();
             Some(Validity::new(content.this_update(), content.next_update()))
         }
