@@ -29,6 +29,14 @@ pub fn refused(error: &DecodeError) -> Outcome {
     }
 }
 
+/// What was read, or the kind of the error.
+pub fn by_kind<T: Drop>(answer: Result<T, DecodeError>) -> Result<T, Outcome> {
+    match answer {
+        Ok(found) => Ok(found),
+        Err(e) => Err(refused(&e)),
+    }
+}
+
 /// The outcome of a reader that is not optional.
 pub fn outcome_of<T: Drop>(answer: Result<T, DecodeError>) -> Outcome {
     match answer {

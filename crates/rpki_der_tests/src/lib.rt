@@ -2,6 +2,9 @@
 //! examples and from other programs.
 #![tactic(auto)]
 
+pub mod changed;
 #[cfg(test)]
 mod der;
+pub mod hexadecimal;
 pub mod kinds;
+pub mod tables;

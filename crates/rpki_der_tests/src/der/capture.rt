@@ -1,6 +1,7 @@
 //! Octets that a reader reads, kept.
 
 use crate::kinds::{Outcome, refused};
+use crate::rows;
 use rpki_der::*;
 use std::alloc::Global;
 
@@ -17,14 +18,6 @@ enum Reader {
     Elsewhere,
 }
 
-fn read_header(cons: &mut Constructed<'_>) -> Result<(), DecodeError> {
-    let mut steps = Steps::new();
-    match cons.take_header(&mut steps) {
-        Ok(_) => Ok(()),
-        Err(e) => Err(e),
-    }
-}
-
 fn read(reader: Reader, cons: &mut Constructed<'_>) -> Result<(), DecodeError> {
     match reader {
         Reader::Numbers(count) => {
@@ -38,70 +31,25 @@ fn read(reader: Reader, cons: &mut Constructed<'_>) -> Result<(), DecodeError> {
             contents.take_u8()?;
             contents.finish()?;
         }
-        Reader::Header => read_header(cons)?,
+        Reader::Header => {
+            cons.take_header(&mut Steps::new())?;
+        }
         Reader::Elsewhere => *cons = Constructed::from_slice(&[5, 0, 5, 0]),
     }
     Ok(())
 }
 
 /// A name, the octets, the reader, what is kept with the count of its headers, and how many octets remain.
-type Row = (
-    &'static str,
-    &'static [u8],
-    Reader,
-    Result<(&'static [u8], usize), Outcome>,
-    usize,
-);
-
-const ROWS: &[Row] = &[
+const ROWS: &[(&str, &[u8], Reader, Result<(&[u8], usize), Outcome>, usize)] = &rows! {
     ("nothing", &[2, 1, 7], Reader::Numbers(0), Ok((&[], 0)), 3),
-    (
-        "two of three numbers",
-        &[2, 1, 7, 2, 1, 8, 2, 1, 9],
-        Reader::Numbers(2),
-        Ok((&[2, 1, 7, 2, 1, 8], 2)),
-        3,
-    ),
-    (
-        "a SEQUENCE, and an octet",
-        &[0x30, 6, 2, 1, 7, 2, 1, 8, 5],
-        Reader::Sequence,
-        Ok((&[0x30, 6, 2, 1, 7, 2, 1, 8], 3)),
-        1,
-    ),
-    (
-        "a second value of another tag",
-        &[2, 1, 7, 4, 0],
-        Reader::Numbers(2),
-        Err(Outcome::Unexpected),
-        5,
-    ),
-    (
-        "a header without its contents",
-        &[4, 2, 7, 8],
-        Reader::Header,
-        Err(Outcome::Truncated),
-        4,
-    ),
-    (
-        "a header of no contents",
-        &[5, 0, 5],
-        Reader::Header,
-        Ok((&[5, 0], 1)),
-        1,
-    ),
-    (
-        "more than there was",
-        &[5, 0],
-        Reader::Elsewhere,
-        Err(Outcome::Trailing),
-        2,
-    ),
-];
-
-fn rows() -> &'static [Row] {
-    ROWS
-}
+    ("two of three numbers", &[2, 1, 7, 2, 1, 8, 2, 1, 9], Reader::Numbers(2), Ok((&[2, 1, 7, 2, 1, 8], 2)), 3),
+    ("a SEQUENCE, and an octet", &[0x30, 6, 2, 1, 7, 2, 1, 8, 5], Reader::Sequence,
+     Ok((&[0x30, 6, 2, 1, 7, 2, 1, 8], 3)), 1),
+    ("a second value of another tag", &[2, 1, 7, 4, 0], Reader::Numbers(2), Err(Outcome::Unexpected), 5),
+    ("a header without its contents", &[4, 2, 7, 8], Reader::Header, Err(Outcome::Truncated), 4),
+    ("a header of no contents", &[5, 0, 5], Reader::Header, Ok((&[5, 0], 1)), 1),
+    ("more than there was", &[5, 0], Reader::Elsewhere, Err(Outcome::Trailing), 2),
+};
 
 fn is_kept(
     alloc: Global,
@@ -120,12 +68,9 @@ fn is_kept(
 
 #[test]
 fn what_is_read_is_kept(rt: HostRuntime) {
-    for (name, octets, reader, expected, left) in rows() {
+    for (name, octets, reader, expected, left) in ROWS {
         let mut cursor = Constructed::from_slice(octets);
-        assert!(rt;
-            is_kept(rt.alloc(), &mut cursor, *reader, *expected),
-            "{name}"
-        );
-        assert!(rt; cursor.rest().len() == *left, "{name}");
+        let same = is_kept(rt.alloc(), &mut cursor, *reader, *expected);
+        assert!(rt; same && cursor.rest().len() == *left, "{name}");
     }
 }

@@ -1,59 +1,24 @@
 //! Bit strings, numbers, object identifiers, texts and errors.
 
-use crate::kinds::{Outcome, refused};
+use crate::kinds::{Outcome, outcome_of, refused};
+use crate::rows;
 use bytes::Bytes;
 use rpki_der::*;
 use std::alloc::{AllocError, Global};
 use std::test::Fail;
 
-/// The kind of the error that a call returned, if it did.
-fn answer<T: Drop>(outcome: Result<T, DecodeError>) -> Result<(), Outcome> {
-    match outcome {
-        Ok(_) => Ok(()),
-        Err(e) => Err(refused(&e)),
-    }
-}
-
 /// The unused bits and the octets of a bit string, or the kind of the error.
-const BITS: &[(&str, &[u8], Result<(u8, &[u8]), Outcome>)] = &[
-    (
-        "no count of unused bits",
-        &[0x03, 0x00],
-        Err(Outcome::Content),
-    ),
-    (
-        "unused bits without an octet",
-        &[0x03, 0x01, 0x01],
-        Err(Outcome::Content),
-    ),
-    (
-        "8 unused bits",
-        &[0x03, 0x02, 0x08, 0x00],
-        Err(Outcome::Content),
-    ),
-    (
-        "unused bits that are not zero",
-        &[0x03, 0x02, 0x02, 0xaa],
-        Err(Outcome::Content),
-    ),
+const BITS: &[(&str, &[u8], Result<(u8, &[u8]), Outcome>)] = &rows! {
+    ("no count of unused bits", &[0x03, 0x00], Err(Outcome::Content)),
+    ("unused bits without an octet", &[0x03, 0x01, 0x01], Err(Outcome::Content)),
+    ("8 unused bits", &[0x03, 0x02, 0x08, 0x00], Err(Outcome::Content)),
+    ("unused bits that are not zero", &[0x03, 0x02, 0x02, 0xaa], Err(Outcome::Content)),
     ("constructed", &[0x23, 0x00], Err(Outcome::Unexpected)),
     ("cut short", &[0x03, 0x02, 0x00], Err(Outcome::Truncated)),
     ("no bits", &[0x03, 0x01, 0x00], Ok((0, &[]))),
     ("7 bits", &[0x03, 0x02, 0x01, 0xaa], Ok((1, &[0xaa]))),
-    (
-        "9 bits",
-        &[0x03, 0x03, 0x07, 0xff, 0x80],
-        Ok((7, &[0xff, 0x80])),
-    ),
-];
-
-fn bit_rows() -> &'static [(
-    &'static str,
-    &'static [u8],
-    Result<(u8, &'static [u8]), Outcome>,
-)] {
-    BITS
-}
+    ("9 bits", &[0x03, 0x03, 0x07, 0xff, 0x80], Ok((7, &[0xff, 0x80]))),
+};
 
 /// The bit string at the front.
 fn taken(alloc: Global, cursor: &mut Constructed<'_>) -> Result<BitString, DecodeError> {
@@ -74,7 +39,7 @@ fn is_bits(alloc: Global, octets: &'static [u8], expected: Result<(u8, &[u8]), O
 
 #[test]
 fn bit_strings_are_read(rt: HostRuntime) {
-    for (name, octets, expected) in bit_rows() {
+    for (name, octets, expected) in BITS {
         assert!(rt; is_bits(rt.alloc(), octets, *expected), "{name}");
     }
 }
@@ -92,133 +57,46 @@ const MAGNITUDES: &[(&str, &[u8], Result<&[u8], InvalidInteger>)] = &[
     ("65537", &[1, 0, 1], Ok(&[1, 0, 1])),
 ];
 
-fn magnitude_rows() -> &'static [(
-    &'static str,
-    &'static [u8],
-    Result<&'static [u8], InvalidInteger>,
-)] {
-    MAGNITUDES
-}
-
 #[test]
 fn magnitudes(rt: HostRuntime) {
-    for (name, octets, expected) in magnitude_rows() {
+    for (name, octets, expected) in MAGNITUDES {
         let found = magnitude(octets);
         assert!(rt; found == *expected, "{name}");
     }
 }
 
 /// Whether an identifier is valid and is 2.999.3, and what it gives to be read, skipped, and skipped if it is 2.999.3.
-type Identified = (
-    (bool, bool),
-    Result<(), Outcome>,
-    Result<(), Outcome>,
-    Result<(), Outcome>,
-    Result<(), Outcome>,
-);
+type Identified = ((bool, bool), [Outcome; 4]);
 
 /// The identifier 2.999.3.
 const EXAMPLE: ConstOid = Oid(&[0x88, 0x37, 0x03]);
 
-fn identifier_taken(octets: &'static [u8]) -> ((bool, bool), Result<(), Outcome>) {
-    let source: Bytes = Bytes::from_static(octets);
-    let mut cursor = Constructed::new(&source);
-    match Oid::take_from(&mut cursor) {
-        Ok(found) => ((found.is_valid(), found == EXAMPLE), Ok(())),
-        Err(e) => ((false, false), Err(refused(&e))),
-    }
-}
-
-fn identifier_skipped(octets: &'static [u8]) -> Result<(), Outcome> {
-    let source: Bytes = Bytes::from_static(octets);
-    let mut cursor = Constructed::new(&source);
-    answer(Oid::skip_in(&mut cursor))
-}
-
-fn example_skipped(octets: &'static [u8]) -> Result<(), Outcome> {
-    let source: Bytes = Bytes::from_static(octets);
-    let mut cursor = Constructed::new(&source);
-    answer(EXAMPLE.skip_if(&mut cursor))
-}
-
-fn example_skipped_by_cursor(octets: &'static [u8]) -> Result<(), Outcome> {
-    let source: Bytes = Bytes::from_static(octets);
-    let mut cursor = Constructed::new(&source);
-    answer(cursor.skip_oid_if(EXAMPLE))
-}
-
 fn identifier_of(octets: &'static [u8]) -> Identified {
-    let (valid, taken) = identifier_taken(octets);
-    (
-        valid,
-        taken,
-        identifier_skipped(octets),
-        example_skipped(octets),
-        example_skipped_by_cursor(octets),
-    )
+    let source: Bytes = Bytes::from_static(octets);
+    let (valid, taken) = match Oid::take_from(&mut Constructed::new(&source)) {
+        Ok(found) => ((found.is_valid(), found == EXAMPLE), Outcome::Read),
+        Err(e) => ((false, false), refused(&e)),
+    };
+    let skipped = outcome_of(Oid::skip_in(&mut Constructed::new(&source)));
+    let example = outcome_of(EXAMPLE.skip_if(&mut Constructed::new(&source)));
+    let by_cursor = outcome_of(Constructed::new(&source).skip_oid_if(EXAMPLE));
+    (valid, [taken, skipped, example, by_cursor])
 }
 
-const IDENTIFIERS: &[(&str, &[u8], Identified)] = &[
-    (
-        "2.999.3",
-        &[0x06, 0x03, 0x88, 0x37, 0x03],
-        ((true, true), Ok(()), Ok(()), Ok(()), Ok(())),
-    ),
-    (
-        "2.5.4.3",
-        &[0x06, 0x03, 0x55, 0x04, 0x03],
-        (
-            (true, false),
-            Ok(()),
-            Ok(()),
-            Err(Outcome::Content),
-            Err(Outcome::Content),
-        ),
-    ),
-    (
-        "2.999 and half an arc",
-        &[0x06, 0x03, 0x88, 0x37, 0x83],
-        (
-            (false, false),
-            Err(Outcome::Content),
-            Err(Outcome::Content),
-            Err(Outcome::Content),
-            Err(Outcome::Content),
-        ),
-    ),
-    (
-        "NULL",
-        &[0x05, 0x00],
-        (
-            (false, false),
-            Err(Outcome::Unexpected),
-            Err(Outcome::Unexpected),
-            Err(Outcome::Unexpected),
-            Err(Outcome::Unexpected),
-        ),
-    ),
-    (
-        "cut short",
-        &[0x06, 0x03, 0x88],
-        (
-            (false, false),
-            Err(Outcome::Truncated),
-            Err(Outcome::Truncated),
-            Err(Outcome::Truncated),
-            Err(Outcome::Truncated),
-        ),
-    ),
-];
-
-fn identifier_rows() -> &'static [(&'static str, &'static [u8], Identified)] {
-    IDENTIFIERS
-}
+const IDENTIFIERS: &[(&str, &[u8], Identified)] = &rows! {
+    ("2.999.3", &[0x06, 0x03, 0x88, 0x37, 0x03], ((true, true), [Outcome::Read; 4])),
+    ("2.5.4.3", &[0x06, 0x03, 0x55, 0x04, 0x03],
+     ((true, false), [Outcome::Read, Outcome::Read, Outcome::Content, Outcome::Content])),
+    ("2.999 and half an arc", &[0x06, 0x03, 0x88, 0x37, 0x83], ((false, false), [Outcome::Content; 4])),
+    ("NULL", &[0x05, 0x00], ((false, false), [Outcome::Unexpected; 4])),
+    ("cut short", &[0x06, 0x03, 0x88], ((false, false), [Outcome::Truncated; 4])),
+};
 
 #[test]
 fn identifiers(rt: HostRuntime) {
     let by_hand: ConstOid = Oid(&[0x80, 0x01]);
     assert!(rt; !by_hand.is_valid(), "by hand");
-    for (name, octets, expected) in identifier_rows() {
+    for (name, octets, expected) in IDENTIFIERS {
         assert!(rt; identifier_of(octets) == *expected, "{name}");
     }
 }
@@ -248,9 +126,7 @@ fn bit_strings_are_equal(rt: HostRuntime) -> Result<(), Fail> {
     Ok(())
 }
 
-const TEXTS: &[u8] = &[
-    0x13, 0x02, 0x41, 0x3f, 0x0c, 0x02, 0xc3, 0xa9, 0x04, 0x01, 0x07,
-];
+const TEXTS: &[u8] = b"\x13\x02\x41\x3f\x0c\x02\xc3\xa9\x04\x01\x07";
 
 /// The contents of a PrintableString, a UTF8String and an OCTET STRING.
 fn texts_of<'a>(source: &'a Bytes) -> Result<(&'a str, &'a str, &'a [u8]), DecodeError> {
@@ -376,13 +252,9 @@ const LEGAL: &[(&str, u8, &[u8], bool)] = &[
     ("an unused bit of two that is set", 2, &[0xaa], false),
 ];
 
-fn legal_rows() -> &'static [(&'static str, u8, &'static [u8], bool)] {
-    LEGAL
-}
-
 #[test]
 fn bit_strings_are_legal(rt: HostRuntime) {
-    for (name, unused, octets, legal) in legal_rows() {
+    for (name, unused, octets, legal) in LEGAL {
         assert!(rt; BitString::is_legal(*unused, octets) == *legal, "{name}");
     }
 }

@@ -1,5 +1,6 @@
 //! Encoders, and writers that fail.
 
+use crate::rows;
 use bytes::Bytes;
 use rpki_der::*;
 use std::alloc::{AllocError, Global};
@@ -98,27 +99,20 @@ struct Writing {
     error: Option<ErrorKind>,
 }
 
+/// What is written of values, where they fit.
+type Written = Result<Option<Writing>, AllocError>;
+
 /// The values that are written, where they fit.
-fn written<V: Values>(
-    alloc: Global,
-    sink: Sink,
-    values: &V,
-) -> Result<Option<Writing>, AllocError> {
+fn written<V: Values>(alloc: Global, sink: Sink, values: &V) -> Written {
     if !values.fits() {
         return Ok(None);
     }
     let len = values.encoded_len();
-    match sink {
+    let (octets, values, error) = match sink {
         Sink::Captured => {
             let found = Captured::from_values(alloc, values)?;
             let count = found.values() as u64;
-            let octets = found.into_bytes();
-            Ok(Some(Writing {
-                octets,
-                values: count,
-                len,
-                error: None,
-            }))
+            (found.into_bytes(), count, None)
         }
         Sink::Writer(failure) => {
             let mut out = Failing {
@@ -126,19 +120,16 @@ fn written<V: Values>(
                 most: 1,
                 failure,
             };
-            let error = match values.write_encoded(&mut out) {
-                Ok(()) => None,
-                Err(e) => Some(e.kind()),
-            };
-            let octets = Bytes::from_vec(out.held)?;
-            Ok(Some(Writing {
-                octets,
-                values: values.count(),
-                len,
-                error,
-            }))
+            let error = kind_of_error(values.write_encoded(&mut out));
+            (Bytes::from_vec(out.held)?, values.count(), error)
         }
-    }
+    };
+    Ok(Some(Writing {
+        octets,
+        values,
+        len,
+        error,
+    }))
 }
 
 /// Whether these octets were written, and so many values; or, by a writer that failed after so many octets, those.
@@ -165,42 +156,28 @@ fn bits(unused: u8, octets: &'static [u8]) -> Option<BitString> {
     Some(BitString::new(unused, Bytes::from_static(octets)))
 }
 
-fn bits_written(
-    alloc: Global,
-    sink: Sink,
-    unused: u8,
-    octets: &'static [u8],
-) -> Result<Option<Writing>, AllocError> {
+fn bits_written(alloc: Global, sink: Sink, unused: u8, octets: &'static [u8]) -> Written {
     match bits(unused, octets) {
         Some(found) => written(alloc, sink, &found.encode()),
         None => Ok(None),
     }
 }
 
-fn borrowed_bits_written(
-    alloc: Global,
-    sink: Sink,
-    unused: u8,
-    octets: &'static [u8],
-) -> Result<Option<Writing>, AllocError> {
+fn borrowed_bits_written(alloc: Global, sink: Sink, unused: u8, octets: &'static [u8]) -> Written {
     match bits(unused, octets) {
         Some(found) => written(alloc, sink, &found.encode_ref()),
         None => Ok(None),
     }
 }
 
-fn number_written(
-    alloc: Global,
-    sink: Sink,
-    octets: &'static [u8],
-) -> Result<Option<Writing>, AllocError> {
+fn number_written(alloc: Global, sink: Sink, octets: &'static [u8]) -> Written {
     match Unsigned::from_slice(octets) {
         Ok(found) => written(alloc, sink, &found.encode()),
         Err(_) => Ok(None),
     }
 }
 
-fn leaf_written(alloc: Global, sink: Sink, leaf: Leaf) -> Result<Option<Writing>, AllocError> {
+fn leaf_written(alloc: Global, sink: Sink, leaf: Leaf) -> Written {
     match leaf {
         Leaf::Null => written(alloc, sink, &().encode()),
         Leaf::True => written(alloc, sink, &true.encode()),
@@ -217,17 +194,12 @@ fn leaf_written(alloc: Global, sink: Sink, leaf: Leaf) -> Result<Option<Writing>
     }
 }
 
-fn composed_written(
-    alloc: Global,
-    sink: Sink,
-    composed: Composed,
-) -> Result<Option<Writing>, AllocError> {
+fn composed_written(alloc: Global, sink: Sink, composed: Composed) -> Written {
     match composed {
-        Composed::Sequence => written(
-            alloc,
-            sink,
-            &Sequence::new((COMMON_NAME.encode(), ().encode())),
-        ),
+        Composed::Sequence => {
+            let values = (COMMON_NAME.encode(), ().encode());
+            written(alloc, sink, &Sequence::new(values))
+        }
         Composed::EmptySequence => written(alloc, sink, &Sequence::new(None::<Primitive<()>>)),
         Composed::Set => written(alloc, sink, &Set::new(true.encode())),
         Composed::Wrapped => written(alloc, sink, &Wrapped::new(Sequence::new(().encode()))),
@@ -240,11 +212,8 @@ fn composed_written(
             if !inner.fits() {
                 return Ok(None);
             }
-            written(
-                alloc,
-                sink,
-                &Set::new(&Captured::from_values(alloc, &inner)?),
-            )
+            let inner = Captured::from_values(alloc, &inner)?;
+            written(alloc, sink, &Set::new(&inner))
         }
     }
 }
@@ -264,37 +233,21 @@ const LEAVES: &[(Leaf, &[u8])] = &[
     (Leaf::Zero, &[0x02, 0x01, 0x00]),
 ];
 
-fn leaf_rows() -> &'static [(Leaf, &'static [u8])] {
-    LEAVES
-}
-
-const COMPOSED: &[(Composed, u64, &[u8])] = &[
-    (
-        Composed::Sequence,
-        1,
-        &[0x30, 0x07, 0x06, 0x03, 0x55, 0x04, 0x03, 0x05, 0x00],
-    ),
+const COMPOSED: &[(Composed, u64, &[u8])] = &rows! {
+    (Composed::Sequence, 1, &[0x30, 0x07, 0x06, 0x03, 0x55, 0x04, 0x03, 0x05, 0x00]),
     (Composed::EmptySequence, 1, &[0x30, 0x00]),
     (Composed::Set, 1, &[0x31, 0x03, 0x01, 0x01, 0xff]),
     (Composed::Wrapped, 1, &[0x04, 0x04, 0x30, 0x02, 0x05, 0x00]),
     (Composed::Pair, 2, &[0x05, 0x00, 0x01, 0x01, 0xff]),
-    (
-        Composed::Triple,
-        3,
-        &[0x01, 0x01, 0xff, 0x05, 0x00, 0x01, 0x01, 0x00],
-    ),
+    (Composed::Triple, 3, &[0x01, 0x01, 0xff, 0x05, 0x00, 0x01, 0x01, 0x00]),
     (Composed::Nothing, 0, &[]),
     (Composed::Something, 1, &[0x05, 0x00]),
     (Composed::Captured, 1, &[0x31, 0x04, 0x05, 0x00, 0x05, 0x00]),
-];
-
-fn composed_rows() -> &'static [(Composed, u64, &'static [u8])] {
-    COMPOSED
-}
+};
 
 #[test]
 fn leaves_are_captured(rt: HostRuntime) -> Result<(), Fail> {
-    for (leaf, expected) in leaf_rows() {
+    for (leaf, expected) in LEAVES {
         let found = leaf_written(rt.alloc(), Sink::Captured, *leaf)?;
         assert!(rt; is_written(found, Sink::Captured, 1, expected), "{leaf:?}");
     }
@@ -303,12 +256,10 @@ fn leaves_are_captured(rt: HostRuntime) -> Result<(), Fail> {
 
 #[test]
 fn composed_values_are_captured(rt: HostRuntime) -> Result<(), Fail> {
-    for (composed, values, expected) in composed_rows() {
+    for (composed, values, expected) in COMPOSED {
         let found = composed_written(rt.alloc(), Sink::Captured, *composed)?;
-        assert!(rt;
-            is_written(found, Sink::Captured, *values, expected),
-            "{composed:?}"
-        );
+        let same = is_written(found, Sink::Captured, *values, expected);
+        assert!(rt; same, "{composed:?}");
     }
     Ok(())
 }
@@ -336,12 +287,8 @@ fn is_composed_cut(
 ) -> Result<bool, AllocError> {
     for calls in 0..=expected.len() {
         let sink = Sink::Writer(Failure { calls, kind, once });
-        if !is_written(
-            composed_written(alloc, sink, *composed)?,
-            sink,
-            *values,
-            expected,
-        ) {
+        let found = composed_written(alloc, sink, *composed)?;
+        if !is_written(found, sink, *values, expected) {
             return Ok(false);
         }
     }
@@ -350,7 +297,7 @@ fn is_composed_cut(
 
 #[test]
 fn the_first_error_of_a_writer_ends_a_leaf(rt: HostRuntime) -> Result<(), Fail> {
-    for row in leaf_rows() {
+    for row in LEAVES {
         for failure in FAILURES {
             let cut = is_leaf_cut(rt.alloc(), failure, row)?;
             assert!(rt; cut, "{:?}, {failure:?}", row.0);
@@ -361,7 +308,7 @@ fn the_first_error_of_a_writer_ends_a_leaf(rt: HostRuntime) -> Result<(), Fail> 
 
 #[test]
 fn the_first_error_of_a_writer_ends_a_composed_value(rt: HostRuntime) -> Result<(), Fail> {
-    for row in composed_rows() {
+    for row in COMPOSED {
         for failure in FAILURES {
             let cut = is_composed_cut(rt.alloc(), failure, row)?;
             assert!(rt; cut, "{:?}, {failure:?}", row.0);
@@ -380,10 +327,6 @@ const LENGTHS: &[(usize, &[u8])] = &[
     (65_536, &[0x04, 0x83, 0x01, 0x00, 0x00]),
 ];
 
-fn length_rows() -> &'static [(usize, &'static [u8])] {
-    LENGTHS
-}
-
 /// Whether an OCTET STRING of so many octets has this header.
 fn has_header(alloc: Global, length: usize, header: &[u8]) -> Result<bool, AllocError> {
     let mut octets = Vec::new(alloc);
@@ -399,31 +342,29 @@ fn has_header(alloc: Global, length: usize, header: &[u8]) -> Result<bool, Alloc
 
 #[test]
 fn lengths_take_the_shortest_form(rt: HostRuntime) -> Result<(), Fail> {
-    for (length, header) in length_rows() {
+    for (length, header) in LENGTHS {
         assert!(rt; has_header(rt.alloc(), *length, header)?, "{length}");
     }
     Ok(())
 }
 
 /// A tag, and the octets of an empty value of it.
-fn tag_rows() -> [(&'static str, Tag, &'static [u8]); 14] {
-    [
-        ("BOOLEAN", Tag::BOOLEAN, &[0x01, 0x00]),
-        ("INTEGER", Tag::INTEGER, &[0x02, 0x00]),
-        ("BIT STRING", Tag::BIT_STRING, &[0x03, 0x00]),
-        ("OCTET STRING", Tag::OCTET_STRING, &[0x04, 0x00]),
-        ("NULL", Tag::NULL, &[0x05, 0x00]),
-        ("OBJECT IDENTIFIER", Tag::OID, &[0x06, 0x00]),
-        ("UTF8String", Tag::UTF8_STRING, &[0x0c, 0x00]),
-        ("SEQUENCE", Tag::SEQUENCE, &[0x10, 0x00]),
-        ("SET", Tag::SET, &[0x11, 0x00]),
-        ("PrintableString", Tag::PRINTABLE_STRING, &[0x13, 0x00]),
-        ("IA5String", Tag::IA5_STRING, &[0x16, 0x00]),
-        ("UTCTime", Tag::UTC_TIME, &[0x17, 0x00]),
-        ("GeneralizedTime", Tag::GENERALIZED_TIME, &[0x18, 0x00]),
-        ("context 6", Tag::CTX_6, &[0x86, 0x00]),
-    ]
-}
+const TAGS: [(&str, Tag, &[u8]); 14] = rows! {
+    ("BOOLEAN", Tag::BOOLEAN, &[0x01, 0x00]),
+    ("INTEGER", Tag::INTEGER, &[0x02, 0x00]),
+    ("BIT STRING", Tag::BIT_STRING, &[0x03, 0x00]),
+    ("OCTET STRING", Tag::OCTET_STRING, &[0x04, 0x00]),
+    ("NULL", Tag::NULL, &[0x05, 0x00]),
+    ("OBJECT IDENTIFIER", Tag::OID, &[0x06, 0x00]),
+    ("UTF8String", Tag::UTF8_STRING, &[0x0c, 0x00]),
+    ("SEQUENCE", Tag::SEQUENCE, &[0x10, 0x00]),
+    ("SET", Tag::SET, &[0x11, 0x00]),
+    ("PrintableString", Tag::PRINTABLE_STRING, &[0x13, 0x00]),
+    ("IA5String", Tag::IA5_STRING, &[0x16, 0x00]),
+    ("UTCTime", Tag::UTC_TIME, &[0x17, 0x00]),
+    ("GeneralizedTime", Tag::GENERALIZED_TIME, &[0x18, 0x00]),
+    ("context 6", Tag::CTX_6, &[0x86, 0x00]),
+};
 
 /// Whether an empty value of the tag has these octets.
 fn is_tagged(alloc: Global, tag: Tag, expected: &[u8]) -> Result<bool, AllocError> {
@@ -435,7 +376,7 @@ fn is_tagged(alloc: Global, tag: Tag, expected: &[u8]) -> Result<bool, AllocErro
 
 #[test]
 fn tags_have_their_octets(rt: HostRuntime) -> Result<(), Fail> {
-    for (name, tag, expected) in tag_rows() {
+    for (name, tag, expected) in TAGS {
         assert!(rt; is_tagged(rt.alloc(), tag, expected)?, "{name}");
     }
     Ok(())
@@ -443,7 +384,7 @@ fn tags_have_their_octets(rt: HostRuntime) -> Result<(), Fail> {
 
 /// The tag of a type, and the octets of an empty value of it.
 fn tags_of_types() -> [(&'static str, Tag, &'static [u8]); 7] {
-    [
+    rows! {
         ("()", <()>::TAG, &[0x05, 0x00]),
         ("bool", <bool>::TAG, &[0x01, 0x00]),
         ("ConstOid", <ConstOid>::TAG, &[0x06, 0x00]),
@@ -451,7 +392,7 @@ fn tags_of_types() -> [(&'static str, Tag, &'static [u8]); 7] {
         ("BitString", <BitString>::TAG, &[0x03, 0x00]),
         ("&BitString", <&'static BitString>::TAG, &[0x03, 0x00]),
         ("Unsigned", <Unsigned<'static>>::TAG, &[0x02, 0x00]),
-    ]
+    }
 }
 
 #[test]
@@ -464,28 +405,12 @@ fn tags_of_types_have_theirs(rt: HostRuntime) -> Result<(), Fail> {
 
 /// A tag that is made, and the octets of an empty value of it.
 fn made_tags() -> [(&'static str, Tag, &'static [u8]); 4] {
-    [
-        (
-            "context 31",
-            Tag::new(Class::Context, 31),
-            &[0x9f, 0x1f, 0x00],
-        ),
-        (
-            "private 127",
-            Tag::new(Class::Private, 127),
-            &[0xdf, 0x7f, 0x00],
-        ),
-        (
-            "application 128",
-            Tag::new(Class::Application, 128),
-            &[0x5f, 0x81, 0x00, 0x00],
-        ),
-        (
-            "the greatest of class universal",
-            Tag::new(Class::Universal, 268_435_455),
-            &[0x1f, 0xff, 0xff, 0xff, 0x7f, 0x00],
-        ),
-    ]
+    rows! {
+        ("context 31", Tag::new(Class::Context, 31), &[0x9f, 0x1f, 0x00]),
+        ("private 127", Tag::new(Class::Private, 127), &[0xdf, 0x7f, 0x00]),
+        ("application 128", Tag::new(Class::Application, 128), &[0x5f, 0x81, 0x00, 0x00]),
+        ("the greatest of class universal", Tag::new(Class::Universal, 268_435_455), b"\x1f\xff\xff\xff\x7f\x00"),
+    }
 }
 
 #[test]
@@ -498,14 +423,15 @@ fn tags_that_are_made_have_theirs(rt: HostRuntime) -> Result<(), Fail> {
 
 /// A writer of so many octets a call, of which so many work before the one that fails.
 fn failing_writer(alloc: Global, most: usize, calls: usize) -> Failing {
+    let failure = Failure {
+        calls,
+        kind: ErrorKind::BrokenPipe,
+        once: true,
+    };
     Failing {
         held: Vec::new(alloc),
         most,
-        failure: Failure {
-            calls,
-            kind: ErrorKind::BrokenPipe,
-            once: true,
-        },
+        failure,
     }
 }
 
@@ -529,39 +455,23 @@ fn write_pieces(out: &mut Failing) -> Option<io::Result<()>> {
 }
 
 /// Octets a call, calls, octets that are held, and the error.
-const WRITTEN_PIECES: &[(usize, usize, &[u8], Option<ErrorKind>)] = &[
+const WRITTEN_PIECES: &[(usize, usize, &[u8], Option<ErrorKind>)] = &rows! {
     (2, 2, &[0x30, 0x07, 0x06, 0x03], Some(ErrorKind::BrokenPipe)),
-    (
-        2,
-        4,
-        &[0x30, 0x07, 0x06, 0x03, 0x55, 0x04, 0x03],
-        Some(ErrorKind::BrokenPipe),
-    ),
+    (2, 4, &[0x30, 0x07, 0x06, 0x03, 0x55, 0x04, 0x03], Some(ErrorKind::BrokenPipe)),
     (2, 5, PIECES, None),
-    (
-        100,
-        2,
-        &[0x30, 0x07, 0x06, 0x03],
-        Some(ErrorKind::BrokenPipe),
-    ),
+    (100, 2, &[0x30, 0x07, 0x06, 0x03], Some(ErrorKind::BrokenPipe)),
     (100, 4, PIECES, None),
     (0, 100, &[], Some(ErrorKind::WriteZero)),
-];
-
-fn written_piece_rows() -> &'static [(usize, usize, &'static [u8], Option<ErrorKind>)] {
-    WRITTEN_PIECES
-}
+};
 
 #[test]
 fn pieces_are_written(rt: HostRuntime) {
-    for (most, calls, held, error) in written_piece_rows() {
+    for (most, calls, held, error) in WRITTEN_PIECES {
         let mut out = failing_writer(rt.alloc(), *most, *calls);
         let kind = write_pieces(&mut out).map(kind_of_error);
+        let same = out.held.as_slice() == *held;
         assert!(rt; kind == Some(*error), "{most} octets a call, {calls} calls");
-        assert!(rt;
-            out.held.as_slice() == *held,
-            "{most} octets a call, {calls} calls: held"
-        );
+        assert!(rt; same, "{most} octets a call, {calls} calls: held");
     }
 }
 
@@ -569,36 +479,25 @@ fn pieces_are_written(rt: HostRuntime) {
 const WHOLE: &[u8] = &[1, 2, 3, 4, 5, 6, 7, 8, 9];
 
 /// Octets a call, calls, all octets that are held, and the error.
-const WRITTEN_WHOLE: &[(usize, usize, &[u8], Option<ErrorKind>)] = &[
+const WRITTEN_WHOLE: &[(usize, usize, &[u8], Option<ErrorKind>)] = &rows! {
     (1, 0, &[7], Some(ErrorKind::BrokenPipe)),
     (1, 5, &[7, 1, 2, 3, 4, 5], Some(ErrorKind::BrokenPipe)),
     (1, 9, &[7, 1, 2, 3, 4, 5, 6, 7, 8, 9], None),
-    (
-        4,
-        2,
-        &[7, 1, 2, 3, 4, 5, 6, 7, 8],
-        Some(ErrorKind::BrokenPipe),
-    ),
+    (4, 2, &[7, 1, 2, 3, 4, 5, 6, 7, 8], Some(ErrorKind::BrokenPipe)),
     (4, 3, &[7, 1, 2, 3, 4, 5, 6, 7, 8, 9], None),
     (100, 1, &[7, 1, 2, 3, 4, 5, 6, 7, 8, 9], None),
     (0, 100, &[7], Some(ErrorKind::WriteZero)),
-];
-
-fn written_whole_rows() -> &'static [(usize, usize, &'static [u8], Option<ErrorKind>)] {
-    WRITTEN_WHOLE
-}
+};
 
 #[test]
 fn octets_are_written_whole(rt: HostRuntime) -> Result<(), Fail> {
-    for (most, calls, held, error) in written_whole_rows() {
+    for (most, calls, held, error) in WRITTEN_WHOLE {
         let mut out = failing_writer(rt.alloc(), *most, *calls);
         out.held.push(7)?;
         let kind = kind_of_error(write_whole(&mut out, WHOLE));
+        let same = out.held.as_slice() == *held;
         assert!(rt; kind == *error, "{most} octets a call, {calls} calls");
-        assert!(rt;
-            out.held.as_slice() == *held,
-            "{most} octets a call, {calls} calls: held"
-        );
+        assert!(rt; same, "{most} octets a call, {calls} calls: held");
     }
     Ok(())
 }

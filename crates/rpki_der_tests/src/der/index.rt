@@ -1,5 +1,6 @@
 //! The index of headers.
 
+use crate::rows;
 use bytes::Bytes;
 use rpki_der::*;
 use std::alloc::Global;
@@ -9,60 +10,17 @@ use std::test::Fail;
 type Wanted = (usize, usize, usize, u32, bool, Option<usize>);
 
 /// A value, and its index.
-struct Row {
-    name: &'static str,
-    octets: &'static [u8],
-    index: &'static [Wanted],
-}
-
-const ROWS: &[Row] = &[
-    Row {
-        name: "four sequences",
-        octets: &[0x30, 0x06, 0x30, 0x04, 0x30, 0x02, 0x30, 0x00],
-        index: &[
-            (0, 2, 8, 16, true, None),
-            (2, 4, 8, 16, true, Some(0)),
-            (4, 6, 8, 16, true, Some(1)),
-            (6, 8, 8, 16, true, Some(2)),
-        ],
-    },
-    Row {
-        name: "a name",
-        octets: &[
-            0x30, 0x0c, 0x31, 0x0a, 0x30, 0x08, 0x06, 0x03, 0x55, 0x04, 0x03, 0x13, 0x01, 0x41,
-        ],
-        index: &[
-            (0, 2, 14, 16, true, None),
-            (2, 4, 14, 17, true, Some(0)),
-            (4, 6, 14, 16, true, Some(1)),
-            (6, 8, 11, 6, false, Some(2)),
-            (11, 13, 14, 19, false, Some(2)),
-        ],
-    },
-    Row {
-        name: "values after closed ones",
-        octets: &[
-            0x30, 0x0a, 0x30, 0x02, 0x30, 0x00, 0x05, 0x00, 0x31, 0x00, 0x05, 0x00,
-        ],
-        index: &[
-            (0, 2, 12, 16, true, None),
-            (2, 4, 6, 16, true, Some(0)),
-            (4, 6, 6, 16, true, Some(1)),
-            (6, 8, 8, 5, false, Some(0)),
-            (8, 10, 10, 17, true, Some(0)),
-            (10, 12, 12, 5, false, Some(0)),
-        ],
-    },
-    Row {
-        name: "NULL",
-        octets: &[0x05, 0x00],
-        index: &[(0, 2, 2, 5, false, None)],
-    },
-];
-
-fn rows() -> &'static [Row] {
-    ROWS
-}
+const ROWS: &[(&str, &[u8], &[Wanted])] = &rows! {
+    ("four sequences", &[0x30, 0x06, 0x30, 0x04, 0x30, 0x02, 0x30, 0x00], &[(0, 2, 8, 16, true, None),
+      (2, 4, 8, 16, true, Some(0)), (4, 6, 8, 16, true, Some(1)), (6, 8, 8, 16, true, Some(2))]),
+    ("a name", &[0x30, 0x0c, 0x31, 0x0a, 0x30, 0x08, 0x06, 0x03, 0x55, 0x04, 0x03, 0x13, 0x01, 0x41],
+     &[(0, 2, 14, 16, true, None), (2, 4, 14, 17, true, Some(0)), (4, 6, 14, 16, true, Some(1)),
+      (6, 8, 11, 6, false, Some(2)), (11, 13, 14, 19, false, Some(2))]),
+    ("values after closed ones", &[0x30, 0x0a, 0x30, 0x02, 0x30, 0x00, 0x05, 0x00, 0x31, 0x00, 0x05, 0x00],
+     &[(0, 2, 12, 16, true, None), (2, 4, 6, 16, true, Some(0)), (4, 6, 6, 16, true, Some(1)),
+      (6, 8, 8, 5, false, Some(0)), (8, 10, 10, 17, true, Some(0)), (10, 12, 12, 5, false, Some(0))]),
+    ("NULL", &[0x05, 0x00], &[(0, 2, 2, 5, false, None)]),
+};
 
 fn is_wanted(entry: &HeaderEntry, wanted: &Wanted) -> bool {
     entry.place() == wanted.0
@@ -89,12 +47,8 @@ fn is_indexed(alloc: Global, octets: &'static [u8], wanted: &[Wanted]) -> bool {
 
 #[test]
 fn captured_values_have_their_index(rt: HostRuntime) {
-    for row in rows() {
-        assert!(rt;
-            is_indexed(rt.alloc(), row.octets, row.index),
-            "{}",
-            row.name
-        );
+    for (name, octets, index) in ROWS {
+        assert!(rt; is_indexed(rt.alloc(), octets, index), "{name}");
     }
 }
 
@@ -108,12 +62,8 @@ fn is_indexed_slice(alloc: Global, octets: &[u8], wanted: &[Wanted]) -> bool {
 
 #[test]
 fn the_index_of_a_slice_is_the_same(rt: HostRuntime) {
-    for row in rows() {
-        assert!(rt;
-            is_indexed_slice(rt.alloc(), row.octets, row.index),
-            "{}",
-            row.name
-        );
+    for (name, octets, index) in ROWS {
+        assert!(rt; is_indexed_slice(rt.alloc(), octets, index), "{name}");
     }
 }
 
@@ -171,86 +121,42 @@ fn a_cursor_on_captured_values_reads_them(rt: HostRuntime) {
     assert!(rt; indexed);
 }
 
-/// A value, the number of a parent, the numbers of its members, and the contents of the last of these.
-struct Parent {
-    name: &'static str,
-    octets: &'static [u8],
-    number: Option<usize>,
-    members: &'static [usize],
-    contents: &'static [u8],
-}
-
 /// a SEQUENCE of a SEQUENCE around an empty SEQUENCE, and then of NULL, an empty SET and NULL
-const NESTED: &[u8] = &[
-    0x30, 0x0a, 0x30, 0x02, 0x30, 0x00, 0x05, 0x00, 0x31, 0x00, 0x05, 0x00,
-];
+const NESTED: &[u8] = b"\x30\x0a\x30\x02\x30\x00\x05\x00\x31\x00\x05\x00";
 
-const PARENTS: &[Parent] = &[
-    Parent {
-        name: "all values",
-        octets: NESTED,
-        number: None,
-        members: &[0],
-        contents: &[0x30, 0x02, 0x30, 0x00, 0x05, 0x00, 0x31, 0x00, 0x05, 0x00],
-    },
-    Parent {
-        name: "a SEQUENCE",
-        octets: NESTED,
-        number: Some(0),
-        members: &[1, 3, 4, 5],
-        contents: &[],
-    },
-    Parent {
-        name: "a SEQUENCE inside",
-        octets: NESTED,
-        number: Some(1),
-        members: &[2],
-        contents: &[],
-    },
-    Parent {
-        name: "NULL",
-        octets: NESTED,
-        number: Some(5),
-        members: &[],
-        contents: &[],
-    },
-    Parent {
-        name: "an extension",
-        octets: &[
-            0x30, 0x09, 0x06, 0x03, 0x55, 0x1d, 0x13, 0x04, 0x02, 0x30, 0x00,
-        ],
-        number: Some(0),
-        members: &[1, 2],
-        contents: &[0x30, 0x00],
-    },
-];
+/// A value, the number of a parent, the numbers of its members, and the contents of the last of these.
+type Parent<'a> = (&'a str, &'a [u8], Option<usize>, &'a [usize], &'a [u8]);
 
-fn parent_rows() -> &'static [Parent] {
-    PARENTS
-}
+const PARENTS: &[Parent<'_>] = &rows! {
+    ("all values", NESTED, None, &[0], &[0x30, 0x02, 0x30, 0x00, 0x05, 0x00, 0x31, 0x00, 0x05, 0x00]),
+    ("a SEQUENCE", NESTED, Some(0), &[1, 3, 4, 5], &[]),
+    ("a SEQUENCE inside", NESTED, Some(1), &[2], &[]),
+    ("NULL", NESTED, Some(5), &[], &[]),
+    ("an extension", b"\x30\x09\x06\x03\x55\x1d\x13\x04\x02\x30\x00", Some(0), &[1, 2], &[0x30, 0x00]),
+};
 
 /// Whether these are the members of the value of this number, and the last of them has these contents.
-fn has_members(found: &Captured, row: &Parent) -> bool {
-    let mut members = match row.number {
+fn has_members(found: &Captured, (_, _, number, numbers, contents): &Parent<'_>) -> bool {
+    let mut members = match *number {
         None => found.members(None),
         Some(number) if number < found.headers().len() => found.members(Some(number)),
         Some(_) => return false,
     };
-    for wanted in row.members {
+    for wanted in *numbers {
         if members.next() != Some(*wanted) {
             return false;
         }
     }
-    let last = match row.members.last().copied() {
+    let last = match numbers.last().copied() {
         Some(last) if last < found.headers().len() => found.contents(last),
         _ => b"",
     };
-    members.next().is_none() && last == row.contents
+    members.next().is_none() && last == *contents
 }
 
 /// Whether the value is captured, and has the members of the row.
-fn captures_members(alloc: Global, row: &Parent) -> bool {
-    let source: Bytes = Bytes::from_static(row.octets);
+fn captures_members(alloc: Global, row: &Parent<'static>) -> bool {
+    let source: Bytes = Bytes::from_static(row.1);
     match Constructed::new(&source).capture_one(alloc) {
         Ok(found) => has_members(&found, row),
         Err(_) => false,
@@ -259,7 +165,7 @@ fn captures_members(alloc: Global, row: &Parent) -> bool {
 
 #[test]
 fn members_are_named_in_order(rt: HostRuntime) {
-    for row in parent_rows() {
-        assert!(rt; captures_members(rt.alloc(), row), "{}", row.name);
+    for row in PARENTS {
+        assert!(rt; captures_members(rt.alloc(), row), "{}", row.0);
     }
 }

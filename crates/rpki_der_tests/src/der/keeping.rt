@@ -19,10 +19,6 @@ const SIZES: &[(usize, &[u8])] = &[
     (1_000_000, &[0x83, 0x0f, 0x42, 0x40]),
 ];
 
-fn sizes() -> &'static [(usize, &'static [u8])] {
-    SIZES
-}
-
 /// Octets that differ from their neighbours.
 fn octets_of(alloc: Global, size: usize) -> Result<Vec<u8>, AllocError> {
     let mut octets = Vec::new(alloc);
@@ -112,26 +108,22 @@ fn octet_string(alloc: Global, size: &[u8], contents: &[u8]) -> Result<Vec<u8>, 
 
 #[test]
 fn parts_of_values_are_kept(rt: HostRuntime) -> Result<(), AllocError> {
-    for (count, size) in sizes() {
+    for (count, size) in SIZES {
         let contents = octets_of(rt.alloc(), *count)?;
         let value = octet_string(rt.alloc(), size, contents.as_slice())?;
         let octets = nested(rt.alloc(), contents.as_slice())?;
         let mut copied = Constructed::new(&octets);
-        assert!(rt;
-            is_kept(
-                rt.alloc(),
-                &mut copied,
-                value.as_slice(),
-                contents.as_slice()
-            ),
-            "{count} copied"
+        let same = is_kept(
+            rt.alloc(),
+            &mut copied,
+            value.as_slice(),
+            contents.as_slice(),
         );
+        assert!(rt; same, "{count} copied");
         let mut shared = Constructed::new(&octets);
         let keep = Shared::new(rt.alloc(), &octets);
-        assert!(rt;
-            is_kept(keep, &mut shared, value.as_slice(), contents.as_slice()),
-            "{count} shared"
-        );
+        let same = is_kept(keep, &mut shared, value.as_slice(), contents.as_slice());
+        assert!(rt; same, "{count} shared");
     }
     Ok(())
 }

@@ -3,22 +3,14 @@
 use super::*;
 
 /// A number that has sixteen octets at most, and its decimal digits.
-const NUMBERS: &[(&str, u128, &str)] = &[
+const NUMBERS: &[(&str, u128, &str)] = &rows! {
     ("zero", 0, "0"),
     ("a digit", 9, "9"),
     ("two digits", 10, "10"),
     ("383822", 0x05_db4e, "383822"),
     ("2^64", 1 << 64, "18446744073709551616"),
-    (
-        "sixteen octets",
-        u128::MAX,
-        "340282366920938463463374607431768211455",
-    ),
-];
-
-fn number_rows() -> &'static [(&'static str, u128, &'static str)] {
-    NUMBERS
-}
+    ("sixteen octets", u128::MAX, "340282366920938463463374607431768211455"),
+};
 
 /// Whether the number has these digits, by each call that makes them, and is read of them.
 fn is_decimal(number: u128, digits: &str) -> bool {
@@ -32,7 +24,7 @@ fn is_decimal(number: u128, digits: &str) -> bool {
 
 #[test]
 fn serials_have_decimal_digits(rt: HostRuntime) {
-    for (name, number, digits) in number_rows() {
+    for (name, number, digits) in NUMBERS {
         assert!(rt; is_decimal(*number, digits), "{name}");
     }
 }
@@ -45,37 +37,13 @@ fn large(first: u8) -> [u8; 20] {
 }
 
 /// A text, and the octets of the number that it writes, if it writes one.
-const TEXTS: &[(&str, &str, Option<u8>)] = &[
-    (
-        "the greatest number",
-        "730750818665451459101842416358141509827966271487",
-        Some(0x7f),
-    ),
-    (
-        "zeros in front",
-        "000730750818665451459101842416358141509827966271487",
-        Some(0x7f),
-    ),
-    (
-        "one more",
-        "730750818665451459101842416358141509827966271488",
-        None,
-    ),
-    (
-        "twenty octets FF",
-        "1461501637330902918203684832716283019655932542975",
-        None,
-    ),
-    (
-        "twenty-one octets",
-        "1461501637330902918203684832716283019655932542976",
-        None,
-    ),
-    (
-        "sixty digits",
-        "999999999999999999999999999999999999999999999999999999999999",
-        None,
-    ),
+const TEXTS: &[(&str, &str, Option<u8>)] = &rows! {
+    ("the greatest number", "730750818665451459101842416358141509827966271487", Some(0x7f)),
+    ("zeros in front", "000730750818665451459101842416358141509827966271487", Some(0x7f)),
+    ("one more", "730750818665451459101842416358141509827966271488", None),
+    ("twenty octets FF", "1461501637330902918203684832716283019655932542975", None),
+    ("twenty-one octets", "1461501637330902918203684832716283019655932542976", None),
+    ("sixty digits", "999999999999999999999999999999999999999999999999999999999999", None),
     ("nothing", "", None),
     ("a plus", "+1", None),
     ("a minus", "-1", None),
@@ -84,11 +52,7 @@ const TEXTS: &[(&str, &str, Option<u8>)] = &[
     ("hexadecimal digits", "5DB4E", None),
     ("before the digits", "1/", None),
     ("behind the digits", "1:", None),
-];
-
-fn text_rows() -> &'static [(&'static str, &'static str, Option<u8>)] {
-    TEXTS
-}
+};
 
 /// Whether the text writes the number with this first octet, or none.
 fn is_text(text: &str, first: Option<u8>) -> bool {
@@ -101,7 +65,7 @@ fn is_text(text: &str, first: Option<u8>) -> bool {
 
 #[test]
 fn decimal_texts_are_read(rt: HostRuntime) {
-    for (name, text, first) in text_rows() {
+    for (name, text, first) in TEXTS {
         assert!(rt; is_text(text, *first), "{name}");
     }
 }

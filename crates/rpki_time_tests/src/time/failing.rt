@@ -106,7 +106,7 @@ fn first_fault(
 
 #[test]
 fn a_failed_writer_holds_a_beginning(rt: HostRuntime) {
-    for (name, written, expected) in written_rows() {
+    for (name, written, expected) in WRITTEN {
         for (case, failure) in FAILURES.iter().enumerate() {
             let fault = first_fault(rt.alloc(), (*written, expected), *failure);
             assert!(rt; fault.is_none(), "{name}, failure {case}, calls {fault:?}");

@@ -7,36 +7,17 @@ use rpki_time::laws::{
     times_read_back,
 };
 
-fn serial_of_law(cursor: &mut Constructed<'_>) -> Found {
-    match serials_read_back(cursor) {
-        Ok(serial) => Found::Serial(serial.into_array()),
-        Err(e) => refusal(&e),
-    }
-}
-
-fn time_of_law(cursor: &mut Constructed<'_>) -> Found {
-    match times_read_back(cursor) {
-        Ok(time) => Found::Time(parts_of(time)),
-        Err(e) => refusal(&e),
-    }
-}
-
-fn period_of_law(cursor: &mut Constructed<'_>) -> Found {
-    match periods_read_back(cursor) {
-        Ok(period) => Found::Period(parts_of(period.not_before()), parts_of(period.not_after())),
-        Err(e) => refusal(&e),
-    }
-}
-
 /// What the law's reader of such a value returns.
 fn answer_of_law(written: Written, cursor: &mut Constructed<'_>) -> Found {
-    match written {
+    told(match written {
         Written::Zero | Written::Octets(_) | Written::Number(_) | Written::Small(_) => {
-            serial_of_law(cursor)
+            serials_read_back(cursor).map(of_serial)
         }
-        Written::Utc(_) | Written::Generalized(_) | Written::Varied(_) => time_of_law(cursor),
-        Written::Period(_, _) => period_of_law(cursor),
-    }
+        Written::Utc(_) | Written::Generalized(_) | Written::Varied(_) => {
+            times_read_back(cursor).map(of_time)
+        }
+        Written::Period(_, _) => periods_read_back(cursor).map(of_period),
+    })
 }
 
 /// What is written with a NULL after it.
@@ -54,93 +35,43 @@ fn read_back(alloc: Global, written: Written) -> io::Result<(Found, usize)> {
     Ok((found, cursor.rest().len()))
 }
 
-const READ_BACK: &[(&str, Written, Found)] = &[
+const READ_BACK: &[(&str, Written, Found)] = &rows! {
     ("zero", Written::Zero, Found::Serial([0; 20])),
-    (
-        "a serial number that begins with a bit",
-        Written::Octets(b"\0\0\0\0\0\0\0\0\0\0\0\0\0\0\0\0\0\x81\x02\x03"),
-        Found::Serial(*b"\0\0\0\0\0\0\0\0\0\0\0\0\0\0\0\0\0\x81\x02\x03"),
-    ),
-    (
-        "the greatest serial number",
-        Written::Octets(
-            b"\x7f\xff\xff\xff\xff\xff\xff\xff\xff\xff\xff\xff\xff\xff\xff\xff\xff\xff\xff\xff",
-        ),
-        Found::Serial(
-            *b"\x7f\xff\xff\xff\xff\xff\xff\xff\xff\xff\xff\xff\xff\xff\xff\xff\xff\xff\xff\xff",
-        ),
-    ),
-    (
-        "128",
-        Written::Small(128),
-        Found::Serial(*b"\0\0\0\0\0\0\0\0\0\0\0\0\0\0\0\0\0\0\0\x80"),
-    ),
-    (
-        "a UTC time of 2060",
-        Written::Utc((2060, 1, 1, 0, 0, 0)),
-        Found::Time((1960, 1, 1, 0, 0, 0)),
-    ),
-    (
-        "the last moment of 2049 as a UTC time",
-        Written::Utc((2049, 12, 31, 23, 59, 59)),
-        Found::Time((2049, 12, 31, 23, 59, 59)),
-    ),
-    (
-        "the last moment of 1949 as a UTC time",
-        Written::Utc((1949, 12, 31, 23, 59, 59)),
-        Found::Time((2049, 12, 31, 23, 59, 59)),
-    ),
-    (
-        "a generalized time of 1980",
-        Written::Generalized((1980, 10, 1, 16, 30, 15)),
-        Found::Time((1980, 10, 1, 16, 30, 15)),
-    ),
-    (
-        "a time of 2060",
-        Written::Varied((2060, 1, 1, 0, 0, 0)),
-        Found::Time((2060, 1, 1, 0, 0, 0)),
-    ),
-    (
-        "the first moment of 1950",
-        Written::Varied((1950, 1, 1, 0, 0, 0)),
-        Found::Time((1950, 1, 1, 0, 0, 0)),
-    ),
-    (
-        "a period of both kinds of time",
-        Written::Period((2020, 1, 1, 0, 0, 0), (2050, 1, 1, 0, 0, 0)),
-        Found::Period((2020, 1, 1, 0, 0, 0), (2050, 1, 1, 0, 0, 0)),
-    ),
-];
-
-fn read_back_rows() -> &'static [(&'static str, Written, Found)] {
-    READ_BACK
-}
+    ("a serial number that begins with a bit", Written::Octets(b"\0\0\0\0\0\0\0\0\0\0\0\0\0\0\0\0\0\x81\x02\x03"),
+     Found::Serial(*b"\0\0\0\0\0\0\0\0\0\0\0\0\0\0\0\0\0\x81\x02\x03")),
+    ("the greatest serial number",
+     Written::Octets(b"\x7f\xff\xff\xff\xff\xff\xff\xff\xff\xff\xff\xff\xff\xff\xff\xff\xff\xff\xff\xff"),
+     Found::Serial(*b"\x7f\xff\xff\xff\xff\xff\xff\xff\xff\xff\xff\xff\xff\xff\xff\xff\xff\xff\xff\xff")),
+    ("128", Written::Small(128), Found::Serial(*b"\0\0\0\0\0\0\0\0\0\0\0\0\0\0\0\0\0\0\0\x80")),
+    ("a UTC time of 2060", Written::Utc((2060, 1, 1, 0, 0, 0)), Found::Time((1960, 1, 1, 0, 0, 0))),
+    ("the last moment of 2049 as a UTC time", Written::Utc((2049, 12, 31, 23, 59, 59)),
+     Found::Time((2049, 12, 31, 23, 59, 59))),
+    ("the last moment of 1949 as a UTC time", Written::Utc((1949, 12, 31, 23, 59, 59)),
+     Found::Time((2049, 12, 31, 23, 59, 59))),
+    ("a generalized time of 1980", Written::Generalized((1980, 10, 1, 16, 30, 15)),
+     Found::Time((1980, 10, 1, 16, 30, 15))),
+    ("a time of 2060", Written::Varied((2060, 1, 1, 0, 0, 0)), Found::Time((2060, 1, 1, 0, 0, 0))),
+    ("the first moment of 1950", Written::Varied((1950, 1, 1, 0, 0, 0)), Found::Time((1950, 1, 1, 0, 0, 0))),
+    ("a period of both kinds of time", Written::Period((2020, 1, 1, 0, 0, 0), (2050, 1, 1, 0, 0, 0)),
+     Found::Period((2020, 1, 1, 0, 0, 0), (2050, 1, 1, 0, 0, 0))),
+};
 
 #[test]
 fn what_is_written_is_read_back(rt: HostRuntime) -> Result<(), Fail> {
-    for (name, written, expected) in read_back_rows() {
-        let found = read_back(rt.alloc(), *written)?;
-        assert!(rt; is_found(found, &(*expected, 2)), "{name}");
+    for (name, written, expected) in READ_BACK {
+        assert_eq!(rt; read_back(rt.alloc(), *written)?, (*expected, 2), "{name}");
     }
     Ok(())
 }
 
 /// The octets of a serial number, those of another, and whether the first is less.
-const NUMBERS: &[(&str, [u8; 20], [u8; 20], bool)] = &[
+const NUMBERS: &[(&str, [u8; 20], [u8; 20], bool)] = &rows! {
     ("zero and zero", [0; 20], [0; 20], false),
     ("zero and 20 times 1", [0; 20], [1; 20], true),
     ("20 times 7F and 20 times 1", [0x7f; 20], [1; 20], false),
-    (
-        "511 and 512",
-        *b"\0\0\0\0\0\0\0\0\0\0\0\0\0\0\0\0\0\0\x01\xff",
-        *b"\0\0\0\0\0\0\0\0\0\0\0\0\0\0\0\0\0\0\x02\0",
-        true,
-    ),
-];
-
-fn number_rows() -> &'static [(&'static str, [u8; 20], [u8; 20], bool)] {
-    NUMBERS
-}
+    ("511 and 512", *b"\0\0\0\0\0\0\0\0\0\0\0\0\0\0\0\0\0\0\x01\xff", *b"\0\0\0\0\0\0\0\0\0\0\0\0\0\0\0\0\0\0\x02\0",
+     true),
+};
 
 /// Whether the first serial number is read back, and is less than the second or not.
 fn are_in_order(first: [u8; 20], second: [u8; 20], less: bool) -> bool {
@@ -155,48 +86,20 @@ fn are_in_order(first: [u8; 20], second: [u8; 20], less: bool) -> bool {
 
 #[test]
 fn octets_of_serials_in_order(rt: HostRuntime) {
-    for (name, first, second, less) in number_rows() {
+    for (name, first, second, less) in NUMBERS {
         assert!(rt; are_in_order(*first, *second, *less), "{name}");
     }
 }
 
 /// A time with its nanosecond, another, and whether the first is before it.
-const MOMENTS: &[(&str, (Parts, i64), (Parts, i64), bool)] = &[
-    (
-        "the same",
-        ((2020, 1, 1, 0, 0, 0), 5),
-        ((2020, 1, 1, 0, 0, 0), 5),
-        false,
-    ),
-    (
-        "a nanosecond later",
-        ((2020, 1, 1, 0, 0, 0), 5),
-        ((2020, 1, 1, 0, 0, 0), 6),
-        true,
-    ),
-    (
-        "the last moment of 1969 and the first of 1970",
-        ((1969, 12, 31, 23, 59, 59), 999_999_999),
-        ((1970, 1, 1, 0, 0, 0), 0),
-        true,
-    ),
-    (
-        "February and January",
-        ((2020, 2, 1, 0, 0, 0), 0),
-        ((2020, 1, 31, 0, 0, 0), 0),
-        false,
-    ),
-    (
-        "the years 0 and 9999",
-        ((0, 12, 31, 0, 0, 0), 0),
-        ((9999, 1, 1, 0, 0, 0), 0),
-        true,
-    ),
-];
-
-fn moment_rows() -> &'static [(&'static str, (Parts, i64), (Parts, i64), bool)] {
-    MOMENTS
-}
+const MOMENTS: &[(&str, (Parts, i64), (Parts, i64), bool)] = &rows! {
+    ("the same", ((2020, 1, 1, 0, 0, 0), 5), ((2020, 1, 1, 0, 0, 0), 5), false),
+    ("a nanosecond later", ((2020, 1, 1, 0, 0, 0), 5), ((2020, 1, 1, 0, 0, 0), 6), true),
+    ("the last moment of 1969 and the first of 1970", ((1969, 12, 31, 23, 59, 59), 999_999_999),
+     ((1970, 1, 1, 0, 0, 0), 0), true),
+    ("February and January", ((2020, 2, 1, 0, 0, 0), 0), ((2020, 1, 31, 0, 0, 0), 0), false),
+    ("the years 0 and 9999", ((0, 12, 31, 0, 0, 0), 0), ((9999, 1, 1, 0, 0, 0), 0), true),
+};
 
 /// Whether the first moment is before the second, where both are times.
 fn is_before(first: (Parts, i64), second: (Parts, i64)) -> Option<bool> {
@@ -206,7 +109,7 @@ fn is_before(first: (Parts, i64), second: (Parts, i64)) -> Option<bool> {
 
 #[test]
 fn moments_in_order(rt: HostRuntime) {
-    for (name, first, second, before) in moment_rows() {
+    for (name, first, second, before) in MOMENTS {
         assert!(rt; is_before(*first, *second) == Some(*before), "{name}");
     }
 }

@@ -3,47 +3,14 @@
 use super::*;
 
 /// A name, a start, an end, a moment, and whether the period holds then; if not, whether it is too new.
-const PERIODS: &[(&str, Parts, Parts, Parts, Option<bool>)] = &[
-    (
-        "the start",
-        (2020, 1, 1, 0, 0, 0),
-        (2050, 1, 1, 0, 0, 0),
-        (2020, 1, 1, 0, 0, 0),
-        None,
-    ),
-    (
-        "the end",
-        (2020, 1, 1, 0, 0, 0),
-        (2050, 1, 1, 0, 0, 0),
-        (2050, 1, 1, 0, 0, 0),
-        None,
-    ),
-    (
-        "a second before the start",
-        (2020, 1, 1, 0, 0, 0),
-        (2050, 1, 1, 0, 0, 0),
-        (2019, 12, 31, 23, 59, 59),
-        Some(true),
-    ),
-    (
-        "a second after the end",
-        (2020, 1, 1, 0, 0, 0),
-        (2050, 1, 1, 0, 0, 0),
-        (2050, 1, 1, 0, 0, 1),
-        Some(false),
-    ),
-    (
-        "a period that ends before it starts",
-        (2030, 1, 1, 0, 0, 0),
-        (2020, 1, 1, 0, 0, 0),
-        (2025, 1, 1, 0, 0, 0),
-        Some(true),
-    ),
-];
-
-fn period_rows() -> &'static [(&'static str, Parts, Parts, Parts, Option<bool>)] {
-    PERIODS
-}
+const PERIODS: &[(&str, Parts, Parts, Parts, Option<bool>)] = &rows! {
+    ("the start", (2020, 1, 1, 0, 0, 0), (2050, 1, 1, 0, 0, 0), (2020, 1, 1, 0, 0, 0), None),
+    ("the end", (2020, 1, 1, 0, 0, 0), (2050, 1, 1, 0, 0, 0), (2050, 1, 1, 0, 0, 0), None),
+    ("a second before the start", (2020, 1, 1, 0, 0, 0), (2050, 1, 1, 0, 0, 0), (2019, 12, 31, 23, 59, 59), Some(true)),
+    ("a second after the end", (2020, 1, 1, 0, 0, 0), (2050, 1, 1, 0, 0, 0), (2050, 1, 1, 0, 0, 1), Some(false)),
+    ("a period that ends before it starts", (2030, 1, 1, 0, 0, 0), (2020, 1, 1, 0, 0, 0), (2025, 1, 1, 0, 0, 0),
+     Some(true)),
+};
 
 /// None where the check passed; else whether the error is that the object is too new.
 fn too_new(outcome: Result<(), ValidityPeriodError>) -> Option<bool> {
@@ -60,7 +27,7 @@ fn verify(start: Parts, end: Parts, now: Parts) -> Option<Option<bool>> {
 
 #[test]
 fn periods_hold(rt: HostRuntime) {
-    for (name, start, end, now, expected) in period_rows() {
+    for (name, start, end, now, expected) in PERIODS {
         let found = verify(*start, *end, *now);
         assert!(rt; found == Some(*expected), "{name}");
     }
@@ -76,10 +43,6 @@ const ENDS: &[(i64, Option<bool>, Option<bool>)] = &[
     (86_400_000_000_000, None, Some(false)),
 ];
 
-fn end_rows() -> &'static [(i64, Option<bool>, Option<bool>)] {
-    ENDS
-}
-
 /// What the two checks of an end of a period return, that many nanoseconds after the end.
 fn verify_end(nanoseconds: i64) -> Option<(Option<bool>, Option<bool>)> {
     let parts = (2020, 2, 29, 23, 59, 59);
@@ -92,30 +55,18 @@ fn verify_end(nanoseconds: i64) -> Option<(Option<bool>, Option<bool>)> {
 
 #[test]
 fn ends_of_periods(rt: HostRuntime) {
-    for (nanoseconds, as_start, as_end) in end_rows() {
+    for (nanoseconds, as_start, as_end) in ENDS {
         let found = verify_end(*nanoseconds);
         assert!(rt; found == Some((*as_start, *as_end)), "{nanoseconds}");
     }
 }
 
 /// A moment, seconds, and the ends of the period between.
-const SPANS: &[(Parts, i64, Option<(Parts, Parts)>)] = &[
-    (
-        (2024, 1, 1, 0, 0, 0),
-        -10,
-        Some(((2023, 12, 31, 23, 59, 50), (2024, 1, 1, 0, 0, 0))),
-    ),
-    (
-        (2024, 1, 1, 0, 0, 0),
-        10,
-        Some(((2024, 1, 1, 0, 0, 0), (2024, 1, 1, 0, 0, 10))),
-    ),
+const SPANS: &[(Parts, i64, Option<(Parts, Parts)>)] = &rows! {
+    ((2024, 1, 1, 0, 0, 0), -10, Some(((2023, 12, 31, 23, 59, 50), (2024, 1, 1, 0, 0, 0)))),
+    ((2024, 1, 1, 0, 0, 0), 10, Some(((2024, 1, 1, 0, 0, 0), (2024, 1, 1, 0, 0, 10)))),
     ((0, 1, 1, 0, 0, 0), -1, None),
-];
-
-fn span_rows() -> &'static [(Parts, i64, Option<(Parts, Parts)>)] {
-    SPANS
-}
+};
 
 /// Whether the period of so many seconds from the moment has these ends, and is itself where it is trimmed by itself.
 fn is_span(parts: Parts, seconds: i64, expected: Option<(Parts, Parts)>) -> bool {
@@ -135,49 +86,21 @@ fn is_span(parts: Parts, seconds: i64, expected: Option<(Parts, Parts)>) -> bool
 
 #[test]
 fn periods_from_seconds(rt: HostRuntime) {
-    for (parts, seconds, expected) in span_rows() {
+    for (parts, seconds, expected) in SPANS {
         assert!(rt; is_span(*parts, *seconds, *expected), "{seconds} seconds");
     }
 }
 
 /// A moment, a duration in nanoseconds, and the ends of the period between, each with its nanosecond.
-const DURATIONS: &[(Parts, i64, Option<((Parts, i64), (Parts, i64))>)] = &[
-    (
-        (2024, 1, 1, 0, 0, 0),
-        0,
-        Some((((2024, 1, 1, 0, 0, 0), 0), ((2024, 1, 1, 0, 0, 0), 0))),
-    ),
-    (
-        (2024, 1, 1, 0, 0, 0),
-        1_500_000_000,
-        Some((
-            ((2024, 1, 1, 0, 0, 0), 0),
-            ((2024, 1, 1, 0, 0, 1), 500_000_000),
-        )),
-    ),
-    (
-        (2024, 1, 1, 0, 0, 0),
-        -1,
-        Some((
-            ((2023, 12, 31, 23, 59, 59), 999_999_999),
-            ((2024, 1, 1, 0, 0, 0), 0),
-        )),
-    ),
+const DURATIONS: &[(Parts, i64, Option<((Parts, i64), (Parts, i64))>)] = &rows! {
+    ((2024, 1, 1, 0, 0, 0), 0, Some((((2024, 1, 1, 0, 0, 0), 0), ((2024, 1, 1, 0, 0, 0), 0)))),
+    ((2024, 1, 1, 0, 0, 0), 1_500_000_000, Some((((2024, 1, 1, 0, 0, 0), 0), ((2024, 1, 1, 0, 0, 1), 500_000_000)))),
+    ((2024, 1, 1, 0, 0, 0), -1, Some((((2023, 12, 31, 23, 59, 59), 999_999_999), ((2024, 1, 1, 0, 0, 0), 0)))),
     ((0, 1, 1, 0, 0, 0), -1, None),
     ((9999, 12, 31, 23, 59, 59), 1_000_000_000, None),
-    (
-        (9999, 12, 31, 23, 59, 59),
-        999_999_999,
-        Some((
-            ((9999, 12, 31, 23, 59, 59), 0),
-            ((9999, 12, 31, 23, 59, 59), 999_999_999),
-        )),
-    ),
-];
-
-fn duration_rows() -> &'static [(Parts, i64, Option<((Parts, i64), (Parts, i64))>)] {
-    DURATIONS
-}
+    ((9999, 12, 31, 23, 59, 59), 999_999_999,
+     Some((((9999, 12, 31, 23, 59, 59), 0), ((9999, 12, 31, 23, 59, 59), 999_999_999)))),
+};
 
 /// Whether the period of so many nanoseconds from the moment has these ends.
 fn has_ends(
@@ -201,7 +124,7 @@ fn has_ends(
 
 #[test]
 fn periods_from_durations(rt: HostRuntime) {
-    for (parts, nanoseconds, expected) in duration_rows() {
+    for (parts, nanoseconds, expected) in DURATIONS {
         let same = has_ends(*parts, *nanoseconds, *expected);
         assert!(rt; same, "{nanoseconds} from {}", parts.0);
     }
@@ -216,10 +139,6 @@ const TRIMMED: &[(&str, (i32, i32), (i32, i32), (i32, i32))] = &[
     ("the same", (2020, 2050), (2020, 2050), (2020, 2050)),
 ];
 
-fn trimmed_rows() -> &'static [(&'static str, (i32, i32), (i32, i32), (i32, i32))] {
-    TRIMMED
-}
-
 /// The period that holds where both do.
 fn trimmed(first: (i32, i32), second: (i32, i32)) -> Option<Validity> {
     let (a, b) = (period_of(first)?, period_of(second)?);
@@ -233,7 +152,7 @@ fn are_one(found: Option<Validity>, expected: Option<Validity>) -> bool {
 
 #[test]
 fn periods_are_trimmed(rt: HostRuntime) {
-    for (name, first, second, expected) in trimmed_rows() {
+    for (name, first, second, expected) in TRIMMED {
         let same = are_one(trimmed(*first, *second), period_of(*expected));
         assert!(rt; same, "{name}");
     }

@@ -25,29 +25,15 @@ fn order_of<T: Ord + Hash>(a: &T, b: &T) -> Option<Ordering> {
 }
 
 /// The octets of a serial number, those of another, and how the first compares to it.
-const SERIALS: &[(&str, &[u8], &[u8], Ordering)] = &[
+const SERIALS: &[(&str, &[u8], &[u8], Ordering)] = &rows! {
     ("a zero and 20", &[0], &[0; 20], Ordering::Equal),
     ("0 and 1", &[0], &[1], Ordering::Less),
-    (
-        "two zeros in front",
-        &[0, 0, 1, 2, 3],
-        &[1, 2, 3],
-        Ordering::Equal,
-    ),
+    ("two zeros in front", &[0, 0, 1, 2, 3], &[1, 2, 3], Ordering::Equal),
     ("255 and 256", &[0xff], &[1, 0], Ordering::Less),
-    (
-        "65536 and 65535",
-        &[1, 0, 0],
-        &[0xff, 0xff],
-        Ordering::Greater,
-    ),
+    ("65536 and 65535", &[1, 0, 0], &[0xff, 0xff], Ordering::Greater),
     ("513 and 258", &[2, 1], &[1, 2], Ordering::Greater),
     ("66051 and 66304", &[1, 2, 3], &[0, 1, 3, 0], Ordering::Less),
-];
-
-fn serial_rows() -> &'static [(&'static str, &'static [u8], &'static [u8], Ordering)] {
-    SERIALS
-}
+};
 
 /// How the serial number of the first octets compares to that of the second.
 fn order_of_serials(first: &[u8], second: &[u8]) -> Option<Ordering> {
@@ -59,7 +45,7 @@ fn order_of_serials(first: &[u8], second: &[u8]) -> Option<Ordering> {
 
 #[test]
 fn serials_compare(rt: HostRuntime) {
-    for (name, first, second, expected) in serial_rows() {
+    for (name, first, second, expected) in SERIALS {
         assert!(rt;
             order_of_serials(first, second) == Some(*expected),
             "{name}"
@@ -68,42 +54,14 @@ fn serials_compare(rt: HostRuntime) {
 }
 
 /// A time with its nanosecond, another, and how the first compares to it.
-const TIMES: &[(&str, (Parts, i64), (Parts, i64), Ordering)] = &[
-    (
-        "the last moment of 2019 and a second",
-        ((2020, 1, 1, 0, 0, 0), 0),
-        ((2019, 12, 31, 23, 59, 59), 1_000_000_000),
-        Ordering::Equal,
-    ),
-    (
-        "a nanosecond",
-        ((2020, 1, 1, 0, 0, 0), 1),
-        ((2020, 1, 1, 0, 0, 0), 2),
-        Ordering::Less,
-    ),
-    (
-        "the next second",
-        ((2020, 1, 1, 0, 0, 1), 0),
-        ((2020, 1, 1, 0, 0, 0), 999_999_999),
-        Ordering::Greater,
-    ),
-    (
-        "the next month",
-        ((2020, 1, 31, 23, 59, 59), 0),
-        ((2020, 2, 1, 0, 0, 0), 0),
-        Ordering::Less,
-    ),
-    (
-        "the years 10 and 9",
-        ((10, 1, 1, 0, 0, 0), 0),
-        ((9, 12, 31, 0, 0, 0), 0),
-        Ordering::Greater,
-    ),
-];
-
-fn time_rows() -> &'static [(&'static str, (Parts, i64), (Parts, i64), Ordering)] {
-    TIMES
-}
+const TIMES: &[(&str, (Parts, i64), (Parts, i64), Ordering)] = &rows! {
+    ("the last moment of 2019 and a second", ((2020, 1, 1, 0, 0, 0), 0), ((2019, 12, 31, 23, 59, 59), 1_000_000_000),
+     Ordering::Equal),
+    ("a nanosecond", ((2020, 1, 1, 0, 0, 0), 1), ((2020, 1, 1, 0, 0, 0), 2), Ordering::Less),
+    ("the next second", ((2020, 1, 1, 0, 0, 1), 0), ((2020, 1, 1, 0, 0, 0), 999_999_999), Ordering::Greater),
+    ("the next month", ((2020, 1, 31, 23, 59, 59), 0), ((2020, 2, 1, 0, 0, 0), 0), Ordering::Less),
+    ("the years 10 and 9", ((10, 1, 1, 0, 0, 0), 0), ((9, 12, 31, 0, 0, 0), 0), Ordering::Greater),
+};
 
 /// How the first moment compares to the second.
 fn order_of_moments(first: (Parts, i64), second: (Parts, i64)) -> Option<Ordering> {
@@ -113,7 +71,7 @@ fn order_of_moments(first: (Parts, i64), second: (Parts, i64)) -> Option<Orderin
 
 #[test]
 fn times_compare(rt: HostRuntime) {
-    for (name, first, second, expected) in time_rows() {
+    for (name, first, second, expected) in TIMES {
         assert!(rt;
             order_of_moments(*first, *second) == Some(*expected),
             "{name}"
@@ -122,22 +80,13 @@ fn times_compare(rt: HostRuntime) {
 }
 
 /// The years in which two periods start and end, and whether they are one period.
-const PERIODS: &[(&str, (i32, i32), (i32, i32), bool)] = &[
+const PERIODS: &[(&str, (i32, i32), (i32, i32), bool)] = &rows! {
     ("the same", (2020, 2050), (2020, 2050), true),
     ("another start", (2020, 2050), (2021, 2050), false),
     ("another end", (2020, 2050), (2020, 2051), false),
     ("start and end swapped", (2020, 2050), (2050, 2020), false),
-    (
-        "the same, which ends before it starts",
-        (2050, 2020),
-        (2050, 2020),
-        true,
-    ),
-];
-
-fn period_rows() -> &'static [(&'static str, (i32, i32), (i32, i32), bool)] {
-    PERIODS
-}
+    ("the same, which ends before it starts", (2050, 2020), (2050, 2020), true),
+};
 
 /// Whether the two are equal, and whether they are hashed alike.
 fn comparison(first: (i32, i32), second: (i32, i32)) -> Option<(bool, bool)> {
@@ -147,7 +96,7 @@ fn comparison(first: (i32, i32), second: (i32, i32)) -> Option<(bool, bool)> {
 
 #[test]
 fn periods_compare(rt: HostRuntime) {
-    for (name, first, second, equal) in period_rows() {
+    for (name, first, second, equal) in PERIODS {
         let same = match comparison(*first, *second) {
             Some((found, hashed)) => found == *equal && (!equal || hashed),
             None => false,
@@ -157,21 +106,11 @@ fn periods_compare(rt: HostRuntime) {
 }
 
 /// A number, and the octets of its serial number.
-const NUMBERS: &[(u64, [u8; 20])] = &[
+const NUMBERS: &[(u64, [u8; 20])] = &rows! {
     (0, [0; 20]),
-    (
-        0x0001_0203,
-        *b"\0\0\0\0\0\0\0\0\0\0\0\0\0\0\0\0\0\x01\x02\x03",
-    ),
-    (
-        u64::MAX,
-        *b"\0\0\0\0\0\0\0\0\0\0\0\0\xff\xff\xff\xff\xff\xff\xff\xff",
-    ),
-];
-
-fn number_rows() -> &'static [(u64, [u8; 20])] {
-    NUMBERS
-}
+    (0x0001_0203, *b"\0\0\0\0\0\0\0\0\0\0\0\0\0\0\0\0\0\x01\x02\x03"),
+    (u64::MAX, *b"\0\0\0\0\0\0\0\0\0\0\0\0\xff\xff\xff\xff\xff\xff\xff\xff"),
+};
 
 /// Whether these are the octets of the number, in either type.
 fn has_octets(number: u64, octets: [u8; 20]) -> bool {
@@ -182,7 +121,7 @@ fn has_octets(number: u64, octets: [u8; 20]) -> bool {
 #[test]
 fn serials_of_numbers(rt: HostRuntime) {
     assert!(rt; Serial::default().into_array() == [0; 20]);
-    for (number, octets) in number_rows() {
+    for (number, octets) in NUMBERS {
         assert!(rt; has_octets(*number, *octets), "{number}");
     }
 }
