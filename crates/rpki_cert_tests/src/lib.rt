@@ -3,8 +3,6 @@
 #![tactic(auto)]
 
 pub mod certificates;
-pub mod changed;
-pub mod hexadecimal;
 #[cfg(test)]
 mod profiles;
 pub mod provider;

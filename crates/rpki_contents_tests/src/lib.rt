@@ -3,7 +3,7 @@
 #![tactic(auto)]
 
 #[cfg(test)]
-mod hexadecimal;
+mod encoding;
 #[cfg(test)]
 mod manifest;
 #[cfg(test)]

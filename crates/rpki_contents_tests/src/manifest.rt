@@ -1,7 +1,22 @@
-//! Manifests.
+//! Manifests by openssl (`asn1parse -genconf`), and the same with other octets in place of some.
 
 mod changed;
 mod reading;
 mod refused;
 mod sizes;
 mod written;
+
+/// Three files; number 513; of 23:59:59 of 29 February 2024, and the next of 1 March.
+const THREE_FILES: &str =
+    "3081bf02020201180f32303234303232393233353935395a180f32303234303330313233353935395a060960864801650304020130818b30\
+     2c16076162632e636572032100ba7816bf8f01cfea414140de5dae2223b00361a396177a9cb410ff61f20015ad302f160a412d5a5f30392e\
+     726f61032100e3b0c44298fc1c149afbf4c8996fb92427ae41e4649b934ca495991b7852b855302a16057a2e63726c032100248d6a61d206\
+     38b8e5c026930c3e6039a33ce45964ff2167f6ecedd419db06c1";
+
+/// The first of the three alone.
+const ONE_FILE: &str =
+    "306102020201180f32303234303232393233353935395a180f32303234303330313233353935395a0609608648016503040201302e302c16\
+     076162632e636572032100ba7816bf8f01cfea414140de5dae2223b00361a396177a9cb410ff61f20015ad";
+
+/// Octets in a manifest, and those in their place.
+type Changes = &'static [(&'static str, &'static str)];

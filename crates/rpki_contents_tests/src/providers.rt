@@ -3,10 +3,12 @@
 mod accepted;
 mod hostile;
 
-use crate::hexadecimal::octets_of;
+use crate::encoding::{are_written_as, sequence_of};
 use rpki_contents::{AsProviderAttestation, AspaPart, AspaView};
-use rpki_der::{Captured, Constructed, Values};
+use rpki_der::Constructed;
+use rpki_der_tests::hexadecimal::octets_of;
 use rpki_der_tests::kinds::{Outcome, outcome_of};
+use rpki_der_tests::rows;
 use rpki_resources::{Block, Blocks};
 use std::alloc::{AllocError, Global};
 use std::test::Fail;
@@ -35,16 +37,12 @@ fn is_attestation(alloc: Global, octets: &[u8], customer: u32, providers: &[u32]
 
 #[test]
 fn accepted_attestations(rt: HostRuntime) -> Result<(), Fail> {
-    for (name, text, customer, providers) in accepted::rows() {
+    for (name, text, customer, providers) in accepted::ROWS {
         let octets = octets_of(rt.alloc(), text)?;
-        assert!(rt;
-            is_attestation(rt.alloc(), octets.as_slice(), *customer, providers),
-            "{name}"
-        );
-        assert!(rt;
-            is_in_place(octets.as_slice(), *customer, providers),
-            "{name}, in place"
-        );
+        let kept = is_attestation(rt.alloc(), octets.as_slice(), *customer, providers);
+        let seen = is_in_place(octets.as_slice(), *customer, providers);
+        assert!(rt; kept, "{name}");
+        assert!(rt; seen, "{name}, in place");
     }
     Ok(())
 }
@@ -52,85 +50,31 @@ fn accepted_attestations(rt: HostRuntime) -> Result<(), Fail> {
 /// Whether these octets are read as an attestation that is written as these octets.
 fn is_written(alloc: Global, octets: &[u8]) -> Result<bool, AllocError> {
     match AsProviderAttestation::decode(alloc, octets) {
-        Ok(found) => {
-            let encoder = found.encode_ref();
-            if !encoder.fits() {
-                return Ok(false);
-            }
-            let length = encoder.encoded_len();
-            let written = Captured::from_values(alloc, &encoder)?;
-            Ok(written.as_slice() == octets && length == octets.len() as u64)
-        }
+        Ok(found) => are_written_as(alloc, &found.encode_ref(), octets),
         Err(_) => Ok(false),
     }
 }
 
 #[test]
 fn accepted_attestations_are_written(rt: HostRuntime) -> Result<(), Fail> {
-    for (name, text, _, _) in accepted::rows() {
+    for (name, text, _, _) in accepted::ROWS {
         let octets = octets_of(rt.alloc(), text)?;
         assert!(rt; is_written(rt.alloc(), octets.as_slice())?, "{name}");
     }
     Ok(())
 }
 
-/// A customer and providers, and whether they make an attestation.
-struct Made {
-    name: &'static str,
-    customer: u32,
-    providers: &'static [u32],
-    is_made: bool,
-}
-
-/// By the rules of the profile: one provider at least, each above the one before it, and none is the customer.
-const MADE: &[Made] = &[
-    Made {
-        name: "one provider",
-        customer: 64496,
-        providers: &[64497],
-        is_made: true,
-    },
-    Made {
-        name: "providers on both sides of the customer",
-        customer: 5,
-        providers: &[0, 4, 6, 4294967295],
-        is_made: true,
-    },
-    Made {
-        name: "no provider",
-        customer: 64496,
-        providers: &[],
-        is_made: false,
-    },
-    Made {
-        name: "the customer alone",
-        customer: 1,
-        providers: &[1],
-        is_made: false,
-    },
-    Made {
-        name: "the customer last",
-        customer: 4,
-        providers: &[2, 3, 4],
-        is_made: false,
-    },
-    Made {
-        name: "a provider twice",
-        customer: 1,
-        providers: &[2, 2],
-        is_made: false,
-    },
-    Made {
-        name: "the last two in descending order",
-        customer: 1,
-        providers: &[2, 4, 3],
-        is_made: false,
-    },
-];
-
-fn made_rows() -> &'static [Made] {
-    MADE
-}
+/// A customer and providers, and whether they make an attestation, by the rules of the profile: one provider at least,
+/// each above the one before it, and none is the customer.
+const MADE: &[(&str, u32, &[u32], bool)] = &rows! {
+    ("one provider", 64496, &[64497], true),
+    ("providers on both sides of the customer", 5, &[0, 4, 6, 4294967295], true),
+    ("no provider", 64496, &[], false),
+    ("the customer alone", 1, &[1], false),
+    ("the customer last", 4, &[2, 3, 4], false),
+    ("a provider twice", 1, &[2, 2], false),
+    ("the last two in descending order", 1, &[2, 4, 3], false),
+};
 
 /// Whether an attestation of these is made, and has them.
 fn is_made_of(alloc: Global, customer: u32, providers: &[u32]) -> Result<bool, AllocError> {
@@ -144,11 +88,11 @@ fn is_made_of(alloc: Global, customer: u32, providers: &[u32]) -> Result<bool, A
 
 #[test]
 fn attestations_are_made(rt: HostRuntime) -> Result<(), Fail> {
-    for row in made_rows() {
-        let is_made = is_made_of(rt.alloc(), row.customer, row.providers)?;
-        assert!(rt; is_made == row.is_made, "{}", row.name);
+    for (name, customer, providers, expected) in MADE {
+        let is_made = is_made_of(rt.alloc(), *customer, providers)?;
+        assert!(rt; is_made == *expected, "{name}");
     }
-    for (name, _, customer, providers) in accepted::rows() {
+    for (name, _, customer, providers) in accepted::ROWS {
         assert!(rt; is_made_of(rt.alloc(), *customer, providers)?, "{name}");
     }
     Ok(())
@@ -168,26 +112,13 @@ fn is_rejected(alloc: Global, octets: &[u8], expected: Outcome) -> bool {
         && outcome_of(AsProviderAttestation::decode(alloc, octets)) == expected
 }
 
-/// The name of the first row that isn't rejected as it says.
-fn unlike(
-    alloc: Global,
-    rows: &'static [(&'static str, &'static str, Outcome)],
-) -> Result<Option<&'static str>, AllocError> {
-    for (name, text, expected) in rows {
-        let octets = octets_of(alloc, text)?;
-        if !is_rejected(alloc, octets.as_slice(), *expected) {
-            return Ok(Some(*name));
-        }
-    }
-    Ok(None)
-}
-
 #[test]
 fn hostile_attestations(rt: HostRuntime) -> Result<(), Fail> {
-    let first = unlike(rt.alloc(), hostile::first())?;
-    assert!(rt; first.is_none(), "{first:?}");
-    let second = unlike(rt.alloc(), hostile::second())?;
-    assert!(rt; second.is_none(), "{second:?}");
+    for (name, text, expected) in hostile::ROWS {
+        let octets = octets_of(rt.alloc(), text)?;
+        let rejected = is_rejected(rt.alloc(), octets.as_slice(), *expected);
+        assert!(rt; rejected, "{name}");
+    }
     Ok(())
 }
 
@@ -199,10 +130,6 @@ const RESOURCES: &[(&str, u128, u128, bool)] = &[
     ("up to the number before", 0, 64495, false),
     ("from the number after", 64497, 4294967295, false),
 ];
-
-fn resource_rows() -> &'static [(&'static str, u128, u128, bool)] {
-    RESOURCES
-}
 
 /// Whether the customer 64496 is among these numbers.
 fn is_within(alloc: Global, low: u128, high: u128) -> Result<Option<bool>, AllocError> {
@@ -216,7 +143,7 @@ fn is_within(alloc: Global, low: u128, high: u128) -> Result<Option<bool>, Alloc
 
 #[test]
 fn customers_within_resources(rt: HostRuntime) -> Result<(), Fail> {
-    for (name, low, high, expected) in resource_rows() {
+    for (name, low, high, expected) in RESOURCES {
         let found = is_within(rt.alloc(), *low, *high)?;
         assert!(rt; found == Some(*expected), "{name}");
     }
@@ -224,62 +151,22 @@ fn customers_within_resources(rt: HostRuntime) -> Result<(), Fail> {
 }
 
 /// A name, the octets, and the malformed part.
-const PARTS: &[(&str, &str, AspaPart)] = &[
+const PARTS: &[(&str, &str, AspaPart)] = &rows! {
     ("no SEQUENCE", "0500", AspaPart::Attestation),
-    (
-        "something behind it",
-        "300da00302010102010130030201020500",
-        AspaPart::Attestation,
-    ),
+    ("something behind it", "300da00302010102010130030201020500", AspaPart::Attestation),
     ("no octets", "", AspaPart::Attestation),
     ("no version", "30080201013003020102", AspaPart::Version),
-    (
-        "version 0",
-        "300da0030201000201013003020102",
-        AspaPart::Version,
-    ),
+    ("version 0", "300da0030201000201013003020102", AspaPart::Version),
     ("no customer", "3005a003020101", AspaPart::Customer),
-    (
-        "a customer of 2^32",
-        "3011a003020101020501000000003003020102",
-        AspaPart::Customer,
-    ),
+    ("a customer of 2^32", "3011a003020101020501000000003003020102", AspaPart::Customer),
     ("no list", "3008a003020101020101", AspaPart::Providers),
-    (
-        "no providers",
-        "300aa0030201010201013000",
-        AspaPart::Providers,
-    ),
-    (
-        "the customer is its provider",
-        "300da0030201010201013003020101",
-        AspaPart::Providers,
-    ),
-    (
-        "providers in descending order",
-        "3010a0030201010201013006020103020102",
-        AspaPart::Providers,
-    ),
-    (
-        "the last provider is cut short",
-        "300fa00302010102010130050201020202",
-        AspaPart::Providers,
-    ),
-    (
-        "something behind the list",
-        "300fa00302010102010130030201020500",
-        AspaPart::Providers,
-    ),
-    (
-        "version 2 and the customer its provider",
-        "300da0030201020201013003020101",
-        AspaPart::Version,
-    ),
-];
-
-fn part_rows() -> &'static [(&'static str, &'static str, AspaPart)] {
-    PARTS
-}
+    ("no providers", "300aa0030201010201013000", AspaPart::Providers),
+    ("the customer is its provider", "300da0030201010201013003020101", AspaPart::Providers),
+    ("providers in descending order", "3010a0030201010201013006020103020102", AspaPart::Providers),
+    ("the last provider is cut short", "300fa00302010102010130050201020202", AspaPart::Providers),
+    ("something behind the list", "300fa00302010102010130030201020500", AspaPart::Providers),
+    ("version 2 and the customer its provider", "300da0030201020201013003020101", AspaPart::Version),
+};
 
 /// Whether this part of the octets is said to be wrong.
 fn is_wrong_in(octets: &[u8], expected: AspaPart) -> bool {
@@ -291,7 +178,7 @@ fn is_wrong_in(octets: &[u8], expected: AspaPart) -> bool {
 
 #[test]
 fn wrong_parts(rt: HostRuntime) -> Result<(), Fail> {
-    for (name, text, expected) in part_rows() {
+    for (name, text, expected) in PARTS {
         let octets = octets_of(rt.alloc(), text)?;
         assert!(rt; is_wrong_in(octets.as_slice(), *expected), "{name}");
     }
@@ -301,10 +188,6 @@ fn wrong_parts(rt: HostRuntime) -> Result<(), Fail> {
 /// How many providers an attestation has.
 const COUNTS: [u16; 5] = [1, 127, 128, 1_000, 10_000];
 
-fn counts() -> &'static [u16] {
-    &COUNTS
-}
-
 /// An attestation of the customer 1 and of this many providers from 268435456 on, in four octets each.
 fn providers_of(alloc: Global, count: u16) -> Result<Vec<u8>, AllocError> {
     let mut listed = Vec::new(alloc);
@@ -312,29 +195,8 @@ fn providers_of(alloc: Global, count: u16) -> Result<Vec<u8>, AllocError> {
         listed.extend_from_slice(&[2, 4, 16, 0])?;
         listed.extend_from_slice(&index.to_be_bytes())?;
     }
-    let size = listed.len() as u32;
-    let mut contents = Vec::new(alloc);
-    contents.extend_from_slice(&[0xa0, 3, 2, 1, 1, 2, 1, 1])?;
-    push_header(&mut contents, size)?;
-    contents.extend_from_slice(listed.as_slice())?;
-    let mut octets = Vec::new(alloc);
-    push_header(&mut octets, contents.len() as u32)?;
-    octets.extend_from_slice(contents.as_slice())?;
-    Ok(octets)
-}
-
-/// Appends the header of a SEQUENCE of so many octets, at most 2^24 - 1.
-fn push_header(octets: &mut Vec<u8>, size: u32) -> Result<(), AllocError> {
-    let digits = size.to_be_bytes();
-    if size < 128 {
-        octets.extend_from_slice(&[0x30, digits[3]])
-    } else if size < 256 {
-        octets.extend_from_slice(&[0x30, 0x81, digits[3]])
-    } else if size < 65_536 {
-        octets.extend_from_slice(&[0x30, 0x82, digits[2], digits[3]])
-    } else {
-        octets.extend_from_slice(&[0x30, 0x83, digits[1], digits[2], digits[3]])
-    }
+    let list = sequence_of(alloc, &[listed.as_slice()])?;
+    sequence_of(alloc, &[&[0xa0, 3, 2, 1, 1, 2, 1, 1], list.as_slice()])
 }
 
 /// Whether an attestation of so many providers is read.
@@ -351,8 +213,8 @@ fn is_read(alloc: Global, count: u16) -> Result<bool, AllocError> {
 
 #[test]
 fn large_attestations(rt: HostRuntime) -> Result<(), Fail> {
-    for count in counts() {
-        assert!(rt; is_read(rt.alloc(), *count)?, "{count}");
+    for count in COUNTS {
+        assert!(rt; is_read(rt.alloc(), count)?, "{count}");
     }
     Ok(())
 }

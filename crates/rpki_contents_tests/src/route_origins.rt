@@ -6,11 +6,13 @@ mod sizes;
 mod within;
 mod written;
 
-use crate::hexadecimal::octets_of;
+use crate::encoding::are_written_as;
 use rpki_contents::{AddressCursor, RoaIpAddress, RoaPart, RoaView, RouteOriginAttestation};
 use rpki_der::Constructed;
+use rpki_der_tests::hexadecimal::octets_of;
 use rpki_der_tests::kinds::{Outcome, outcome_of};
-use rpki_resources::{Address, AddressFamily, Block, Blocks};
+use rpki_der_tests::rows;
+use rpki_resources::{Address, Block, Blocks};
 use std::alloc::{AllocError, Global};
 use std::test::Fail;
 
@@ -26,6 +28,12 @@ fn text_of(alloc: Global, found: &RouteOriginAttestation) -> Result<String, Allo
         text.push_str(line.as_str())?;
     }
     Ok(text)
+}
+
+/// The prefix whose bits make this number, and how many they are.
+fn address(number: u128, size: u8, max_length: Option<u8>) -> RoaIpAddress {
+    let prefix = Address { number, size };
+    RoaIpAddress { prefix, max_length }
 }
 
 /// Whether the cursor gives these prefixes, and no more.
@@ -66,16 +74,12 @@ fn has_text(alloc: Global, octets: &[u8], strict: bool, text: &str) -> Result<bo
 
 #[test]
 fn accepted_attestations(rt: HostRuntime) -> Result<(), Fail> {
-    for (name, digits, strict, text) in accepted::rows() {
+    for (name, digits, strict, text) in accepted::ROWS {
         let octets = octets_of(rt.alloc(), digits)?;
-        assert!(rt;
-            has_text(rt.alloc(), octets.as_slice(), false, text)?,
-            "{name}"
-        );
-        assert!(rt;
-            has_text(rt.alloc(), octets.as_slice(), true, text)? == *strict,
-            "{name}, strictly"
-        );
+        let laxly = has_text(rt.alloc(), octets.as_slice(), false, text)?;
+        let strictly = has_text(rt.alloc(), octets.as_slice(), true, text)?;
+        assert!(rt; laxly, "{name}");
+        assert!(rt; strictly == *strict, "{name}, strictly");
     }
     Ok(())
 }
@@ -94,149 +98,67 @@ fn is_rejected(alloc: Global, octets: &[u8], strict: bool, expected: Outcome) ->
         && outcome_of(RouteOriginAttestation::decode(alloc, octets, strict)) == expected
 }
 
-/// The name of the first row that isn't rejected as it says, strictly or not.
-fn unlike(
-    alloc: Global,
-    rows: &'static [(&'static str, &'static str, Outcome)],
-) -> Result<Option<&'static str>, AllocError> {
-    for (name, text, expected) in rows {
-        let octets = octets_of(alloc, text)?;
-        if !is_rejected(alloc, octets.as_slice(), false, *expected) {
-            return Ok(Some(*name));
-        }
-        if !is_rejected(alloc, octets.as_slice(), true, *expected) {
-            return Ok(Some(*name));
-        }
-    }
-    Ok(None)
-}
-
 #[test]
 fn hostile_attestations(rt: HostRuntime) -> Result<(), Fail> {
-    let first = unlike(rt.alloc(), hostile::first())?;
-    assert!(rt; first.is_none(), "{first:?}");
-    let second = unlike(rt.alloc(), hostile::second())?;
-    assert!(rt; second.is_none(), "{second:?}");
-    let third = unlike(rt.alloc(), hostile::third())?;
-    assert!(rt; third.is_none(), "{third:?}");
+    for (name, text, expected) in hostile::ROWS {
+        let octets = octets_of(rt.alloc(), text)?;
+        for strict in [false, true] {
+            let rejected = is_rejected(rt.alloc(), octets.as_slice(), strict, *expected);
+            assert!(rt; rejected, "{name}, strict: {strict}");
+        }
+    }
     Ok(())
 }
 
-/// Whether IP version 6 in front of IP version 4 is refused strictly, as an error of contents.
-fn is_out_of_order(alloc: Global) -> Result<bool, AllocError> {
-    let octets = octets_of(
-        alloc,
-        "3026020300fbf0301f300f040200023009300703050020010db8300c04020001300630040302000a",
-    )?;
-    Ok(is_rejected(alloc, octets.as_slice(), true, Outcome::Content))
-}
+/// 10.0.0.0/8 and 2001:db8::/32 for AS 64496, with IP version 6 in front.
+const TURNED: &str =
+    "3026020300fbf0301f300f040200023009300703050020010db8300c04020001300630040302000a";
 
+/// IP version 6 in front of IP version 4 is refused strictly, as an error of contents.
 #[test]
 fn families_in_order(rt: HostRuntime) -> Result<(), Fail> {
-    assert!(rt; is_out_of_order(rt.alloc())?);
+    let octets = octets_of(rt.alloc(), TURNED)?;
+    assert!(rt; is_rejected(rt.alloc(), octets.as_slice(), true, Outcome::Content));
     Ok(())
 }
 
 /// The prefixes of an attestation as they are kept: a maximum length that is left out is none.
-const KEPT: [RoaIpAddress; 2] = [
-    RoaIpAddress {
-        prefix: Address {
-            number: 10,
-            size: 8,
-        },
-        max_length: Some(8),
-    },
-    RoaIpAddress {
-        prefix: Address {
-            number: 41,
-            size: 10,
-        },
-        max_length: None,
-    },
-];
+const KEPT: [RoaIpAddress; 2] = rows! {
+    RoaIpAddress { prefix: Address { number: 10, size: 8 }, max_length: Some(8) },
+    RoaIpAddress { prefix: Address { number: 41, size: 10 }, max_length: None },
+};
 
-/// Whether these octets have these prefixes of IP version 4, and none of IP version 6.
-fn has_kept(alloc: Global) -> Result<bool, AllocError> {
-    let octets = octets_of(
-        alloc,
-        "301f020300fbf03018301604020001301030070302000a02010830050303060a40",
-    )?;
-    match RouteOriginAttestation::decode(alloc, octets.as_slice(), true) {
-        Ok(found) => Ok(
-            found.v4_addrs() == KEPT.as_slice()
-                && found.v6_addrs().is_empty()
-                && found.as_id() == 64496,
-        ),
-        Err(_) => Ok(false),
-    }
-}
+/// An attestation of these prefixes of IP version 4, and of none of IP version 6.
+const KEPT_OF: &str = "301f020300fbf03018301604020001301030070302000a02010830050303060a40";
 
 #[test]
 fn prefixes_as_they_are_kept(rt: HostRuntime) -> Result<(), Fail> {
-    assert!(rt; has_kept(rt.alloc())?);
+    let octets = octets_of(rt.alloc(), KEPT_OF)?;
+    let found = RouteOriginAttestation::decode(rt.alloc(), octets.as_slice(), true)?;
+    assert!(rt; found.v4_addrs() == KEPT.as_slice());
+    assert!(rt; found.v6_addrs().is_empty() && found.as_id() == 64496);
     Ok(())
 }
 
 /// A name, the octets, and the malformed part strictly.
-const PARTS: &[(&str, &str, RoaPart)] = &[
+const PARTS: &[(&str, &str, RoaPart)] = &rows! {
     ("no octets", "", RoaPart::Attestation),
-    (
-        "a SET",
-        "3113020101300e300c04020001300630040302000a",
-        RoaPart::Attestation,
-    ),
-    (
-        "something behind it",
-        "3013020101300e300c04020001300630040302000a0500",
-        RoaPart::Attestation,
-    ),
+    ("a SET", "3113020101300e300c04020001300630040302000a", RoaPart::Attestation),
+    ("something behind it", "3013020101300e300c04020001300630040302000a0500", RoaPart::Attestation),
     ("an empty SEQUENCE", "3000", RoaPart::AsId),
-    (
-        "version 0",
-        "3018a003020100020101300e300c04020001300630040302000a",
-        RoaPart::AsId,
-    ),
-    (
-        "an AS number of 2^32",
-        "301702050100000000300e300c04020001300630040302000a",
-        RoaPart::AsId,
-    ),
+    ("version 0", "3018a003020100020101300e300c04020001300630040302000a", RoaPart::AsId),
+    ("an AS number of 2^32", "301702050100000000300e300c04020001300630040302000a", RoaPart::AsId),
     ("no families", "3003020101", RoaPart::AddressBlocks),
-    (
-        "an empty list of families",
-        "30050201013000",
-        RoaPart::AddressBlocks,
-    ),
-    (
-        "three families",
-        "3032020101302d300c04020001300630040302000a300f040200023009300703050020010db8300c04020001300630040302000a",
-        RoaPart::AddressBlocks,
-    ),
-    (
-        "a maximum length of 33",
-        "30160201013011300f04020001300930070302000a020121",
-        RoaPart::AddressBlocks,
-    ),
-    (
-        "something behind the families",
-        "3015020101300e300c04020001300630040302000a0500",
-        RoaPart::AddressBlocks,
-    ),
-    (
-        "IP version 6 first",
-        "3024020101301f300f040200023009300703050020010db8300c04020001300630040302000a",
-        RoaPart::AddressBlocks,
-    ),
-    (
-        "an AS number of -1 and no families",
-        "30050201ff3000",
-        RoaPart::AsId,
-    ),
-];
-
-fn part_rows() -> &'static [(&'static str, &'static str, RoaPart)] {
-    PARTS
-}
+    ("an empty list of families", "30050201013000", RoaPart::AddressBlocks),
+    ("three families",
+     "3032020101302d300c04020001300630040302000a300f040200023009300703050020010db8300c04020001300630040302000a",
+     RoaPart::AddressBlocks),
+    ("a maximum length of 33", "30160201013011300f04020001300930070302000a020121", RoaPart::AddressBlocks),
+    ("something behind the families", "3015020101300e300c04020001300630040302000a0500", RoaPart::AddressBlocks),
+    ("IP version 6 first", "3024020101301f300f040200023009300703050020010db8300c04020001300630040302000a",
+     RoaPart::AddressBlocks),
+    ("an AS number of -1 and no families", "30050201ff3000", RoaPart::AsId),
+};
 
 /// Whether this part of the octets is said to be wrong.
 fn is_wrong_in(octets: &[u8], expected: RoaPart) -> bool {
@@ -248,7 +170,7 @@ fn is_wrong_in(octets: &[u8], expected: RoaPart) -> bool {
 
 #[test]
 fn wrong_parts(rt: HostRuntime) -> Result<(), Fail> {
-    for (name, text, expected) in part_rows() {
+    for (name, text, expected) in PARTS {
         let octets = octets_of(rt.alloc(), text)?;
         assert!(rt; is_wrong_in(octets.as_slice(), *expected), "{name}");
     }

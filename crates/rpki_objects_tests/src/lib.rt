@@ -2,10 +2,7 @@
 //! are made by openssl, and broken one rule each.
 #![tactic(auto)]
 
-pub mod hexadecimal;
 pub mod objects;
-#[cfg(test)]
-mod provider;
 #[cfg(test)]
 mod strictness;
 #[cfg(test)]

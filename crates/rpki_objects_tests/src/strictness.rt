@@ -1,11 +1,12 @@
 //! Which route origins are read at which strictness.
 
-use crate::hexadecimal::octets_of;
 use crate::objects::origins::ORIGIN;
 use crate::written::{certificate, object};
 use bytes::Bytes;
 use rpki::repository::x509::Time;
+use rpki_der_tests::hexadecimal::octets_of;
 use rpki_der_tests::kinds::{Outcome, outcome_of};
+use rpki_der_tests::rows;
 use rpki_objects::{KnownAttributes, Roa, SignedObjectParts, SignedObjectView, Strictness};
 use std::alloc::{AllocError, Global};
 use std::test::Fail;
@@ -27,69 +28,15 @@ fn of(names: bool, attributes: bool, families: bool) -> Strictness {
 }
 
 /// A name; the content; whether there is a signing time; the words of the strictness, in order; and what comes of it.
-type Row = (
-    &'static str,
-    &'static str,
-    bool,
-    (bool, bool, bool),
-    Outcome,
-);
-
-const ROWS: &[Row] = &[
-    (
-        "in order, all",
-        IN_ORDER,
-        true,
-        (true, true, true),
-        Outcome::Read,
-    ),
-    (
-        "IP version 6 in front, none",
-        TURNED,
-        true,
-        (false, false, false),
-        Outcome::Read,
-    ),
-    (
-        "IP version 6 in front, names and attributes",
-        TURNED,
-        true,
-        (true, true, false),
-        Outcome::Read,
-    ),
-    (
-        "IP version 6 in front, families",
-        TURNED,
-        true,
-        (false, false, true),
-        Outcome::Content,
-    ),
-    (
-        "no signing time, none",
-        IN_ORDER,
-        false,
-        (false, false, false),
-        Outcome::Read,
-    ),
-    (
-        "no signing time, names and families",
-        IN_ORDER,
-        false,
-        (true, false, true),
-        Outcome::Read,
-    ),
-    (
-        "no signing time, attributes",
-        IN_ORDER,
-        false,
-        (false, true, false),
-        Outcome::Content,
-    ),
-];
-
-fn rows() -> &'static [Row] {
-    ROWS
-}
+const ROWS: &[(&str, &str, bool, (bool, bool, bool), Outcome)] = &rows! {
+    ("in order, all", IN_ORDER, true, (true, true, true), Outcome::Read),
+    ("IP version 6 in front, none", TURNED, true, (false, false, false), Outcome::Read),
+    ("IP version 6 in front, names and attributes", TURNED, true, (true, true, false), Outcome::Read),
+    ("IP version 6 in front, families", TURNED, true, (false, false, true), Outcome::Content),
+    ("no signing time, none", IN_ORDER, false, (false, false, false), Outcome::Read),
+    ("no signing time, names and families", IN_ORDER, false, (true, false, true), Outcome::Read),
+    ("no signing time, attributes", IN_ORDER, false, (false, true, false), Outcome::Content),
+};
 
 /// The signing time, where there is one.
 fn kept(time: Option<Time>, timed: bool) -> Option<Time> {
@@ -126,7 +73,7 @@ fn origin(alloc: Global, content: &str, timed: bool) -> Result<Option<Bytes>, Al
 
 #[test]
 fn origins_are_read_as_strictly_as_is_asked(rt: HostRuntime) -> Result<(), Fail> {
-    for (name, content, timed, (names, attributes, families), wanted) in rows() {
+    for (name, content, timed, (names, attributes, families), wanted) in ROWS {
         let octets = origin(rt.alloc(), content, *timed)?.ok_or("not written")?;
         let strictness = of(*names, *attributes, *families);
         let found = outcome_of(Roa::decode(rt.alloc(), octets, strictness));
@@ -139,13 +86,7 @@ fn origins_are_read_as_strictly_as_is_asked(rt: HostRuntime) -> Result<(), Fail>
 fn none_is_asked_by_default(rt: HostRuntime) -> Result<(), Fail> {
     let none = Strictness::default();
     let all = Strictness::all();
-    assert_eq!(rt;
-        [none.names, none.attributes, none.families],
-        [false, false, false]
-    );
-    assert_eq!(rt;
-        [all.names, all.attributes, all.families],
-        [true, true, true]
-    );
+    assert_eq!(rt; [none.names, none.attributes, none.families], [false; 3]);
+    assert_eq!(rt; [all.names, all.attributes, all.families], [true; 3]);
     Ok(())
 }

@@ -1,10 +1,11 @@
 //! Each object is read as one of its type alone.
 
-use crate::hexadecimal::octets_of;
 use crate::objects::authority::ANCHOR;
 use crate::objects::{manifests, origins, providers};
 use bytes::Bytes;
+use rpki_der_tests::hexadecimal::octets_of;
 use rpki_der_tests::kinds::{Outcome, outcome_of};
+use rpki_der_tests::rows;
 use rpki_objects::{Aspa, Manifest, Roa, Strictness};
 use std::alloc::{AllocError, Global};
 use std::test::Fail;
@@ -23,60 +24,16 @@ fn octets(alloc: Global, text: &str) -> Result<Bytes, AllocError> {
 }
 
 /// A name, octets, and what comes of reading them as an object of this type.
-const READ: &[(&str, Kind, &str, Outcome)] = &[
-    (
-        "manifest",
-        Kind::Manifest,
-        manifests::MANIFEST,
-        Outcome::Read,
-    ),
-    (
-        "manifest as an origin",
-        Kind::Origin,
-        manifests::MANIFEST,
-        Outcome::Content,
-    ),
-    (
-        "manifest as providers",
-        Kind::Providers,
-        manifests::MANIFEST,
-        Outcome::Content,
-    ),
-    (
-        "origin as a manifest",
-        Kind::Manifest,
-        origins::ORIGIN,
-        Outcome::Content,
-    ),
-    (
-        "origin as providers",
-        Kind::Providers,
-        origins::ORIGIN,
-        Outcome::Content,
-    ),
-    (
-        "providers as a manifest",
-        Kind::Manifest,
-        providers::ASPA,
-        Outcome::Content,
-    ),
-    (
-        "providers as an origin",
-        Kind::Origin,
-        providers::ASPA,
-        Outcome::Content,
-    ),
-    (
-        "a certificate as a manifest",
-        Kind::Manifest,
-        ANCHOR,
-        Outcome::Unexpected,
-    ),
-];
-
-fn read_rows() -> &'static [(&'static str, Kind, &'static str, Outcome)] {
-    READ
-}
+const READ: &[(&str, Kind, &str, Outcome)] = &rows! {
+    ("manifest", Kind::Manifest, manifests::MANIFEST, Outcome::Read),
+    ("manifest as an origin", Kind::Origin, manifests::MANIFEST, Outcome::Content),
+    ("manifest as providers", Kind::Providers, manifests::MANIFEST, Outcome::Content),
+    ("origin as a manifest", Kind::Manifest, origins::ORIGIN, Outcome::Content),
+    ("origin as providers", Kind::Providers, origins::ORIGIN, Outcome::Content),
+    ("providers as a manifest", Kind::Manifest, providers::ASPA, Outcome::Content),
+    ("providers as an origin", Kind::Origin, providers::ASPA, Outcome::Content),
+    ("a certificate as a manifest", Kind::Manifest, ANCHOR, Outcome::Unexpected),
+};
 
 /// How octets are read as an object of this type.
 fn read(alloc: Global, kind: Kind, octets: Bytes) -> Outcome {
@@ -89,7 +46,7 @@ fn read(alloc: Global, kind: Kind, octets: Bytes) -> Outcome {
 
 #[test]
 fn each_type_is_its_own(rt: HostRuntime) -> Result<(), Fail> {
-    for (name, kind, text, outcome) in read_rows() {
+    for (name, kind, text, outcome) in READ {
         let found = read(rt.alloc(), *kind, octets(rt.alloc(), text)?);
         assert_eq!(rt; found, *outcome, "{name}");
     }

@@ -1,13 +1,14 @@
 //! Signed attributes and signed objects as they are written.
 
-use crate::hexadecimal::octets_of;
-use crate::objects::attributes::{DIGEST, Moment, Row, rows};
+use crate::objects::attributes::{DIGEST, Moment, ROWS, Row};
 use crate::objects::{manifests, origins, providers};
-use crate::provider::Told;
 use bytes::Bytes;
 use rpki::crypto::{KeyIdentifier, Provider};
 use rpki::der::{Captured, Constructed, Oid, Values};
 use rpki::repository::x509::Time;
+use rpki_cert_tests::provider::Told;
+use rpki_der_tests::hexadecimal::octets_of;
+use rpki_der_tests::rows;
 use rpki_objects::{
     AttributesBuilder, KnownAttributes, MessageDigest, SignedObject, SignedObjectBuilder,
     SignedObjectParts, SignedObjectView,
@@ -87,7 +88,7 @@ fn is_message(alloc: Global, row: &Row) -> Result<bool, AllocError> {
 
 #[test]
 fn attributes_are_written_in_order(rt: HostRuntime) -> Result<(), Fail> {
-    for row in rows() {
+    for row in ROWS {
         assert!(rt; is_message(rt.alloc(), row)?, "{}", row.0);
     }
     Ok(())
@@ -164,13 +165,9 @@ const MADE: &[(&str, &str)] = &[
     ("providers", providers::ASPA),
 ];
 
-fn made_rows() -> &'static [(&'static str, &'static str)] {
-    MADE
-}
-
 #[test]
 fn objects_are_written_again(rt: HostRuntime) -> Result<(), Fail> {
-    for (name, text) in made_rows() {
+    for (name, text) in MADE {
         let octets = octets_of(rt.alloc(), text)?;
         let found = again(rt.alloc(), octets.as_slice())?.ok_or("not written")?;
         assert!(rt; found.as_slice() == octets.as_slice(), "{name}");
@@ -194,71 +191,29 @@ fn has_message(alloc: Global, octets: &[u8], signed: &SignedObject) -> Result<bo
 
 #[test]
 fn messages_are_those_that_openssl_signed(rt: HostRuntime) -> Result<(), Fail> {
-    for (name, text) in made_rows() {
+    for (name, text) in MADE {
         let octets = octets_of(rt.alloc(), text)?;
         let whole = Bytes::copy_from_slice(rt.alloc(), octets.as_slice())?;
         let signed = SignedObject::decode(rt.alloc(), whole, true)?;
-        assert!(rt;
-            has_message(rt.alloc(), octets.as_slice(), &signed)?,
-            "{name}"
-        );
+        let same = has_message(rt.alloc(), octets.as_slice(), &signed)?;
+        assert!(rt; same, "{name}");
     }
     Ok(())
 }
 
 /// How many octets the content has, each 5A; how many the object of it has, and their digest by SHA-256, of an encoder
 /// in Python after RFC 5652. It is a route origin's, of that certificate, signed on 2026-03-01 by 256 octets AB.
-const SIZES: &[(usize, usize, &str)] = &[
-    (
-        0,
-        1509,
-        "e81db6532570ea4c0b81bede327656434dd118bb8b1e018a71820c721a8ffc47",
-    ),
-    (
-        1,
-        1510,
-        "575a02467eb386c0cf35e11a50bf79e21acbc46fc0b9d0aaaf657b79515e0a86",
-    ),
-    (
-        127,
-        1638,
-        "dc1254923289f77319bb5ceff03a5f4aefa2064513da2a9e71504ef440ab4206",
-    ),
-    (
-        128,
-        1640,
-        "3aea29770042553e24c58f70cbf7c46c465c7fa92fb1971c2d1ea11ceef60ca7",
-    ),
-    (
-        255,
-        1769,
-        "65169e9fd0f428f06d4d7869c735eaa72882dda38749f2dfb4453f677a942de6",
-    ),
-    (
-        256,
-        1771,
-        "afddc1102e5eaba1e6efdfc2d0193e419cd7cabbd21afe3196c9f93b9b3560a1",
-    ),
-    (
-        65_535,
-        67_055,
-        "e2cadb1560ab8523a6188e183c8891d7e5d23d75b6faf63ab75dade863d7a6ef",
-    ),
-    (
-        65_536,
-        67_057,
-        "c38593e1cada383eb35bfc1fcca7576574901c38dc5eb8c386a0ae6f944995c9",
-    ),
-    (
-        1_000_000,
-        1_001_521,
-        "ab1c5b900eb8a025be656ef5fe0f7e7f8ce4a9ce1b9b0bf564416ab4abcda16e",
-    ),
-];
-
-fn size_rows() -> &'static [(usize, usize, &'static str)] {
-    SIZES
-}
+const SIZES: &[(usize, usize, &str)] = &rows! {
+    (0, 1509, "e81db6532570ea4c0b81bede327656434dd118bb8b1e018a71820c721a8ffc47"),
+    (1, 1510, "575a02467eb386c0cf35e11a50bf79e21acbc46fc0b9d0aaaf657b79515e0a86"),
+    (127, 1638, "dc1254923289f77319bb5ceff03a5f4aefa2064513da2a9e71504ef440ab4206"),
+    (128, 1640, "3aea29770042553e24c58f70cbf7c46c465c7fa92fb1971c2d1ea11ceef60ca7"),
+    (255, 1769, "65169e9fd0f428f06d4d7869c735eaa72882dda38749f2dfb4453f677a942de6"),
+    (256, 1771, "afddc1102e5eaba1e6efdfc2d0193e419cd7cabbd21afe3196c9f93b9b3560a1"),
+    (65_535, 67_055, "e2cadb1560ab8523a6188e183c8891d7e5d23d75b6faf63ab75dade863d7a6ef"),
+    (65_536, 67_057, "c38593e1cada383eb35bfc1fcca7576574901c38dc5eb8c386a0ae6f944995c9"),
+    (1_000_000, 1_001_521, "ab1c5b900eb8a025be656ef5fe0f7e7f8ce4a9ce1b9b0bf564416ab4abcda16e"),
+};
 
 /// An object of a content of this many octets.
 fn sized(alloc: Global, made: &[u8], size: usize) -> Result<Option<Bytes>, AllocError> {
@@ -301,14 +256,12 @@ fn is_read(alloc: Global, octets: Bytes, size: usize) -> bool {
 fn objects_of_each_size(rt: HostRuntime) -> Result<(), Fail> {
     let made = octets_of(rt.alloc(), origins::ORIGIN)?;
     let provider = Told { answer: true };
-    for (size, length, expected) in size_rows() {
+    for (size, length, expected) in SIZES {
         let found = sized(rt.alloc(), made.as_slice(), *size)?.ok_or("not written")?;
         let expected = octets_of(rt.alloc(), expected)?;
         assert_eq!(rt; found.as_slice().len(), *length, "{size} octets");
-        assert!(rt;
-            provider.sha256(found.as_slice()).as_slice() == expected.as_slice(),
-            "{size} octets"
-        );
+        let digest = provider.sha256(found.as_slice());
+        assert!(rt; digest.as_slice() == expected.as_slice(), "{size} octets");
         assert!(rt; is_read(rt.alloc(), found, *size), "{size} octets, read");
     }
     Ok(())

@@ -1,6 +1,6 @@
 //! What is tested of objects: each rule is broken once.
 
-use crate::trust::terms_of;
+use crate::trust::{cert, list, octets, terms_of, text_of};
 use bytes::Bytes;
 use rpki::der::DecodeError;
 use rpki::repository::error::ValidationError;
@@ -9,8 +9,9 @@ use rpki_cert::Cert;
 use rpki_cert_tests::provider::Told;
 use rpki_contents::{FileAndHash, MessageDigest, is_file_name};
 use rpki_crl::Crl;
+use rpki_der_tests::hexadecimal::octets_of;
+use rpki_der_tests::rows;
 use rpki_objects::{Aspa, Manifest, Roa, Strictness};
-use rpki_objects_tests::hexadecimal::octets_of;
 use rpki_objects_tests::objects::authority::{ANCHOR, LIST};
 use rpki_objects_tests::objects::{manifests, origins, providers};
 use rpki_valid::{CurrentCrl, ResourceCert, ResourceSet, Staleness, verify_file, verify_time};
@@ -35,209 +36,42 @@ const MARCH: Moment = (3, 15, 0);
 /// error.
 type Row = (&'static str, Kind, &'static str, Moment, bool, &'static str);
 
-const ROWS: &[Row] = &[
-    (
-        "manifest",
-        Kind::Manifest,
-        manifests::MANIFEST,
-        MARCH,
-        true,
-        "valid",
-    ),
-    (
-        "manifest at its first second",
-        Kind::Manifest,
-        manifests::MANIFEST,
-        (3, 1, 0),
-        true,
-        "valid",
-    ),
-    (
-        "manifest at its last second",
-        Kind::Manifest,
-        manifests::MANIFEST,
-        (4, 1, 0),
-        false,
-        "valid",
-    ),
-    (
-        "manifest before it was issued",
-        Kind::Manifest,
-        manifests::MANIFEST,
-        (2, 28, 23),
-        true,
-        "RFC 9286 6.3: manifest issued later",
-    ),
-    (
-        "manifest after the next was due",
-        Kind::Manifest,
-        manifests::MANIFEST,
-        (4, 1, 1),
-        true,
-        "RFC 9286 6.3: stale manifest",
-    ),
-    (
-        "manifest that lists addresses",
-        Kind::Manifest,
-        manifests::LISTS_ADDRESSES,
-        MARCH,
-        true,
-        "RFC 9286 5.1: resources that are not inherited",
-    ),
-    (
-        "manifest that lists numbers",
-        Kind::Manifest,
-        manifests::LISTS_NUMBERS,
-        MARCH,
-        true,
-        "RFC 9286 5.1: resources that are not inherited",
-    ),
-    (
-        "resources before times",
-        Kind::Manifest,
-        manifests::LISTS_NUMBERS,
-        (4, 1, 1),
-        true,
-        "RFC 9286 5.1: resources that are not inherited",
-    ),
-    (
-        "origin",
-        Kind::Origin,
-        origins::ORIGIN,
-        MARCH,
-        true,
-        "valid",
-    ),
-    (
-        "origin that is revoked",
-        Kind::Origin,
-        origins::REVOKED,
-        MARCH,
-        true,
-        "RFC 6487 7.2: revoked certificate",
-    ),
-    (
-        "origin without a list",
-        Kind::Origin,
-        origins::REVOKED,
-        MARCH,
-        false,
-        "valid",
-    ),
-    (
-        "prefix outside",
-        Kind::Origin,
-        origins::OUTSIDE,
-        MARCH,
-        true,
-        "RFC 9582 5: prefix outside of the resources",
-    ),
-    (
-        "origin that inherits",
-        Kind::Origin,
-        origins::INHERITS,
-        MARCH,
-        true,
-        "RFC 9582 5: inherited addresses",
-    ),
-    (
-        "origin beside numbers",
-        Kind::Origin,
-        origins::BESIDE_NUMBERS,
-        MARCH,
-        true,
-        "RFC 9582 5: AS numbers beside prefixes",
-    ),
-    (
-        "origin without addresses",
-        Kind::Origin,
-        origins::WITHOUT_ADDRESSES,
-        MARCH,
-        true,
-        "RFC 9582 5: no addresses",
-    ),
-    (
-        "providers",
-        Kind::Providers,
-        providers::ASPA,
-        MARCH,
-        true,
-        "valid",
-    ),
-    (
-        "customer outside",
-        Kind::Providers,
-        providers::OUTSIDE,
-        MARCH,
-        true,
-        "draft-ietf-sidrops-aspa-profile 4: customer outside of the resources",
-    ),
-    (
-        "providers that inherit",
-        Kind::Providers,
-        providers::INHERITS,
-        MARCH,
-        true,
-        "draft-ietf-sidrops-aspa-profile 4: inherited AS numbers",
-    ),
-    (
-        "providers beside addresses",
-        Kind::Providers,
-        providers::BESIDE_ADDRESSES,
-        MARCH,
-        true,
-        "draft-ietf-sidrops-aspa-profile 4: addresses beside AS numbers",
-    ),
-    (
-        "providers without numbers",
-        Kind::Providers,
-        providers::WITHOUT_NUMBERS,
-        MARCH,
-        true,
-        "draft-ietf-sidrops-aspa-profile 4: no AS numbers",
-    ),
-];
-
-fn rows() -> &'static [Row] {
-    ROWS
-}
-
-/// The octets of an object.
-fn octets(alloc: Global, text: &str) -> Result<Bytes, AllocError> {
-    Bytes::copy_from_slice(alloc, octets_of(alloc, text)?.as_slice())
-}
+const ROWS: &[Row] = &rows! {
+    ("manifest", Kind::Manifest, manifests::MANIFEST, MARCH, true, "valid"),
+    ("manifest at its first second", Kind::Manifest, manifests::MANIFEST, (3, 1, 0), true, "valid"),
+    ("manifest at its last second", Kind::Manifest, manifests::MANIFEST, (4, 1, 0), false, "valid"),
+    ("manifest before it was issued", Kind::Manifest, manifests::MANIFEST, (2, 28, 23), true,
+     "RFC 9286 6.3: manifest issued later"),
+    ("manifest after the next was due", Kind::Manifest, manifests::MANIFEST, (4, 1, 1), true,
+     "RFC 9286 6.3: stale manifest"),
+    ("manifest that lists addresses", Kind::Manifest, manifests::LISTS_ADDRESSES, MARCH, true,
+     "RFC 9286 5.1: resources that are not inherited"),
+    ("manifest that lists numbers", Kind::Manifest, manifests::LISTS_NUMBERS, MARCH, true,
+     "RFC 9286 5.1: resources that are not inherited"),
+    ("resources before times", Kind::Manifest, manifests::LISTS_NUMBERS, (4, 1, 1), true,
+     "RFC 9286 5.1: resources that are not inherited"),
+    ("origin", Kind::Origin, origins::ORIGIN, MARCH, true, "valid"),
+    ("origin that is revoked", Kind::Origin, origins::REVOKED, MARCH, true, "RFC 6487 7.2: revoked certificate"),
+    ("origin without a list", Kind::Origin, origins::REVOKED, MARCH, false, "valid"),
+    ("prefix outside", Kind::Origin, origins::OUTSIDE, MARCH, true, "RFC 9582 5: prefix outside of the resources"),
+    ("origin that inherits", Kind::Origin, origins::INHERITS, MARCH, true, "RFC 9582 5: inherited addresses"),
+    ("origin beside numbers", Kind::Origin, origins::BESIDE_NUMBERS, MARCH, true,
+     "RFC 9582 5: AS numbers beside prefixes"),
+    ("origin without addresses", Kind::Origin, origins::WITHOUT_ADDRESSES, MARCH, true, "RFC 9582 5: no addresses"),
+    ("providers", Kind::Providers, providers::ASPA, MARCH, true, "valid"),
+    ("customer outside", Kind::Providers, providers::OUTSIDE, MARCH, true,
+     "draft-ietf-sidrops-aspa-profile 4: customer outside of the resources"),
+    ("providers that inherit", Kind::Providers, providers::INHERITS, MARCH, true,
+     "draft-ietf-sidrops-aspa-profile 4: inherited AS numbers"),
+    ("providers beside addresses", Kind::Providers, providers::BESIDE_ADDRESSES, MARCH, true,
+     "draft-ietf-sidrops-aspa-profile 4: addresses beside AS numbers"),
+    ("providers without numbers", Kind::Providers, providers::WITHOUT_NUMBERS, MARCH, true,
+     "draft-ietf-sidrops-aspa-profile 4: no AS numbers"),
+};
 
 /// The moment.
 fn time_of(moment: Moment) -> Option<Time> {
     Time::utc(2026, moment.0, moment.1, moment.2, 0, 0)
-}
-
-/// The anchor, verified at a moment.
-fn anchor<'p>(
-    alloc: Global,
-    provider: &'p Told,
-    trusted: &'p Cert,
-    at: Time,
-) -> Result<ResourceCert<'p, Told>, ValidationError> {
-    ResourceCert::verify_ta(
-        alloc,
-        anchor_cert(alloc)?,
-        provider,
-        terms_of(trusted, 8),
-        at,
-    )
-}
-
-/// The certificate of the anchor.
-fn anchor_cert(alloc: Global) -> Result<Cert, ValidationError> {
-    let octets = match octets(alloc, ANCHOR) {
-        Ok(octets) => octets,
-        Err(_) => return Err(ValidationError::Decoding(DecodeError::OutOfMemory)),
-    };
-    match Cert::decode(alloc, octets) {
-        Ok(cert) => Ok(cert),
-        Err(wrong) => Err(ValidationError::Decoding(wrong.error)),
-    }
 }
 
 /// An object of a type.
@@ -290,48 +124,32 @@ fn processed(
     alloc: Global,
     kind: Kind,
     octets: Bytes,
-    issuer: &ResourceCert<'_, Told>,
+    trusted: &Cert,
     at: Time,
     list: Option<&Crl>,
 ) -> Result<ResourceSet, ValidationError> {
-    let object = match object_of(alloc, kind, octets) {
-        Ok(object) => object,
-        Err(e) => return Err(ValidationError::Decoding(e)),
-    };
+    let provider = Told { answer: true };
+    let terms = terms_of(trusted, 8);
+    let anchor = cert(alloc, ANCHOR)?;
+    let issuer = ResourceCert::verify_ta(alloc, anchor, &provider, terms, at)?;
+    let object = object_of(alloc, kind, octets)?;
     match list {
         Some(list) => listed(alloc, &object, &issuer.crl(list, Staleness::Refused, at)?),
-        None => unlisted(alloc, &object, issuer, at),
-    }
-}
-
-/// What comes of a row.
-fn outcome(alloc: Global, row: &Row, list: &Crl) -> Result<String, AllocError> {
-    let Some(at) = time_of(row.3) else {
-        return format!(in alloc; "no such moment");
-    };
-    let provider = Told { answer: true };
-    let trusted = match anchor_cert(alloc) {
-        Ok(trusted) => trusted,
-        Err(e) => return format!(in alloc; "anchor: {e}"),
-    };
-    let issuer = match anchor(alloc, &provider, &trusted, at) {
-        Ok(issuer) => issuer,
-        Err(e) => return format!(in alloc; "anchor: {e}"),
-    };
-    let octets = octets(alloc, row.2)?;
-    let list = if row.4 { Some(list) } else { None };
-    match processed(alloc, row.1, octets, &issuer, at, list) {
-        Ok(_) => format!(in alloc; "valid"),
-        Err(e) => format!(in alloc; "{e}"),
+        None => unlisted(alloc, &object, &issuer, at),
     }
 }
 
 #[test]
 fn each_rule_is_asked(rt: HostRuntime) -> Result<(), Fail> {
-    let list = Crl::decode(rt.alloc(), octets(rt.alloc(), LIST)?)?;
-    for row in rows() {
-        let told = outcome(rt.alloc(), row, &list)?;
-        assert_eq!(rt; told.as_str(), row.5, "{}", row.0);
+    let trusted = cert(rt.alloc(), ANCHOR)?;
+    let list = list(rt.alloc(), LIST)?;
+    for (name, kind, text, moment, is_listed, wanted) in ROWS {
+        let at = time_of(*moment).ok_or(*name)?;
+        let octets = octets(rt.alloc(), text)?;
+        let list = if *is_listed { Some(&list) } else { None };
+        let found = processed(rt.alloc(), *kind, octets, &trusted, at, list);
+        let told = text_of(rt.alloc(), found)?;
+        assert_eq!(rt; told.as_str(), *wanted, "{name}");
     }
     Ok(())
 }
@@ -345,21 +163,14 @@ const TIMES: &[(Moment, Option<bool>)] = &[
     ((4, 1, 1), Some(false)),
 ];
 
-fn times() -> &'static [(Moment, Option<bool>)] {
-    TIMES
-}
-
 #[test]
 fn manifests_hold_between_their_updates(rt: HostRuntime) -> Result<(), Fail> {
     let manifest = Manifest::decode(rt.alloc(), octets(rt.alloc(), manifests::MANIFEST)?, true)?;
-    for (moment, wanted) in times() {
-        let found = match time_of(*moment) {
-            Some(at) => match verify_time(manifest.content(), at) {
-                Ok(()) => None,
-                Err(e) => Some(e.is_too_new()),
-            },
-            None => None,
-        };
+    for (moment, wanted) in TIMES {
+        let at = time_of(*moment).ok_or("no such moment")?;
+        let found = verify_time(manifest.content(), at)
+            .err()
+            .map(|e| e.is_too_new());
         assert_eq!(rt; found, *wanted, "{} {}", moment.0, moment.1);
     }
     Ok(())
@@ -370,10 +181,6 @@ const DIGEST: &str = "ba7816bf8f01cfea414140de5dae2223b00361a396177a9cb410ff61f2
 
 /// Octets, and whether they have this digest.
 const DIGESTED: &[(&[u8], bool)] = &[(b"abc", true), (b"abd", false), (b"", false)];
-
-fn digested() -> &'static [(&'static [u8], bool)] {
-    DIGESTED
-}
 
 /// A file of this digest.
 fn file(alloc: Global) -> Result<Option<FileAndHash>, AllocError> {
@@ -392,7 +199,7 @@ fn file(alloc: Global) -> Result<Option<FileAndHash>, AllocError> {
 #[test]
 fn files_have_their_digests(rt: HostRuntime) -> Result<(), Fail> {
     let provider = Told { answer: true };
-    for (octets, wanted) in digested() {
+    for (octets, wanted) in DIGESTED {
         let found = match file(rt.alloc())? {
             Some(file) => verify_file(&file, &provider, octets) == *wanted,
             None => false,

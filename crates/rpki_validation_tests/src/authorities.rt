@@ -4,8 +4,8 @@ use crate::repository as made;
 use bytes::Bytes;
 use rpki::repository::x509::Time;
 use rpki_cert::Cert;
-use rpki_cert_tests::changed::changed;
 use rpki_crl::Crl;
+use rpki_der_tests::changed::changed;
 use rpki_digests::RsaProvider;
 use rpki_objects::Strictness;
 use rpki_valid::{CurrentCrl, ResourceCert, Staleness, Terms};
@@ -33,10 +33,7 @@ pub fn octets(alloc: Global, text: &str, change: Change) -> Result<Bytes, AllocE
         Change::Octets(from, to) => (from, to),
         _ => ("", ""),
     };
-    let mut octets = match changed(alloc, text, from, to)? {
-        Some(octets) => octets,
-        None => Vec::new(alloc),
-    };
+    let mut octets = changed(alloc, text, &[(from, to)])?.unwrap_or(Vec::new(alloc));
     match change {
         Change::Cut => {
             let _ = octets.pop();
@@ -99,13 +96,8 @@ pub fn asked<A: Ask>(
     let trusted = cert_of(alloc, made::ANCHOR)?;
     let terms = terms_of(&trusted, deepest);
     let provider = RsaProvider;
-    let anchor = ResourceCert::verify_ta(
-        alloc,
-        cert_of(alloc, made::ANCHOR)?,
-        &provider,
-        terms,
-        at,
-    )?;
+    let anchor = cert_of(alloc, made::ANCHOR)?;
+    let anchor = ResourceCert::verify_ta(alloc, anchor, &provider, terms, at)?;
     let above = list_of(alloc, made::ANCHOR_LIST)?;
     let list = anchor.crl(&above, Staleness::Refused, at)?;
     if issuer == Issuer::Anchor {

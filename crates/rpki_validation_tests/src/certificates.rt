@@ -3,6 +3,7 @@
 use crate::authorities::{Ask, Change, Issuer, asked, cert_of, octets, text_of};
 use crate::repository as made;
 use rpki_cert::Cert;
+use rpki_der_tests::rows;
 use rpki_digests::RsaProvider;
 use rpki_resources::{AddressFamily, Blocks, ResourceKind};
 use rpki_valid::{CurrentCrl, ResourceSet};
@@ -35,16 +36,10 @@ fn blocks_text(alloc: Global, blocks: &Blocks, kind: ResourceKind) -> Result<Str
 
 /// The resources, as text.
 fn resources_text(alloc: Global, held: &ResourceSet) -> Result<String, AllocError> {
-    let v4 = blocks_text(
-        alloc,
-        &held.ipv4,
-        ResourceKind::Addresses(AddressFamily::Ipv4),
-    )?;
-    let v6 = blocks_text(
-        alloc,
-        &held.ipv6,
-        ResourceKind::Addresses(AddressFamily::Ipv6),
-    )?;
+    let v4 = ResourceKind::Addresses(AddressFamily::Ipv4);
+    let v6 = ResourceKind::Addresses(AddressFamily::Ipv6);
+    let v4 = blocks_text(alloc, &held.ipv4, v4)?;
+    let v6 = blocks_text(alloc, &held.ipv6, v6)?;
     let numbers = blocks_text(alloc, &held.asn, ResourceKind::AsNumbers)?;
     format!(in alloc; "{v4}; {v6}; {numbers}")
 }
@@ -72,125 +67,37 @@ impl Ask for Question {
 
 /// A name; what the certificate is asked to be; the certificate, and what is done to it; whose list is asked; how many
 /// authorities there are at most below the trust anchor; and the answer, as `tests/validation/make` has it.
-type Row = (
-    &'static str,
-    Kind,
-    &'static str,
-    Change,
-    Issuer,
-    u32,
-    &'static str,
-);
-
-const ROWS: &[Row] = &[
-    (
-        "the authority",
-        Kind::Authority,
-        made::AUTHORITY,
-        Change::None,
-        Issuer::Anchor,
-        1,
-        "1 down: 10.0.0.0/8, 192.0.2.0/25, 198.51.100.1-198.51.100.254, 203.0.113.64/26; \
-         2001:db8::/32, 3fff::1-3fff:0:ffff::; AS64496, AS64498-AS64511, AS4200000000-AS4200000009",
-    ),
-    (
-        "the authority below itself, with what it inherits",
-        Kind::Authority,
-        made::ITSELF,
-        Change::None,
-        Issuer::Authority,
-        2,
-        "2 down: 10.0.0.0/8, 192.0.2.0/25, 198.51.100.1-198.51.100.254, 203.0.113.64/26; \
-         2001:db8::/32, 3fff::1-3fff:0:ffff::; AS64496, AS64498-AS64511, AS4200000000-AS4200000009",
-    ),
-    (
-        "the authority below itself, one too deep",
-        Kind::Authority,
-        made::ITSELF,
-        Change::None,
-        Issuer::Authority,
-        1,
-        "invalid: path is too long",
-    ),
-    (
-        "an authority that is revoked",
-        Kind::Authority,
-        made::LOST,
-        Change::None,
-        Issuer::Authority,
-        8,
-        "invalid: RFC 6487 7.2: revoked certificate",
-    ),
-    (
-        "an authority with another signature",
-        Kind::Authority,
-        made::AUTHORITY,
-        Change::Last,
-        Issuer::Anchor,
-        8,
-        "invalid: RFC 6487 7.2: bad signature",
-    ),
-    (
-        "a router as an authority",
-        Kind::Authority,
-        made::ROUTER,
-        Change::None,
-        Issuer::Authority,
-        8,
-        "invalid: RFC 7935 3: key is no RSA key of 2048 bits and the exponent 65537",
-    ),
-    (
-        "a router",
-        Kind::Router,
-        made::ROUTER,
-        Change::None,
-        Issuer::Authority,
-        8,
-        "; ; AS64496",
-    ),
-    (
-        "a router with another signature",
-        Kind::Router,
-        made::ROUTER,
-        Change::Last,
-        Issuer::Authority,
-        8,
-        "invalid: RFC 6487 7.2: bad signature",
-    ),
-    (
-        "a router under the trust anchor",
-        Kind::Router,
-        made::ROUTER,
-        Change::None,
-        Issuer::Anchor,
-        8,
-        "invalid: RFC 6487 7.2: bad signature",
-    ),
-    (
-        "an authority as a router",
-        Kind::Router,
-        made::ITSELF,
-        Change::None,
-        Issuer::Authority,
-        8,
-        "invalid: RFC 8608 3.1: key is no uncompressed point on P-256",
-    ),
-];
-
-fn rows() -> &'static [Row] {
-    ROWS
-}
+const ROWS: &[(&str, Kind, &str, Change, Issuer, u32, &str)] = &rows! {
+    ("the authority", Kind::Authority, made::AUTHORITY, Change::None, Issuer::Anchor, 1,
+     "1 down: 10.0.0.0/8, 192.0.2.0/25, 198.51.100.1-198.51.100.254, 203.0.113.64/26; \
+     2001:db8::/32, 3fff::1-3fff:0:ffff::; AS64496, AS64498-AS64511, AS4200000000-AS4200000009"),
+    ("the authority below itself, with what it inherits", Kind::Authority, made::ITSELF, Change::None,
+     Issuer::Authority, 2,
+     "2 down: 10.0.0.0/8, 192.0.2.0/25, 198.51.100.1-198.51.100.254, 203.0.113.64/26; \
+     2001:db8::/32, 3fff::1-3fff:0:ffff::; AS64496, AS64498-AS64511, AS4200000000-AS4200000009"),
+    ("the authority below itself, one too deep", Kind::Authority, made::ITSELF, Change::None, Issuer::Authority, 1,
+     "invalid: path is too long"),
+    ("an authority that is revoked", Kind::Authority, made::LOST, Change::None, Issuer::Authority, 8,
+     "invalid: RFC 6487 7.2: revoked certificate"),
+    ("an authority with another signature", Kind::Authority, made::AUTHORITY, Change::Last, Issuer::Anchor, 8,
+     "invalid: RFC 6487 7.2: bad signature"),
+    ("a router as an authority", Kind::Authority, made::ROUTER, Change::None, Issuer::Authority, 8,
+     "invalid: RFC 7935 3: key is no RSA key of 2048 bits and the exponent 65537"),
+    ("a router", Kind::Router, made::ROUTER, Change::None, Issuer::Authority, 8, "; ; AS64496"),
+    ("a router with another signature", Kind::Router, made::ROUTER, Change::Last, Issuer::Authority, 8,
+     "invalid: RFC 6487 7.2: bad signature"),
+    ("a router under the trust anchor", Kind::Router, made::ROUTER, Change::None, Issuer::Anchor, 8,
+     "invalid: RFC 6487 7.2: bad signature"),
+    ("an authority as a router", Kind::Router, made::ITSELF, Change::None, Issuer::Authority, 8,
+     "invalid: RFC 8608 3.1: key is no uncompressed point on P-256"),
+};
 
 #[test]
 fn each_certificate_is_told(rt: HostRuntime) -> Result<(), Fail> {
-    for row in rows() {
-        let question = Question {
-            kind: row.1,
-            cert: row.2,
-            change: row.3,
-        };
-        let told = text_of(rt.alloc(), asked(rt.alloc(), row.4, row.5, &question))?;
-        assert_eq!(rt; told.as_str(), row.6, "{}", row.0);
+    for &(name, kind, cert, change, issuer, deepest, wanted) in ROWS {
+        let question = Question { kind, cert, change };
+        let told = text_of(rt.alloc(), asked(rt.alloc(), issuer, deepest, &question))?;
+        assert_eq!(rt; told.as_str(), wanted, "{name}");
     }
     Ok(())
 }
@@ -203,39 +110,15 @@ const IS_NONE: &str = "0603551d130101ff04053003010100";
 /// A name; a certificate; what is done to it; and whether it is that of an authority.
 type Told = (&'static str, &'static str, Change, &'static str);
 
-const TOLD: &[Told] = &[
+const TOLD: &[Told] = &rows! {
     ("an authority", made::AUTHORITY, Change::None, "true"),
     ("a trust anchor", made::ANCHOR, Change::None, "true"),
     ("a router", made::ROUTER, Change::None, "false"),
-    (
-        "constraints that say no",
-        made::AUTHORITY,
-        Change::Octets(IS_AUTHORITY, IS_NONE),
-        "invalid: unexpected value",
-    ),
-    (
-        "a certificate that is cut off",
-        made::AUTHORITY,
-        Change::Cut,
-        "malformed: truncated value",
-    ),
-    (
-        "a certificate, and an octet",
-        made::AUTHORITY,
-        Change::Follow,
-        "malformed: trailing data",
-    ),
-    (
-        "an object",
-        made::ORIGIN,
-        Change::None,
-        "malformed: unexpected value",
-    ),
-];
-
-fn told_rows() -> &'static [Told] {
-    TOLD
-}
+    ("constraints that say no", made::AUTHORITY, Change::Octets(IS_AUTHORITY, IS_NONE), "invalid: unexpected value"),
+    ("a certificate that is cut off", made::AUTHORITY, Change::Cut, "malformed: truncated value"),
+    ("a certificate, and an octet", made::AUTHORITY, Change::Follow, "malformed: trailing data"),
+    ("an object", made::ORIGIN, Change::None, "malformed: unexpected value"),
+};
 
 /// Whether a certificate is that of an authority, as text.
 fn told(alloc: Global, row: &Told) -> Result<String, Stop> {
@@ -246,7 +129,7 @@ fn told(alloc: Global, row: &Told) -> Result<String, Stop> {
 
 #[test]
 fn authorities_are_told_from_routers(rt: HostRuntime) -> Result<(), Fail> {
-    for row in told_rows() {
+    for row in TOLD {
         let text = text_of(rt.alloc(), told(rt.alloc(), row))?;
         assert_eq!(rt; text.as_str(), row.3, "{}", row.0);
     }
@@ -270,13 +153,9 @@ const PLACES: &[(&str, &str)] = &[
     (made::ROUTER, "nowhere"),
 ];
 
-fn places() -> &'static [(&'static str, &'static str)] {
-    PLACES
-}
-
 #[test]
 fn certificates_are_those_that_were_made(rt: HostRuntime) -> Result<(), Fail> {
-    for (cert, wanted) in places() {
+    for (cert, wanted) in PLACES {
         let text = text_of(rt.alloc(), place(rt.alloc(), cert))?;
         assert_eq!(rt; text.as_str(), *wanted);
     }

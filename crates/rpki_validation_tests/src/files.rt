@@ -2,8 +2,8 @@
 
 use bytes::Bytes;
 use rpki::uri::Rsync;
+use rpki_der_tests::hexadecimal::octets_of;
 use rpki_locator::AnchorUri;
-use rpki_objects_tests::hexadecimal::octets_of;
 use rpki_validation::Snapshot;
 use std::alloc::{AllocError, Global};
 

@@ -5,6 +5,7 @@ use crate::files::{Change, Files};
 use crate::repository as made;
 use rpki::repository::x509::{Time, Validity};
 use rpki::uri::Rsync;
+use rpki_der_tests::rows;
 use rpki_digests::RsaProvider;
 use rpki_locator::AnchorUri;
 use rpki_validation::{Outcome, Payload, Stop, validate};
@@ -41,136 +42,37 @@ const ALWAYS: &str =
 
 /// A name; the number of a file, and what is done to it; the year; how many authorities are permitted below the trust
 /// anchor; what is valid; and what is rejected.
-type Row = (
-    &'static str,
-    usize,
-    Change,
-    i32,
-    u32,
-    &'static str,
-    &'static str,
-);
+type Row<'a> = (&'a str, usize, Change, i32, u32, &'a str, &'a str);
 
-const ROWS: &[Row] = &[
+const ROWS: &[Row<'_>] = &rows! {
     ("unchanged", 0, Change::None, 2026, 8, ALL, ALWAYS),
-    (
-        "one authority below the trust anchor",
-        0,
-        Change::None,
-        2026,
-        1,
-        ALL,
-        "rsync://rpki.example/repo/ca/gone.roa: invalid: RFC 6487 7.2: revoked certificate\n\
-        rsync://rpki.example/repo/ca/lost.cer: invalid: path is too long\n\
-        rsync://rpki.example/repo/ca/self.cer: invalid: path is too long\n\
-        rsync://rpki.example/repo/ca/wide.roa: invalid: RFC 6487 7.2: resources that the issuer does not have\n",
-    ),
-    (
-        "no authority below the trust anchor",
-        0,
-        Change::None,
-        2026,
-        0,
-        "",
-        "rsync://rpki.example/repo/ta/ca.cer: invalid: path is too long\n",
-    ),
-    (
-        "no trust anchor",
-        0,
-        Change::Remove,
-        2026,
-        8,
-        "RFC 8630 3: no trust anchor was fetched",
-        "",
-    ),
-    (
-        "another trust anchor",
-        0,
-        Change::Exchange(3),
-        2026,
-        8,
-        "invalid: RFC 6487 4.8.6: CRL distribution points of a trust anchor",
-        "",
-    ),
-    (
-        "no manifest of the trust anchor",
-        1,
-        Change::Remove,
-        2026,
-        8,
-        "",
-        "all of rsync://rpki.example/repo/ta/ta.mft: RFC 9286 6.2: no manifest\n",
-    ),
-    (
-        "the manifest of another",
-        1,
-        Change::Exchange(4),
-        2026,
-        8,
-        "",
-        "all of rsync://rpki.example/repo/ta/ta.mft: RFC 9286 6.4: no file at rsync://rpki.example/repo/ta/ca.crl\n",
-    ),
-    (
-        "no list of the authority",
-        5,
-        Change::Remove,
-        2026,
-        8,
-        "",
-        "all of rsync://rpki.example/repo/ca/ca.mft: RFC 9286 6.4: no file at rsync://rpki.example/repo/ca/ca.crl\n",
-    ),
-    (
-        "the list of another",
-        5,
-        Change::Exchange(2),
-        2026,
-        8,
-        "",
-        "all of rsync://rpki.example/repo/ca/ca.mft: RFC 9286 6.5: another digest at \
-        rsync://rpki.example/repo/ca/ca.crl\n",
-    ),
-    (
-        "a file that isn't there",
-        7,
-        Change::Remove,
-        2026,
-        8,
-        "",
-        "all of rsync://rpki.example/repo/ca/ca.mft: RFC 9286 6.4: no file at rsync://rpki.example/repo/ca/one.roa\n",
-    ),
-    (
-        "a revoked file with another digest",
-        8,
-        Change::LastOctet,
-        2026,
-        8,
-        "",
-        "all of rsync://rpki.example/repo/ca/ca.mft: RFC 9286 6.5: another digest at \
-        rsync://rpki.example/repo/ca/gone.roa\n",
-    ),
-    (
-        "too early",
-        0,
-        Change::None,
-        2025,
-        8,
-        "invalid: RFC 6487 7.2: certificate is not yet valid",
-        "",
-    ),
-    (
-        "too late",
-        0,
-        Change::None,
-        2037,
-        8,
-        "invalid: RFC 6487 7.2: certificate has expired",
-        "",
-    ),
-];
-
-fn rows() -> &'static [Row] {
-    ROWS
-}
+    ("one authority below the trust anchor", 0, Change::None, 2026, 1, ALL,
+     "rsync://rpki.example/repo/ca/gone.roa: invalid: RFC 6487 7.2: revoked certificate\n\
+     rsync://rpki.example/repo/ca/lost.cer: invalid: path is too long\n\
+     rsync://rpki.example/repo/ca/self.cer: invalid: path is too long\n\
+     rsync://rpki.example/repo/ca/wide.roa: invalid: RFC 6487 7.2: resources that the issuer does not have\n"),
+    ("no authority below the trust anchor", 0, Change::None, 2026, 0, "",
+     "rsync://rpki.example/repo/ta/ca.cer: invalid: path is too long\n"),
+    ("no trust anchor", 0, Change::Remove, 2026, 8, "RFC 8630 3: no trust anchor was fetched", ""),
+    ("another trust anchor", 0, Change::Exchange(3), 2026, 8,
+     "invalid: RFC 6487 4.8.6: CRL distribution points of a trust anchor", ""),
+    ("no manifest of the trust anchor", 1, Change::Remove, 2026, 8, "",
+     "all of rsync://rpki.example/repo/ta/ta.mft: RFC 9286 6.2: no manifest\n"),
+    ("the manifest of another", 1, Change::Exchange(4), 2026, 8, "",
+     "all of rsync://rpki.example/repo/ta/ta.mft: RFC 9286 6.4: no file at rsync://rpki.example/repo/ta/ca.crl\n"),
+    ("no list of the authority", 5, Change::Remove, 2026, 8, "",
+     "all of rsync://rpki.example/repo/ca/ca.mft: RFC 9286 6.4: no file at rsync://rpki.example/repo/ca/ca.crl\n"),
+    ("the list of another", 5, Change::Exchange(2), 2026, 8, "",
+     "all of rsync://rpki.example/repo/ca/ca.mft: RFC 9286 6.5: another digest at \
+     rsync://rpki.example/repo/ca/ca.crl\n"),
+    ("a file that isn't there", 7, Change::Remove, 2026, 8, "",
+     "all of rsync://rpki.example/repo/ca/ca.mft: RFC 9286 6.4: no file at rsync://rpki.example/repo/ca/one.roa\n"),
+    ("a revoked file with another digest", 8, Change::LastOctet, 2026, 8, "",
+     "all of rsync://rpki.example/repo/ca/ca.mft: RFC 9286 6.5: another digest at \
+     rsync://rpki.example/repo/ca/gone.roa\n"),
+    ("too early", 0, Change::None, 2025, 8, "invalid: RFC 6487 7.2: certificate is not yet valid", ""),
+    ("too late", 0, Change::None, 2037, 8, "invalid: RFC 6487 7.2: certificate has expired", ""),
+};
 
 /// Adds the payloads.
 fn push_payloads(alloc: Global, outcome: &Outcome, text: &mut String) -> Result<(), AllocError> {
@@ -221,7 +123,7 @@ fn uris(alloc: Global) -> Result<Vec<AnchorUri>, AllocError> {
 }
 
 /// What a row makes valid.
-fn walked(alloc: Global, row: &Row) -> Result<Outcome, Stop> {
+fn walked(alloc: Global, row: &Row<'_>) -> Result<Outcome, Stop> {
     let files = Files {
         objects: FILES,
         number: row.1,
@@ -237,7 +139,7 @@ fn walked(alloc: Global, row: &Row) -> Result<Outcome, Stop> {
 }
 
 /// What a row makes valid, and what is rejected, as texts.
-fn told(alloc: Global, row: &Row) -> Result<(String, String), AllocError> {
+fn told(alloc: Global, row: &Row<'_>) -> Result<(String, String), AllocError> {
     let mut valid = String::new(alloc);
     let mut rejected = String::new(alloc);
     match walked(alloc, row) {
@@ -253,7 +155,7 @@ fn told(alloc: Global, row: &Row) -> Result<(String, String), AllocError> {
 
 #[test]
 fn walks_find_what_is_valid(rt: HostRuntime) -> Result<(), Fail> {
-    for row in rows() {
+    for row in ROWS {
         let (valid, rejected) = told(rt.alloc(), row)?;
         assert_eq!(rt; valid.as_str(), row.5, "{}", row.0);
         assert_eq!(rt; rejected.as_str(), row.6, "{}", row.0);
@@ -286,7 +188,7 @@ fn held(outcome: &Outcome) -> (usize, bool) {
 #[test]
 fn payloads_hold_while_their_path_does(rt: HostRuntime) -> Result<(), Fail> {
     let mut seen = (0, false);
-    if let Some(row) = rows().first() {
+    if let Some(row) = ROWS.first() {
         if let Ok(outcome) = walked(rt.alloc(), row) {
             seen = held(&outcome);
         }

@@ -1,164 +1,60 @@
 //! Manifests: those that openssl (`asn1parse -genconf`) made, and others of the same parts.
 
+use super::{Changes, ONE_FILE, THREE_FILES};
+use crate::encoding::are_written_as;
 use bytes::Bytes;
 use rpki::repository::x509::{Serial, Time};
 use rpki_contents::{FileAndHash, ManifestContent, ManifestView, MessageDigest};
-use rpki_der::{Captured, DecodeError, Values};
+use rpki_der::DecodeError;
+use rpki_der_tests::changed::changed;
+use rpki_der_tests::hexadecimal::octets_of;
 use rpki_der_tests::kinds::{Outcome, outcome_of};
+use rpki_der_tests::rows;
 use rpki_digests::Digests;
 use std::alloc::Global;
 use std::test::Fail;
 
-/// A manifest, its number, and how many files it lists.
-struct Good {
-    name: &'static str,
-    octets: &'static [u8],
-    number: u64,
-    files: usize,
+/// A manifest with changes, its number, and how many files it lists.
+const GOOD: &[(&str, &str, Changes, u64, usize)] = &rows! {
+    ("three files", THREE_FILES, &[], 513, 3),
+    ("no file",
+     "3032020100180f30303030303130313030303030305a180f39393939313233313233353935395a06096086480165030402013000", &[],
+     0, 0),
+    ("one file", ONE_FILE, &[], 513, 1),
+    ("names that differ in case", ONE_FILE, &[("3061", "30818b"), ("302e302c1607616263", "3058302a160561"),
+      ("15ad", "15ad302a1605412e636572032100ba7816bf8f01cfea414140de5dae2223b00361a396177a9cb410ff61f20015ad")],
+     513, 2),
+    ("names of which one begins another", ONE_FILE, &[("3061", "3081e5"), ("302e302c1607616263", "3081b1302a160561"), (
+       "15ad", "15ad302b160661612e636572032100ba7816bf8f01cfea414140de5dae2223b00361a396177a9cb410ff61f20015ad302a1605\
+       2d2e636572032100ba7816bf8f01cfea414140de5dae2223b00361a396177a9cb410ff61f20015ad302a16055f2e636572032100ba7816bf\
+       8f01cfea414140de5dae2223b00361a396177a9cb410ff61f20015ad")], 513, 4),
+    ("name of 200 octets", ONE_FILE, &[("3061", "30820125"), ("302e302c1607616263",
+       "3081f13081ee1681c86e6e6e6e6e6e6e6e6e6e6e6e6e6e6e6e6e6e6e6e6e6e6e6e6e6e6e6e6e6e6e6e6e6e6e6e6e6e6e6e6e6e6e6e6e6e\
+       6e6e6e6e6e6e6e6e6e6e6e6e6e6e6e6e6e6e6e6e6e6e6e6e6e6e6e6e6e6e6e6e6e6e6e6e6e6e6e6e6e6e6e6e6e6e6e6e6e6e6e6e6e6e6e6e\
+       6e6e6e6e6e6e6e6e6e6e6e6e6e6e6e6e6e6e6e6e6e6e6e6e6e6e6e6e6e6e6e6e6e6e6e6e6e6e6e6e6e6e6e6e6e6e6e6e6e6e6e6e6e6e6e6e\
+       6e6e6e6e6e6e6e6e6e6e6e6e6e6e6e6e6e6e6e6e6e6e6e6e6e6e6e6e6e6e6e6e6e6e6e6e6e6e")], 513, 1),
+    ("same digest twice", ONE_FILE, &[("3061", "30818b"), ("302e302c1607616263", "3058302a160561"),
+      ("15ad", "15ad302a1605622e636572032100ba7816bf8f01cfea414140de5dae2223b00361a396177a9cb410ff61f20015ad")],
+     513, 2),
+    ("an extension of no registry", ONE_FILE,
+     &[("3061", "305f"), ("302e302c16076162632e636572", "302c302a1605612e7a7a7a")], 513, 1),
+    ("names in falling order", ONE_FILE, &[("3061", "3081b8"), ("302e302c1607616263", "308184302a16057a"), ("15ad",
+       "15ad302a1605792e636572032100ba7816bf8f01cfea414140de5dae2223b00361a396177a9cb410ff61f20015ad302a1605782e636572\
+       032100ba7816bf8f01cfea414140de5dae2223b00361a396177a9cb410ff61f20015ad")], 513, 3),
+    ("number 127", THREE_FILES, &[("3081bf02020201", "3081be02017f")], 127, 3),
+    ("number 128", THREE_FILES, &[("020201", "020080")], 128, 3),
+    ("next update a second later", THREE_FILES, &[("31323335393539", "31303030303030")], 513, 3),
+};
+
+/// The manifest that the octets are, kept.
+pub fn decode(alloc: Global, octets: &[u8]) -> Result<ManifestContent, DecodeError> {
+    ManifestContent::decode(alloc, Bytes::copy_from_slice(alloc, octets)?)
 }
 
-const GOOD: &[Good] = &[
-    Good {
-        name: "three files",
-        octets: b"0\x81\xbf\x02\x02\x02\x01\x18\x0f20240229235959Z\x18\x0f20240301235959Z\x06\x09`\x86H\
-          \x01e\x03\x04\x02\x010\x81\x8b0,\x16\x07abc.cer\x03!\x00\xbax\x16\xbf\x8f\x01\xcf\xeaAA@\
-          \xde]\xae\"#\xb0\x03a\xa3\x96\x17z\x9c\xb4\x10\xffa\xf2\x00\x15\xad0/\x16\x0aA-Z_09.roa\
-          \x03!\x00\xe3\xb0\xc4B\x98\xfc\x1c\x14\x9a\xfb\xf4\xc8\x99o\xb9$'\xaeA\xe4d\x9b\x93L\xa4\
-          \x95\x99\x1bxR\xb8U0*\x16\x05z.crl\x03!\x00$\x8dja\xd2\x068\xb8\xe5\xc0&\x93\x0c>`9\xa3<\
-          \xe4Yd\xff!g\xf6\xec\xed\xd4\x19\xdb\x06\xc1",
-        number: 513,
-        files: 3,
-    },
-    Good {
-        name: "no file",
-        octets: b"02\x02\x01\x00\x18\x0f00000101000000Z\x18\x0f99991231235959Z\x06\x09`\x86H\x01e\x03\x04\
-          \x02\x010\x00",
-        number: 0,
-        files: 0,
-    },
-    Good {
-        name: "one file",
-        octets: b"0a\x02\x02\x02\x01\x18\x0f20240229235959Z\x18\x0f20240301235959Z\x06\x09`\x86H\x01e\x03\
-          \x04\x02\x010.0,\x16\x07abc.cer\x03!\x00\xbax\x16\xbf\x8f\x01\xcf\xeaAA@\xde]\xae\"#\xb0\
-          \x03a\xa3\x96\x17z\x9c\xb4\x10\xffa\xf2\x00\x15\xad",
-        number: 513,
-        files: 1,
-    },
-    Good {
-        name: "names that differ in case",
-        octets: b"0\x81\x8b\x02\x02\x02\x01\x18\x0f20240229235959Z\x18\x0f20240301235959Z\x06\x09`\x86H\
-          \x01e\x03\x04\x02\x010X0*\x16\x05a.cer\x03!\x00\xbax\x16\xbf\x8f\x01\xcf\xeaAA@\xde]\xae\
-          \"#\xb0\x03a\xa3\x96\x17z\x9c\xb4\x10\xffa\xf2\x00\x15\xad0*\x16\x05A.cer\x03!\x00\xbax\
-          \x16\xbf\x8f\x01\xcf\xeaAA@\xde]\xae\"#\xb0\x03a\xa3\x96\x17z\x9c\xb4\x10\xffa\xf2\x00\
-          \x15\xad",
-        number: 513,
-        files: 2,
-    },
-    Good {
-        name: "names of which one begins another",
-        octets: b"0\x81\xe5\x02\x02\x02\x01\x18\x0f20240229235959Z\x18\x0f20240301235959Z\x06\x09`\x86H\
-          \x01e\x03\x04\x02\x010\x81\xb10*\x16\x05a.cer\x03!\x00\xbax\x16\xbf\x8f\x01\xcf\xeaAA@\
-          \xde]\xae\"#\xb0\x03a\xa3\x96\x17z\x9c\xb4\x10\xffa\xf2\x00\x15\xad0+\x16\x06aa.cer\x03!\
-          \x00\xbax\x16\xbf\x8f\x01\xcf\xeaAA@\xde]\xae\"#\xb0\x03a\xa3\x96\x17z\x9c\xb4\x10\xffa\
-          \xf2\x00\x15\xad0*\x16\x05-.cer\x03!\x00\xbax\x16\xbf\x8f\x01\xcf\xeaAA@\xde]\xae\"#\xb0\
-          \x03a\xa3\x96\x17z\x9c\xb4\x10\xffa\xf2\x00\x15\xad0*\x16\x05_.cer\x03!\x00\xbax\x16\xbf\
-          \x8f\x01\xcf\xeaAA@\xde]\xae\"#\xb0\x03a\xa3\x96\x17z\x9c\xb4\x10\xffa\xf2\x00\x15\xad",
-        number: 513,
-        files: 4,
-    },
-    Good {
-        name: "name of 200 octets",
-        octets: b"0\x82\x01%\x02\x02\x02\x01\x18\x0f20240229235959Z\x18\x0f20240301235959Z\x06\x09`\x86H\
-          \x01e\x03\x04\x02\x010\x81\xf10\x81\xee\x16\x81\xc8nnnnnnnnnnnnnnnnnnnnnnnnnnnnnnnnnnnnn\
-          nnnnnnnnnnnnnnnnnnnnnnnnnnnnnnnnnnnnnnnnnnnnnnnnnnnnnnnnnnnnnnnnnnnnnnnnnnnnnnnnnnnnnnnn\
-          nnnnnnnnnnnnnnnnnnnnnnnnnnnnnnnnnnnnnnnnnnnnnnnnnnnnnnnnnnnnnnnnnnnnnnn.cer\x03!\x00\xba\
-          x\x16\xbf\x8f\x01\xcf\xeaAA@\xde]\xae\"#\xb0\x03a\xa3\x96\x17z\x9c\xb4\x10\xffa\xf2\x00\
-          \x15\xad",
-        number: 513,
-        files: 1,
-    },
-    Good {
-        name: "same digest twice",
-        octets: b"0\x81\x8b\x02\x02\x02\x01\x18\x0f20240229235959Z\x18\x0f20240301235959Z\x06\x09`\x86H\
-          \x01e\x03\x04\x02\x010X0*\x16\x05a.cer\x03!\x00\xbax\x16\xbf\x8f\x01\xcf\xeaAA@\xde]\xae\
-          \"#\xb0\x03a\xa3\x96\x17z\x9c\xb4\x10\xffa\xf2\x00\x15\xad0*\x16\x05b.cer\x03!\x00\xbax\
-          \x16\xbf\x8f\x01\xcf\xeaAA@\xde]\xae\"#\xb0\x03a\xa3\x96\x17z\x9c\xb4\x10\xffa\xf2\x00\
-          \x15\xad",
-        number: 513,
-        files: 2,
-    },
-    Good {
-        name: "an extension of no registry",
-        octets: b"0_\x02\x02\x02\x01\x18\x0f20240229235959Z\x18\x0f20240301235959Z\x06\x09`\x86H\x01e\x03\
-          \x04\x02\x010,0*\x16\x05a.zzz\x03!\x00\xbax\x16\xbf\x8f\x01\xcf\xeaAA@\xde]\xae\"#\xb0\
-          \x03a\xa3\x96\x17z\x9c\xb4\x10\xffa\xf2\x00\x15\xad",
-        number: 513,
-        files: 1,
-    },
-    Good {
-        name: "names in falling order",
-        octets: b"0\x81\xb8\x02\x02\x02\x01\x18\x0f20240229235959Z\x18\x0f20240301235959Z\x06\x09`\x86H\
-          \x01e\x03\x04\x02\x010\x81\x840*\x16\x05z.cer\x03!\x00\xbax\x16\xbf\x8f\x01\xcf\xeaAA@\
-          \xde]\xae\"#\xb0\x03a\xa3\x96\x17z\x9c\xb4\x10\xffa\xf2\x00\x15\xad0*\x16\x05y.cer\x03!\
-          \x00\xbax\x16\xbf\x8f\x01\xcf\xeaAA@\xde]\xae\"#\xb0\x03a\xa3\x96\x17z\x9c\xb4\x10\xffa\
-          \xf2\x00\x15\xad0*\x16\x05x.cer\x03!\x00\xbax\x16\xbf\x8f\x01\xcf\xeaAA@\xde]\xae\"#\xb0\
-          \x03a\xa3\x96\x17z\x9c\xb4\x10\xffa\xf2\x00\x15\xad",
-        number: 513,
-        files: 3,
-    },
-    Good {
-        name: "number 127",
-        octets: b"0\x81\xbe\x02\x01\x7f\x18\x0f20240229235959Z\x18\x0f20240301235959Z\x06\x09`\x86H\x01e\
-          \x03\x04\x02\x010\x81\x8b0,\x16\x07abc.cer\x03!\x00\xbax\x16\xbf\x8f\x01\xcf\xeaAA@\xde]\
-          \xae\"#\xb0\x03a\xa3\x96\x17z\x9c\xb4\x10\xffa\xf2\x00\x15\xad0/\x16\x0aA-Z_09.roa\x03!\
-          \x00\xe3\xb0\xc4B\x98\xfc\x1c\x14\x9a\xfb\xf4\xc8\x99o\xb9$'\xaeA\xe4d\x9b\x93L\xa4\x95\
-          \x99\x1bxR\xb8U0*\x16\x05z.crl\x03!\x00$\x8dja\xd2\x068\xb8\xe5\xc0&\x93\x0c>`9\xa3<\xe4\
-          Yd\xff!g\xf6\xec\xed\xd4\x19\xdb\x06\xc1",
-        number: 127,
-        files: 3,
-    },
-    Good {
-        name: "number 128",
-        octets: b"0\x81\xbf\x02\x02\x00\x80\x18\x0f20240229235959Z\x18\x0f20240301235959Z\x06\x09`\x86H\
-          \x01e\x03\x04\x02\x010\x81\x8b0,\x16\x07abc.cer\x03!\x00\xbax\x16\xbf\x8f\x01\xcf\xeaAA@\
-          \xde]\xae\"#\xb0\x03a\xa3\x96\x17z\x9c\xb4\x10\xffa\xf2\x00\x15\xad0/\x16\x0aA-Z_09.roa\
-          \x03!\x00\xe3\xb0\xc4B\x98\xfc\x1c\x14\x9a\xfb\xf4\xc8\x99o\xb9$'\xaeA\xe4d\x9b\x93L\xa4\
-          \x95\x99\x1bxR\xb8U0*\x16\x05z.crl\x03!\x00$\x8dja\xd2\x068\xb8\xe5\xc0&\x93\x0c>`9\xa3<\
-          \xe4Yd\xff!g\xf6\xec\xed\xd4\x19\xdb\x06\xc1",
-        number: 128,
-        files: 3,
-    },
-    Good {
-        name: "next update a second later",
-        octets: b"0\x81\xbf\x02\x02\x02\x01\x18\x0f20240229235959Z\x18\x0f20240301000000Z\x06\x09`\x86H\
-          \x01e\x03\x04\x02\x010\x81\x8b0,\x16\x07abc.cer\x03!\x00\xbax\x16\xbf\x8f\x01\xcf\xeaAA@\
-          \xde]\xae\"#\xb0\x03a\xa3\x96\x17z\x9c\xb4\x10\xffa\xf2\x00\x15\xad0/\x16\x0aA-Z_09.roa\
-          \x03!\x00\xe3\xb0\xc4B\x98\xfc\x1c\x14\x9a\xfb\xf4\xc8\x99o\xb9$'\xaeA\xe4d\x9b\x93L\xa4\
-          \x95\x99\x1bxR\xb8U0*\x16\x05z.crl\x03!\x00$\x8dja\xd2\x068\xb8\xe5\xc0&\x93\x0c>`9\xa3<\
-          \xe4Yd\xff!g\xf6\xec\xed\xd4\x19\xdb\x06\xc1",
-        number: 513,
-        files: 3,
-    },
-];
-
-fn rows() -> &'static [Good] {
-    GOOD
-}
-
-/// Whether the manifest is kept with its number and its files.
-fn is_kept(alloc: Global, row: &Good) -> Result<bool, DecodeError> {
-    let content = ManifestContent::decode(alloc, Bytes::from_static(row.octets))?;
-    Ok(content.manifest_number() == Serial::from(row.number) && content.len() == row.files)
-}
-
-/// Whether the manifest is written as the octets that it was read from.
-fn is_written(alloc: Global, row: &Good) -> Result<bool, Fail> {
-    let content = ManifestContent::decode(alloc, Bytes::from_static(row.octets))?;
+/// Whether the manifest is written as these octets.
+pub fn is_written(alloc: Global, content: &ManifestContent, octets: &[u8]) -> Result<bool, Fail> {
     match content.encode() {
-        Some(values) => {
-            let written = Captured::from_values(alloc, &values)?;
-            Ok(values.fits() && written.as_slice() == row.octets)
-        }
+        Some(values) => Ok(are_written_as(alloc, &values, octets)?),
         None => Ok(false),
     }
 }
@@ -174,14 +70,14 @@ fn given(view: &ManifestView<'_>) -> usize {
 }
 
 /// Whether the manifest is read in place with its number and its files, whose names differ.
-fn is_seen(row: &Good) -> bool {
+fn is_seen(octets: &[u8], number: Serial, files: usize) -> bool {
     let mut room: [&[u8]; 8] = [&[]; 8];
-    match ManifestView::read(row.octets) {
+    match ManifestView::read(octets) {
         Ok(view) => {
-            view.manifest_number == Serial::from(row.number)
-                && view.files.count() == row.files
-                && given(&view) == row.files
-                && row.files <= 8
+            view.manifest_number == number
+                && view.files.count() == files
+                && given(&view) == files
+                && files <= 8
                 && view.files.names_differ(&mut room)
         }
         Err(_) => false,
@@ -190,58 +86,43 @@ fn is_seen(row: &Good) -> bool {
 
 #[test]
 fn manifests_are_read(rt: HostRuntime) -> Result<(), Fail> {
-    for row in rows() {
-        assert!(rt; is_kept(rt.alloc(), row)?, "{}", row.name);
-        assert!(rt; is_seen(row), "{}", row.name);
-        assert!(rt; is_written(rt.alloc(), row)?, "{}", row.name);
+    for (name, manifest, changes, number, files) in GOOD {
+        let octets = changed(rt.alloc(), manifest, changes)?;
+        assert!(rt; octets.is_some(), "{name}: no such octets");
+        let octets = octets.unwrap_or(Vec::new(rt.alloc()));
+        let content = decode(rt.alloc(), octets.as_slice())?;
+        let number = Serial::from(*number);
+        let is_kept = content.manifest_number() == number && content.len() == *files;
+        assert!(rt; is_kept, "{name}");
+        assert!(rt;
+            is_seen(octets.as_slice(), number, *files),
+            "{name}, in place"
+        );
+        assert!(rt;
+            is_written(rt.alloc(), &content, octets.as_slice())?,
+            "{name}, written"
+        );
     }
     Ok(())
 }
 
 /// Manifests that list a file twice, which is seen in place only where it is asked for.
-const DOUBLED: &[(&str, &[u8])] = &[
-    (
-        "name twice in a row",
-        b"0\x81\xbc\x02\x02\x02\x01\x18\x0f20240229235959Z\x18\x0f20240301235959Z\x06\x09`\x86H\
-          \x01e\x03\x04\x02\x010\x81\x880,\x16\x07abc.cer\x03!\x00\xbax\x16\xbf\x8f\x01\xcf\xeaAA@\
-          \xde]\xae\"#\xb0\x03a\xa3\x96\x17z\x9c\xb4\x10\xffa\xf2\x00\x15\xad0,\x16\x07abc.cer\x03\
-          !\x00\xe3\xb0\xc4B\x98\xfc\x1c\x14\x9a\xfb\xf4\xc8\x99o\xb9$'\xaeA\xe4d\x9b\x93L\xa4\x95\
-          \x99\x1bxR\xb8U0*\x16\x05z.crl\x03!\x00$\x8dja\xd2\x068\xb8\xe5\xc0&\x93\x0c>`9\xa3<\xe4\
-          Yd\xff!g\xf6\xec\xed\xd4\x19\xdb\x06\xc1",
-    ),
-    (
-        "first name again as the last",
-        b"0\x81\xed\x02\x02\x02\x01\x18\x0f20240229235959Z\x18\x0f20240301235959Z\x06\x09`\x86H\
-          \x01e\x03\x04\x02\x010\x81\xb90,\x16\x07abc.cer\x03!\x00\xbax\x16\xbf\x8f\x01\xcf\xeaAA@\
-          \xde]\xae\"#\xb0\x03a\xa3\x96\x17z\x9c\xb4\x10\xffa\xf2\x00\x15\xad0*\x16\x05z.crl\x03!\
-          \x00$\x8dja\xd2\x068\xb8\xe5\xc0&\x93\x0c>`9\xa3<\xe4Yd\xff!g\xf6\xec\xed\xd4\x19\xdb\
-          \x06\xc10/\x16\x0aA-Z_09.roa\x03!\x00\xe3\xb0\xc4B\x98\xfc\x1c\x14\x9a\xfb\xf4\xc8\x99o\
-          \xb9$'\xaeA\xe4d\x9b\x93L\xa4\x95\x99\x1bxR\xb8U0,\x16\x07abc.cer\x03!\x00\xbax\x16\xbf\
-          \x8f\x01\xcf\xeaAA@\xde]\xae\"#\xb0\x03a\xa3\x96\x17z\x9c\xb4\x10\xffa\xf2\x00\x15\xad",
-    ),
-    (
-        "file twice",
-        b"0\x81\xba\x02\x02\x02\x01\x18\x0f20240229235959Z\x18\x0f20240301235959Z\x06\x09`\x86H\
-          \x01e\x03\x04\x02\x010\x81\x860*\x16\x05z.crl\x03!\x00$\x8dja\xd2\x068\xb8\xe5\xc0&\x93\
-          \x0c>`9\xa3<\xe4Yd\xff!g\xf6\xec\xed\xd4\x19\xdb\x06\xc10,\x16\x07abc.cer\x03!\x00\xbax\
-          \x16\xbf\x8f\x01\xcf\xeaAA@\xde]\xae\"#\xb0\x03a\xa3\x96\x17z\x9c\xb4\x10\xffa\xf2\x00\
-          \x15\xad0*\x16\x05z.crl\x03!\x00$\x8dja\xd2\x068\xb8\xe5\xc0&\x93\x0c>`9\xa3<\xe4Yd\xff!\
-          g\xf6\xec\xed\xd4\x19\xdb\x06\xc1",
-    ),
-    (
-        "one name three times",
-        b"0\x81\xc7\x02\x02\x02\x01\x18\x0f20240229235959Z\x18\x0f20240301235959Z\x06\x09`\x86H\
-          \x01e\x03\x04\x02\x010\x81\x930/\x16\x0aA-Z_09.roa\x03!\x00\xe3\xb0\xc4B\x98\xfc\x1c\x14\
-          \x9a\xfb\xf4\xc8\x99o\xb9$'\xaeA\xe4d\x9b\x93L\xa4\x95\x99\x1bxR\xb8U0/\x16\x0aA-Z_09.ro\
-          a\x03!\x00\xe3\xb0\xc4B\x98\xfc\x1c\x14\x9a\xfb\xf4\xc8\x99o\xb9$'\xaeA\xe4d\x9b\x93L\
-          \xa4\x95\x99\x1bxR\xb8U0/\x16\x0aA-Z_09.roa\x03!\x00\xe3\xb0\xc4B\x98\xfc\x1c\x14\x9a\
-          \xfb\xf4\xc8\x99o\xb9$'\xaeA\xe4d\x9b\x93L\xa4\x95\x99\x1bxR\xb8U",
-    ),
-];
-
-fn doubled_rows() -> &'static [(&'static str, &'static [u8])] {
-    DOUBLED
-}
+const DOUBLED: &[(&str, &str, Changes)] = &rows! {
+    ("name twice in a row", THREE_FILES,
+     &[("3081bf", "3081bc"), ("8b30", "8830"), ("302f160a412d5a5f30392e726f61", "302c16076162632e636572")]),
+    ("first name again as the last", ONE_FILE, &[("3061", "3081ed"), ("302e", "3081b9"), ("15ad",
+       "15ad302a16057a2e63726c032100248d6a61d20638b8e5c026930c3e6039a33ce45964ff2167f6ecedd419db06c1302f160a412d5a5f30\
+       392e726f61032100e3b0c44298fc1c149afbf4c8996fb92427ae41e4649b934ca495991b7852b855302c16076162632e636572032100ba78\
+       16bf8f01cfea414140de5dae2223b00361a396177a9cb410ff61f20015ad")]),
+    ("file twice", ONE_FILE, &[("3061", "3081ba"),
+      ("302e", "308186302a16057a2e63726c032100248d6a61d20638b8e5c026930c3e6039a33ce45964ff2167f6ecedd419db06c1"),
+      ("15ad", "15ad302a16057a2e63726c032100248d6a61d20638b8e5c026930c3e6039a33ce45964ff2167f6ecedd419db06c1")]),
+    ("one name three times", ONE_FILE, &[("3061", "3081c7"), ("302e302c16076162632e636572032100ba7816bf8f01cfea414140de\
+       5dae2223b00361a396177a9cb410ff61f20015ad", "308193302f160a412d5a5f30392e726f61032100e3b0c44298fc1c149afbf4c8996f\
+       b92427ae41e4649b934ca495991b7852b855302f160a412d5a5f30392e726f61032100e3b0c44298fc1c149afbf4c8996fb92427ae41e464\
+       9b934ca495991b7852b855302f160a412d5a5f30392e726f61032100e3b0c44298fc1c149afbf4c8996fb92427ae41e4649b934ca495991b\
+       7852b855")]),
+};
 
 /// Whether the manifest is read in place, and says that two of its names are the same.
 fn is_seen_doubled(octets: &[u8]) -> bool {
@@ -254,17 +135,20 @@ fn is_seen_doubled(octets: &[u8]) -> bool {
 
 #[test]
 fn a_file_is_listed_once(rt: HostRuntime) -> Result<(), Fail> {
-    for (name, octets) in doubled_rows() {
-        let kept = ManifestContent::decode(rt.alloc(), Bytes::from_static(octets));
-        assert_eq!(rt; outcome_of(kept), Outcome::Content, "{name}");
-        assert!(rt; is_seen_doubled(octets), "{name}");
+    for (name, manifest, changes) in DOUBLED {
+        let octets = changed(rt.alloc(), manifest, changes)?;
+        assert!(rt; octets.is_some(), "{name}: no such octets");
+        let octets = octets.unwrap_or(Vec::new(rt.alloc()));
+        let kept = outcome_of(decode(rt.alloc(), octets.as_slice()));
+        assert_eq!(rt; kept, Outcome::Content, "{name}");
+        assert!(rt; is_seen_doubled(octets.as_slice()), "{name}");
     }
     Ok(())
 }
 
 /// The manifest of three files: 23:59:59 of 29 February 2024, and of 1 March.
 fn three_files(alloc: Global) -> Result<ManifestContent, DecodeError> {
-    ManifestContent::decode(alloc, Bytes::from_static(GOOD[0].octets))
+    decode(alloc, octets_of(alloc, THREE_FILES)?.as_slice())
 }
 
 /// Names, and the places of the files that have them.
@@ -277,10 +161,6 @@ const SOUGHT: &[(&str, Option<usize>)] = &[
     ("z.crl ", None),
     ("", None),
 ];
-
-fn sought_rows() -> &'static [(&'static str, Option<usize>)] {
-    SOUGHT
-}
 
 /// Whether the file of the name is that at the place.
 fn is_found(content: &ManifestContent, name: &str, place: Option<usize>) -> bool {
@@ -297,25 +177,18 @@ fn is_found(content: &ManifestContent, name: &str, place: Option<usize>) -> bool
 #[test]
 fn files_are_found(rt: HostRuntime) -> Result<(), Fail> {
     let content = three_files(rt.alloc())?;
-    for (name, place) in sought_rows() {
+    for (name, place) in SOUGHT {
         assert!(rt; is_found(&content, name, *place), "{name}");
     }
     Ok(())
 }
 
 /// Octets, and the place of the file whose digest they have: `abc` and the text of 448 bits of FIPS 180-4, and none.
-const DIGESTED: &[(&[u8], usize)] = &[
+const DIGESTED: &[(&[u8], usize)] = &rows! {
     (b"abc", 0),
     (b"", 1),
-    (
-        b"abcdbcdecdefdefgefghfghighijhijkijkljklmklmnlmnomnopnopq",
-        2,
-    ),
-];
-
-fn digested_rows() -> &'static [(&'static [u8], usize)] {
-    DIGESTED
-}
+    (b"abcdbcdecdefdefgefghfghighijhijkijkljklmklmnlmnomnopnopq", 2),
+};
 
 /// The places of the files whose digest the octets have, as a sum of powers of two.
 fn verified(files: &[FileAndHash], octets: &[u8]) -> usize {
@@ -333,75 +206,38 @@ fn verified(files: &[FileAndHash], octets: &[u8]) -> usize {
 #[test]
 fn digests_are_those_of_files(rt: HostRuntime) -> Result<(), Fail> {
     let content = three_files(rt.alloc())?;
-    for (octets, place) in digested_rows() {
+    for (octets, place) in DIGESTED {
         let only = [1usize, 2, 4].get(*place).copied();
-        assert_eq!(rt;
-            Some(verified(content.file_list(), octets)),
-            only,
-            "place {place}"
-        );
+        let found = verified(content.file_list(), octets);
+        assert_eq!(rt; Some(found), only, "place {place}");
     }
     Ok(())
 }
 
-/// A moment: its name, year, month, day, hour, minute and second; whether the manifest is stale then.
-struct Moment {
-    name: &'static str,
-    time: (i32, u32, u32, u32, u32, u32),
-    stale: bool,
-}
+/// The year, month, day, hour, minute and second.
+type Parts = (i32, u32, u32, u32, u32, u32);
 
-const MOMENTS: &[Moment] = &[
-    Moment {
-        name: "a year before",
-        time: (2023, 2, 28, 23, 59, 59),
-        stale: false,
-    },
-    Moment {
-        name: "a second before",
-        time: (2024, 2, 29, 23, 59, 58),
-        stale: false,
-    },
-    Moment {
-        name: "when it was issued",
-        time: (2024, 2, 29, 23, 59, 59),
-        stale: false,
-    },
-    Moment {
-        name: "between",
-        time: (2024, 3, 1, 12, 0, 0),
-        stale: false,
-    },
-    Moment {
-        name: "when the next is due",
-        time: (2024, 3, 1, 23, 59, 59),
-        stale: false,
-    },
-    Moment {
-        name: "a second behind",
-        time: (2024, 3, 2, 0, 0, 0),
-        stale: true,
-    },
-];
+/// A moment, and whether the manifest is stale then.
+const MOMENTS: &[(&str, Parts, bool)] = &rows! {
+    ("a year before", (2023, 2, 28, 23, 59, 59), false),
+    ("a second before", (2024, 2, 29, 23, 59, 58), false),
+    ("when it was issued", (2024, 2, 29, 23, 59, 59), false),
+    ("between", (2024, 3, 1, 12, 0, 0), false),
+    ("when the next is due", (2024, 3, 1, 23, 59, 59), false),
+    ("a second behind", (2024, 3, 2, 0, 0, 0), true),
+};
 
-fn moments() -> &'static [Moment] {
-    MOMENTS
-}
-
-/// Whether the manifest is stale, as the row says.
-fn is_as_at(content: &ManifestContent, moment: &Moment) -> bool {
-    let (year, month, day, hour, minute, second) = moment.time;
-    match Time::utc(year, month, day, hour, minute, second) {
-        Some(at) => content.is_stale(at) == moment.stale,
-        None => false,
-    }
+/// Whether the manifest is stale then, where it is a time.
+fn is_stale(content: &ManifestContent, parts: Parts) -> Option<bool> {
+    let (year, month, day, hour, minute, second) = parts;
+    Some(content.is_stale(Time::utc(year, month, day, hour, minute, second)?))
 }
 
 #[test]
 fn manifests_hold_from_update_to_update(rt: HostRuntime) -> Result<(), Fail> {
     let content = three_files(rt.alloc())?;
-    for moment in moments() {
-        assert!(rt; is_as_at(&content, moment), "{}", moment.name);
+    for (name, parts, stale) in MOMENTS {
+        assert_eq!(rt; is_stale(&content, *parts), Some(*stale), "{name}");
     }
     Ok(())
 }
