@@ -1,97 +1,27 @@
 //! Resources down a chain (RFC 6487 7.2, RFC 8360 4.2).
 
+use super::Choice::{Inherit, Listed, Missing};
+use super::SettleError::{Inherits, Overclaim};
 use super::*;
 
-/// A certificate's resources, its issuer's, what they settle to or the error, and what they are trimmed to.
-const LINKS: &[(
-    &str,
-    Choice,
-    &[(u128, u128)],
-    Result<&[(u128, u128)], SettleError>,
-    &[(u128, u128)],
-)] = &[
-    ("none", Choice::Missing, &[(1, 9)], Ok(&[]), &[]),
-    (
-        "inherited",
-        Choice::Inherit,
-        &[(1, 9)],
-        Ok(&[(1, 9)]),
-        &[(1, 9)],
-    ),
-    ("none inherited", Choice::Inherit, &[], Ok(&[]), &[]),
-    (
-        "all",
-        Choice::Blocks(&[(1, 9)]),
-        &[(1, 9)],
-        Ok(&[(1, 9)]),
-        &[(1, 9)],
-    ),
-    (
-        "some",
-        Choice::Blocks(&[(2, 3), (5, 9)]),
-        &[(1, 9)],
-        Ok(&[(2, 3), (5, 9)]),
-        &[(2, 3), (5, 9)],
-    ),
-    (
-        "one more",
-        Choice::Blocks(&[(1, 10)]),
-        &[(1, 9)],
-        Err(SettleError::Overclaim),
-        &[(1, 9)],
-    ),
-    (
-        "one before",
-        Choice::Blocks(&[(0, 9)]),
-        &[(1, 9)],
-        Err(SettleError::Overclaim),
-        &[(1, 9)],
-    ),
-    (
-        "between",
-        Choice::Blocks(&[(4, 6)]),
-        &[(1, 4), (6, 9)],
-        Err(SettleError::Overclaim),
-        &[(4, 4), (6, 6)],
-    ),
-    (
-        "of none",
-        Choice::Blocks(&[(4, 6)]),
-        &[],
-        Err(SettleError::Overclaim),
-        &[],
-    ),
+/// A name, a certificate's resources, its issuer's, what they settle to or the error, and what they are trimmed to.
+type Link = (&'static str, Choice, Set, Result<Set, SettleError>, Set);
+
+#[rattlefmt::skip]
+const LINKS: &[Link] = &[
+    ("none", Missing, &[(1, 9)], Ok(&[]), &[]),
+    ("inherited", Inherit, &[(1, 9)], Ok(&[(1, 9)]), &[(1, 9)]),
+    ("none inherited", Inherit, &[], Ok(&[]), &[]),
+    ("all", Listed(&[(1, 9)]), &[(1, 9)], Ok(&[(1, 9)]), &[(1, 9)]),
+    ("some", Listed(&[(2, 3), (5, 9)]), &[(1, 9)], Ok(&[(2, 3), (5, 9)]), &[(2, 3), (5, 9)]),
+    ("one more", Listed(&[(1, 10)]), &[(1, 9)], Err(Overclaim), &[(1, 9)]),
+    ("one before", Listed(&[(0, 9)]), &[(1, 9)], Err(Overclaim), &[(1, 9)]),
+    ("between", Listed(&[(4, 6)]), &[(1, 4), (6, 9)], Err(Overclaim), &[(4, 4), (6, 6)]),
+    ("of none", Listed(&[(4, 6)]), &[], Err(Overclaim), &[]),
 ];
 
-type Link = (
-    &'static str,
-    Choice,
-    &'static [(u128, u128)],
-    Result<&'static [(u128, u128)], SettleError>,
-    &'static [(u128, u128)],
-);
-
-fn link_rows() -> &'static [Link] {
-    LINKS
-}
-
-/// The choice that a row has.
-fn choice_of(alloc: Global, choice: Choice) -> Result<Option<ResourcesChoice>, AllocError> {
-    match choice {
-        Choice::Missing => Ok(Some(ResourcesChoice::Missing)),
-        Choice::Inherit => Ok(Some(ResourcesChoice::Inherit)),
-        Choice::Blocks(blocks) => match blocks_of(alloc, blocks)? {
-            Some(blocks) => Ok(Some(ResourcesChoice::Blocks(blocks))),
-            None => Ok(None),
-        },
-    }
-}
-
 /// Whether this was settled.
-fn is_settled(
-    found: Result<Blocks, SettleError>,
-    expected: Result<&[(u128, u128)], SettleError>,
-) -> bool {
+fn is_settled(found: Result<Blocks, SettleError>, expected: Result<Set, SettleError>) -> bool {
     match (found, expected) {
         (Ok(blocks), Ok(expected)) => are_blocks(blocks.as_slice(), expected),
         (Err(e), Err(expected)) => e == expected,
@@ -100,51 +30,40 @@ fn is_settled(
 }
 
 /// Whether the link settles and is trimmed as expected.
-fn is_link(alloc: Global, link: Link) -> Result<bool, AllocError> {
-    let (Some(choice), Some(issuer)) = (choice_of(alloc, link.1)?, blocks_of(alloc, link.2)?) else {
+fn is_link(alloc: Global, (_, choice, issuer, settled, trimmed): Link) -> Result<bool, AllocError> {
+    let (Some(choice), Some(issuer)) = (choice_of(alloc, choice)?, blocks_of(alloc, issuer)?) else {
         return Ok(false);
     };
-    let trimmed = choice.trim(alloc, &issuer)?;
     Ok(
-        is_settled(choice.settle(alloc, &issuer), link.3)
-            && choice.is_within(&issuer) == link.3.is_ok()
-            && are_blocks(trimmed.as_slice(), link.4),
+        is_settled(choice.settle(alloc, &issuer), settled)
+            && choice.is_within(&issuer) == settled.is_ok()
+            && are_blocks(choice.trim(alloc, &issuer)?.as_slice(), trimmed),
     )
 }
 
 #[test]
 fn links_of_chains(rt: HostRuntime) -> Result<(), Fail> {
-    for link in link_rows() {
+    for link in LINKS {
         assert!(rt; is_link(rt.alloc(), *link)?, "{}", link.0);
     }
     Ok(())
 }
 
 /// Resources of a trust anchor, and what they settle to or the error.
-const ANCHORS: &[(Choice, Result<&[(u128, u128)], SettleError>)] = &[
-    (Choice::Missing, Ok(&[])),
-    (Choice::Inherit, Err(SettleError::Inherits)),
-    (Choice::Blocks(&[(0, u128::MAX)]), Ok(&[(0, u128::MAX)])),
+const ANCHORS: &[(Choice, Result<Set, SettleError>)] = &[
+    (Missing, Ok(&[])),
+    (Inherit, Err(Inherits)),
+    (Listed(&[(0, u128::MAX)]), Ok(&[(0, u128::MAX)])),
 ];
-
-type Anchor = (Choice, Result<&'static [(u128, u128)], SettleError>);
-
-fn anchor_rows() -> &'static [Anchor] {
-    ANCHORS
-}
-
-/// Whether the trust anchor settles as expected.
-fn is_anchor(alloc: Global, anchor: Anchor) -> Result<bool, AllocError> {
-    match choice_of(alloc, anchor.0)? {
-        Some(choice) => Ok(is_settled(choice.settle_anchor(alloc), anchor.1)),
-        None => Ok(false),
-    }
-}
 
 #[test]
 fn trust_anchors(rt: HostRuntime) -> Result<(), Fail> {
-    for anchor in anchor_rows() {
-        assert!(rt; is_anchor(rt.alloc(), *anchor)?, "{anchor:?}");
+    for (choice, expected) in ANCHORS {
+        let settles = choice_of(rt.alloc(), *choice)?.is_some_and(|anchor| is_settled(
+            anchor.settle_anchor(rt.alloc()),
+            *expected,
+        ));
+        assert!(rt; settles, "{choice:?}");
     }
     Ok(())
 }

@@ -2,32 +2,105 @@
 
 use super::*;
 
+/// Two sets, whether the one has all numbers of the other, and their intersection, their union and their difference.
+type Pair = (Set, Set, bool, Set, Set, Set);
+
+/// 40 pairs of lists of random prefixes among 32 addresses, with seed 3779, whose numbers Python's `ipaddress`
+/// enumerated; `set` compared, intersected, united and subtracted them, and `collapse_addresses` made prefixes of the
+/// results, of which those that continue one another were joined.
+#[rattlefmt::skip]
+const PAIRS: &[Pair] = &[
+    (&[(30, 30)], &[], true, &[], &[(30, 30)], &[(30, 30)]),
+    (&[(4294967264, 4294967271), (4294967290, 4294967290)],
+        &[(4294967264, 4294967267), (4294967284, 4294967287), (4294967290, 4294967291), (4294967294, 4294967295)],
+        false, &[(4294967264, 4294967267), (4294967290, 4294967290)],
+        &[(4294967264, 4294967271), (4294967284, 4294967287), (4294967290, 4294967291), (4294967294, 4294967295)],
+        &[(4294967268, 4294967271)]),
+    (&[(167772170, 167772170), (167772176, 167772191)], &[(167772160, 167772191)], false,
+        &[(167772170, 167772170), (167772176, 167772191)], &[(167772160, 167772191)], &[]),
+    (&[(0, 31)], &[(0, 31)], true, &[(0, 31)], &[(0, 31)], &[]),
+    (&[(4294967272, 4294967275), (4294967280, 4294967295)], &[(4294967276, 4294967279), (4294967288, 4294967289)],
+        false, &[(4294967288, 4294967289)], &[(4294967272, 4294967295)],
+        &[(4294967272, 4294967275), (4294967280, 4294967287), (4294967290, 4294967295)]),
+    (&[(167772160, 167772191)], &[(167772160, 167772175), (167772184, 167772184)], true,
+        &[(167772160, 167772175), (167772184, 167772184)], &[(167772160, 167772191)],
+        &[(167772176, 167772183), (167772185, 167772191)]),
+    (&[(0, 31)], &[(0, 15)], true, &[(0, 15)], &[(0, 31)], &[(16, 31)]),
+    (&[(4294967268, 4294967269)], &[(4294967272, 4294967272)], false, &[],
+        &[(4294967268, 4294967269), (4294967272, 4294967272)], &[(4294967268, 4294967269)]),
+    (&[(167772168, 167772175)], &[(167772172, 167772172)], true, &[(167772172, 167772172)], &[(167772168, 167772175)],
+        &[(167772168, 167772171), (167772173, 167772175)]),
+    (&[(0, 31)], &[(3, 3)], true, &[(3, 3)], &[(0, 31)], &[(0, 2), (4, 31)]),
+    (&[(4294967270, 4294967279), (4294967288, 4294967295)], &[(4294967270, 4294967279), (4294967292, 4294967295)], true,
+        &[(4294967270, 4294967279), (4294967292, 4294967295)], &[(4294967270, 4294967279), (4294967288, 4294967295)],
+        &[(4294967288, 4294967291)]),
+    (&[(167772168, 167772169), (167772176, 167772179), (167772188, 167772189)], &[(167772160, 167772191)], false,
+        &[(167772168, 167772169), (167772176, 167772179), (167772188, 167772189)], &[(167772160, 167772191)], &[]),
+    (&[(16, 31)], &[(0, 23)], false, &[(16, 23)], &[(0, 31)], &[(24, 31)]),
+    (&[(4294967272, 4294967295)], &[(4294967294, 4294967295)], true, &[(4294967294, 4294967295)],
+        &[(4294967272, 4294967295)], &[(4294967272, 4294967293)]),
+    (&[(167772168, 167772172)], &[(167772160, 167772175)], false, &[(167772168, 167772172)], &[(167772160, 167772175)],
+        &[]),
+    (&[(2, 2), (9, 9), (28, 31)], &[], true, &[], &[(2, 2), (9, 9), (28, 31)], &[(2, 2), (9, 9), (28, 31)]),
+    (&[(4294967264, 4294967271)], &[(4294967264, 4294967267), (4294967275, 4294967275), (4294967288, 4294967295)],
+        false, &[(4294967264, 4294967267)],
+        &[(4294967264, 4294967271), (4294967275, 4294967275), (4294967288, 4294967295)], &[(4294967268, 4294967271)]),
+    (&[(167772162, 167772163), (167772168, 167772191)], &[(167772160, 167772191)], false,
+        &[(167772162, 167772163), (167772168, 167772191)], &[(167772160, 167772191)], &[]),
+    (&[(0, 31)], &[(0, 31)], true, &[(0, 31)], &[(0, 31)], &[]),
+    (&[(4294967268, 4294967269), (4294967280, 4294967295)], &[(4294967275, 4294967275)], false, &[],
+        &[(4294967268, 4294967269), (4294967275, 4294967275), (4294967280, 4294967295)],
+        &[(4294967268, 4294967269), (4294967280, 4294967295)]),
+    (&[(167772160, 167772167), (167772180, 167772183)], &[(167772160, 167772167), (167772180, 167772183)], true,
+        &[(167772160, 167772167), (167772180, 167772183)], &[(167772160, 167772167), (167772180, 167772183)], &[]),
+    (&[(0, 31)], &[(0, 31)], true, &[(0, 31)], &[(0, 31)], &[]),
+    (&[], &[], true, &[], &[], &[]),
+    (&[], &[(167772164, 167772165), (167772176, 167772183)], false, &[],
+        &[(167772164, 167772165), (167772176, 167772183)], &[]),
+    (&[], &[(0, 31)], false, &[], &[(0, 31)], &[]),
+    (&[(4294967264, 4294967295)], &[(4294967264, 4294967271)], true, &[(4294967264, 4294967271)],
+        &[(4294967264, 4294967295)], &[(4294967272, 4294967295)]),
+    (&[(167772176, 167772176)], &[(167772160, 167772191)], false, &[(167772176, 167772176)], &[(167772160, 167772191)],
+        &[]),
+    (&[(0, 31)], &[(0, 31)], true, &[(0, 31)], &[(0, 31)], &[]),
+    (&[(4294967264, 4294967265), (4294967268, 4294967279)], &[(4294967264, 4294967295)], false,
+        &[(4294967264, 4294967265), (4294967268, 4294967279)], &[(4294967264, 4294967295)], &[]),
+    (&[(167772168, 167772171), (167772176, 167772191)], &[(167772160, 167772167)], false, &[],
+        &[(167772160, 167772171), (167772176, 167772191)], &[(167772168, 167772171), (167772176, 167772191)]),
+    (&[(0, 31)], &[(0, 31)], true, &[(0, 31)], &[(0, 31)], &[]),
+    (&[(4294967264, 4294967295)], &[(4294967290, 4294967291)], true, &[(4294967290, 4294967291)],
+        &[(4294967264, 4294967295)], &[(4294967264, 4294967289), (4294967292, 4294967295)]),
+    (&[(167772160, 167772191)], &[(167772160, 167772167)], true, &[(167772160, 167772167)], &[(167772160, 167772191)],
+        &[(167772168, 167772191)]),
+    (&[(0, 31)], &[(0, 31)], true, &[(0, 31)], &[(0, 31)], &[]),
+    (&[(4294967264, 4294967295)], &[(4294967264, 4294967295)], true, &[(4294967264, 4294967295)],
+        &[(4294967264, 4294967295)], &[]),
+    (&[(167772186, 167772186)], &[], true, &[], &[(167772186, 167772186)], &[(167772186, 167772186)]),
+    (&[(24, 31)], &[(0, 31)], false, &[(24, 31)], &[(0, 31)], &[]),
+    (&[(4294967281, 4294967281), (4294967284, 4294967287)], &[(4294967280, 4294967287)], false,
+        &[(4294967281, 4294967281), (4294967284, 4294967287)], &[(4294967280, 4294967287)], &[]),
+    (&[], &[(167772160, 167772191)], false, &[], &[(167772160, 167772191)], &[]),
+    (&[(8, 8)], &[(16, 31)], false, &[], &[(8, 8), (16, 31)], &[(8, 8)]),
+];
+
 /// Whether the operations on two sets give what is expected.
-fn is_right(alloc: Global, row: SetRow) -> Result<bool, AllocError> {
-    let (Some(one), Some(other)) = (blocks_of(alloc, row.one)?, blocks_of(alloc, row.other)?) else {
+fn is_right(alloc: Global, pair: Pair) -> Result<bool, AllocError> {
+    let (Some(one), Some(other)) = (blocks_of(alloc, pair.0)?, blocks_of(alloc, pair.1)?) else {
         return Ok(false);
     };
-    let intersection = one.intersection(alloc, &other)?;
-    let union = one.union(alloc, &other)?;
-    let difference = one.difference(alloc, &other)?;
     Ok(
-        one.encompasses(&other) == row.encompasses
-            && (one == other) == are_blocks(one.as_slice(), row.other)
-            && are_blocks(intersection.as_slice(), row.intersection)
-            && are_blocks(union.as_slice(), row.union)
-            && are_blocks(difference.as_slice(), row.difference),
+        one.encompasses(&other) == pair.2
+            && (one == other) == are_blocks(one.as_slice(), pair.1)
+            && are_blocks(one.intersection(alloc, &other)?.as_slice(), pair.3)
+            && are_blocks(one.union(alloc, &other)?.as_slice(), pair.4)
+            && are_blocks(one.difference(alloc, &other)?.as_slice(), pair.5),
     )
 }
 
 #[test]
 fn pairs_of_sets(rt: HostRuntime) -> Result<(), Fail> {
-    for row in pairs::rows() {
-        assert!(rt;
-            is_right(rt.alloc(), *row)?,
-            "{:?} {:?}",
-            row.one,
-            row.other
-        );
+    for pair in PAIRS {
+        assert!(rt; is_right(rt.alloc(), *pair)?, "{:?} {:?}", pair.0, pair.1);
     }
     Ok(())
 }
@@ -35,73 +108,27 @@ fn pairs_of_sets(rt: HostRuntime) -> Result<(), Fail> {
 const MAX: u128 = u128::MAX;
 
 /// The same at both ends of the numbers of IP version 6.
-const ENDS: &[SetRow] = &[
-    SetRow {
-        one: &[(0, MAX)],
-        other: &[(0, 0), (2, MAX - 2), (MAX, MAX)],
-        encompasses: true,
-        intersection: &[(0, 0), (2, MAX - 2), (MAX, MAX)],
-        union: &[(0, MAX)],
-        difference: &[(1, 1), (MAX - 1, MAX - 1)],
-    },
-    SetRow {
-        one: &[(0, 0), (2, MAX - 2), (MAX, MAX)],
-        other: &[(1, 1), (MAX - 1, MAX - 1)],
-        encompasses: false,
-        intersection: &[],
-        union: &[(0, MAX)],
-        difference: &[(0, 0), (2, MAX - 2), (MAX, MAX)],
-    },
-    SetRow {
-        one: &[(MAX, MAX)],
-        other: &[(0, MAX)],
-        encompasses: false,
-        intersection: &[(MAX, MAX)],
-        union: &[(0, MAX)],
-        difference: &[],
-    },
-    SetRow {
-        one: &[],
-        other: &[],
-        encompasses: true,
-        intersection: &[],
-        union: &[],
-        difference: &[],
-    },
-    SetRow {
-        one: &[(5, 9)],
-        other: &[],
-        encompasses: true,
-        intersection: &[],
-        union: &[(5, 9)],
-        difference: &[(5, 9)],
-    },
-    SetRow {
-        one: &[],
-        other: &[(5, 9)],
-        encompasses: false,
-        intersection: &[],
-        union: &[(5, 9)],
-        difference: &[],
-    },
+#[rattlefmt::skip]
+const ENDS: &[Pair] = &[
+    (&[(0, MAX)], &[(0, 0), (2, MAX - 2), (MAX, MAX)], true, &[(0, 0), (2, MAX - 2), (MAX, MAX)], &[(0, MAX)],
+        &[(1, 1), (MAX - 1, MAX - 1)]),
+    (&[(0, 0), (2, MAX - 2), (MAX, MAX)], &[(1, 1), (MAX - 1, MAX - 1)], false, &[], &[(0, MAX)],
+        &[(0, 0), (2, MAX - 2), (MAX, MAX)]),
+    (&[(MAX, MAX)], &[(0, MAX)], false, &[(MAX, MAX)], &[(0, MAX)], &[]),
+    (&[], &[], true, &[], &[], &[]),
+    (&[(5, 9)], &[], true, &[], &[(5, 9)], &[(5, 9)]),
+    (&[], &[(5, 9)], false, &[], &[(5, 9)], &[]),
 ];
-
-fn end_rows() -> &'static [SetRow] {
-    ENDS
-}
 
 #[test]
 fn sets_at_the_ends(rt: HostRuntime) -> Result<(), Fail> {
-    for row in end_rows() {
-        assert!(rt;
-            is_right(rt.alloc(), *row)?,
-            "{:?} {:?}",
-            row.one,
-            row.other
-        );
+    for pair in ENDS {
+        assert!(rt; is_right(rt.alloc(), *pair)?, "{:?} {:?}", pair.0, pair.1);
     }
     Ok(())
 }
+
+const TENS: Set = &[(10, 19), (30, 30), (40, MAX)];
 
 /// A number or a block, and whether it is in the set of 10 to 19, 30, and 40 to the last.
 const MEMBERS: &[(u128, u128, bool)] = &[
@@ -124,10 +151,6 @@ const MEMBERS: &[(u128, u128, bool)] = &[
     (0, MAX, false),
 ];
 
-fn member_rows() -> &'static [(u128, u128, bool)] {
-    MEMBERS
-}
-
 /// Whether the block is in the set as expected; and its number, where it is one.
 fn is_member(set: &Blocks, low: u128, high: u128, expected: bool) -> bool {
     if low > high {
@@ -139,24 +162,19 @@ fn is_member(set: &Blocks, low: u128, high: u128, expected: bool) -> bool {
 
 #[test]
 fn numbers_of_a_set(rt: HostRuntime) -> Result<(), Fail> {
-    let Some(set) = blocks_of(rt.alloc(), &[(10, 19), (30, 30), (40, MAX)])? else {
+    let Some(set) = blocks_of(rt.alloc(), TENS)? else {
         return Err(Fail::from(AllocError));
     };
     assert!(rt; !set.is_empty() && Blocks::empty(rt.alloc()).is_empty());
-    assert!(rt;
-        are_blocks(
-            set.clone(rt.alloc())?.as_slice(),
-            &[(10, 19), (30, 30), (40, MAX)]
-        )
-    );
-    for (low, high, expected) in member_rows() {
+    assert!(rt; are_blocks(set.clone(rt.alloc())?.as_slice(), TENS));
+    for (low, high, expected) in MEMBERS {
         assert!(rt; is_member(&set, *low, *high, *expected), "{low} {high}");
     }
     Ok(())
 }
 
 /// Blocks, and whether they are in canonical form.
-const LISTS: &[(&[(u128, u128)], bool)] = &[
+const LISTS: &[(Set, bool)] = &[
     (&[], true),
     (&[(0, 0)], true),
     (&[(0, MAX)], true),
@@ -170,17 +188,11 @@ const LISTS: &[(&[(u128, u128)], bool)] = &[
     (&[(0, MAX - 2), (MAX, MAX)], true),
 ];
 
-fn list_rows() -> &'static [(&'static [(u128, u128)], bool)] {
-    LISTS
-}
-
 #[test]
 fn canonical_lists(rt: HostRuntime) -> Result<(), Fail> {
-    for (blocks, expected) in list_rows() {
-        assert!(rt;
-            blocks_of(rt.alloc(), blocks)?.is_some() == *expected,
-            "{blocks:?}"
-        );
+    for (blocks, expected) in LISTS {
+        let found = blocks_of(rt.alloc(), blocks)?;
+        assert!(rt; found.is_some() == *expected, "{blocks:?}");
     }
     Ok(())
 }

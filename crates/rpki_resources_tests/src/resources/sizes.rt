@@ -3,72 +3,33 @@
 use super::*;
 
 /// How many blocks a list has.
-const COUNTS: [u32; 9] = [0, 1, 127, 128, 255, 256, 65_535, 65_536, 1_048_576];
+pub const COUNTS: [u32; 9] = [0, 1, 127, 128, 255, 256, 65_535, 65_536, 1_048_576];
 
-pub fn count_rows() -> &'static [u32] {
-    &COUNTS
-}
-
-/// Appends a header of this tag, for contents of so many octets.
-fn push_header(octets: &mut Vec<u8>, tag: u8, size: u32) -> Result<(), AllocError> {
+/// A value of this tag and these contents.
+fn value(alloc: Global, tag: u8, contents: &[u8]) -> Result<Vec<u8>, AllocError> {
+    let mut octets = Vec::new(alloc);
     octets.push(tag)?;
-    let digits = size.to_be_bytes();
-    if size >= 16_777_216 {
-        octets.push(0x84)?;
-        octets.push(digits[0])?;
-    } else if size >= 65_536 {
-        octets.push(0x83)?;
-    } else if size >= 256 {
-        octets.push(0x82)?;
-    } else if size >= 128 {
-        octets.push(0x81)?;
-    }
-    if size >= 65_536 {
-        octets.push(digits[1])?;
-    }
-    if size >= 256 {
-        octets.push(digits[2])?;
-    }
-    octets.push(digits[3])?;
-    Ok(())
-}
-
-/// How many octets a value of such contents has.
-fn value_size(size: u32) -> Option<u32> {
-    let header = if size < 128 {
-        2
-    } else if size < 256 {
-        3
-    } else if size < 65_536 {
-        4
-    } else if size < 16_777_216 {
-        5
+    let digits = (contents.len() as u64).to_be_bytes();
+    let zeros = digits.iter().take_while(|digit| **digit == 0).count();
+    if contents.len() >= 128 {
+        octets.push(0x80 + (8 - zeros as u8))?;
+        octets.extend_from_slice(&digits[zeros..])?;
     } else {
-        6
-    };
-    size.checked_add(header)
+        octets.push(digits[7])?;
+    }
+    octets.extend_from_slice(contents)?;
+    Ok(octets)
 }
 
 /// The contents of an extension of this many AS numbers, each two above the one before: of four octets, from 2^24 on.
 pub fn numbers(alloc: Global, count: u32) -> Result<Vec<u8>, AllocError> {
-    let Some(size) = count.checked_mul(6) else {
-        return Err(AllocError);
-    };
-    let Some(list) = value_size(size) else {
-        return Err(AllocError);
-    };
-    let Some(tagged) = value_size(list) else {
-        return Err(AllocError);
-    };
-    let mut octets = Vec::new(alloc);
-    push_header(&mut octets, 0x30, tagged)?;
-    push_header(&mut octets, 0xa0, list)?;
-    push_header(&mut octets, 0x30, size)?;
+    let mut items = Vec::new(alloc);
     for index in 0..count {
-        octets.extend_from_slice(&[2, 4])?;
-        octets.extend_from_slice(&index.wrapping_mul(2).wrapping_add(16_777_216).to_be_bytes())?;
+        items.extend_from_slice(&[2, 4])?;
+        items.extend_from_slice(&index.wrapping_mul(2).wrapping_add(16_777_216).to_be_bytes())?;
     }
-    Ok(octets)
+    let list = value(alloc, 0x30, &items)?;
+    value(alloc, 0x30, &value(alloc, 0xa0, &list)?)
 }
 
 /// Whether the set has this many blocks, of which the last has this number.
@@ -84,28 +45,25 @@ fn has_numbers(blocks: &Blocks, count: u32) -> bool {
 fn is_read(alloc: Global, count: u32) -> Result<bool, AllocError> {
     let octets = numbers(alloc, count)?;
     match AsResources::decode(alloc, octets.as_slice()) {
-        Ok(found) => match &found.numbers {
-            ResourcesChoice::Blocks(blocks) => {
-                let shared = blocks.intersection(alloc, blocks)?;
-                let both = blocks.union(alloc, blocks)?;
-                let none = blocks.difference(alloc, blocks)?;
-                Ok(
-                    has_numbers(blocks, count)
-                        && has_numbers(&shared, count)
-                        && has_numbers(&both, count)
-                        && none.is_empty(),
-                )
-            }
-            _ => Ok(false),
-        },
+        Ok(
+            AsResources {
+                numbers: ResourcesChoice::Blocks(blocks),
+            },
+        ) => Ok(
+            has_numbers(&blocks, count)
+                && has_numbers(&blocks.intersection(alloc, &blocks)?, count)
+                && has_numbers(&blocks.union(alloc, &blocks)?, count)
+                && blocks.difference(alloc, &blocks)?.is_empty(),
+        ),
+        Ok(_) => Ok(false),
         Err(e) => Ok(count == 0 && refused(&e) == Outcome::Content),
     }
 }
 
 #[test]
 fn lists_of_many_blocks(rt: HostRuntime) -> Result<(), Fail> {
-    for count in count_rows() {
-        assert!(rt; is_read(rt.alloc(), *count)?, "{count}");
+    for count in COUNTS {
+        assert!(rt; is_read(rt.alloc(), count)?, "{count}");
     }
     Ok(())
 }
@@ -119,8 +77,8 @@ fn encompass_themselves(alloc: Global, count: u32) -> Result<bool, AllocError> {
 
 #[test]
 fn contents_of_many_blocks_are_compared(rt: HostRuntime) -> Result<(), Fail> {
-    for count in count_rows() {
-        assert!(rt; encompass_themselves(rt.alloc(), *count)?, "{count}");
+    for count in COUNTS {
+        assert!(rt; encompass_themselves(rt.alloc(), count)?, "{count}");
     }
     Ok(())
 }
