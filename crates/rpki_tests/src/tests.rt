@@ -3,7 +3,6 @@
 mod algorithms;
 mod comparisons;
 mod errors;
-mod extension_encoders;
 mod extensions;
 mod identifiers;
 mod inner_errors;
@@ -21,7 +20,13 @@ mod writers;
 use bytes::Bytes;
 use rpki::crypto::Provider;
 use rpki_der::{Values, write_to_bytes};
+use rpki_der_tests::hexadecimal::octets_of;
 use std::alloc::{AllocError, Global};
+
+/// The octets that hexadecimal digits write.
+fn source_of(alloc: Global, digits: &str) -> Result<Bytes, AllocError> {
+    Ok(Bytes::from_vec(octets_of(alloc, digits)?)?)
+}
 
 /// The values that are written, where they fit.
 fn written<V: Values>(alloc: Global, values: &V) -> Result<Option<Bytes>, AllocError> {

@@ -1,15 +1,13 @@
 //! Equality, order and hashes of key identifiers, algorithms and formats; and the tags of contents.
 
 use super::algorithms::{RSA_SIGNATURE, RSA_SIGNATURE_WITHOUT};
-use super::written;
-use bytes::Bytes;
+use super::{source_of, written};
 use rpki::crypto::{
     KeyIdentifier, PublicKeyCn, PublicKeyFormat, RpkiSignatureAlgorithm, SignatureAlgorithm,
     SigningAlgorithm,
 };
 use rpki::repository::x509::SignatureValueContent;
 use rpki_der::{Constructed, PrimitiveContent, Tag};
-use std::alloc::{AllocError, Global};
 use std::cmp::Ordering;
 use std::hash::{DefaultHasher, Hash, Hasher};
 use std::test::Fail;
@@ -43,54 +41,44 @@ fn identifier_with(first: u8, last: u8) -> KeyIdentifier {
     KeyIdentifier::from(octets)
 }
 
-/// Whether it is equal to the middle, and whether it has the same hash.
-fn is_middle(other: KeyIdentifier) -> (bool, bool) {
-    let middle = KeyIdentifier::from(MIDDLE);
-    (other == middle, hash_of(&other) == hash_of(&middle))
-}
-
 #[test]
 fn identifiers_are_compared(rt: HostRuntime) {
+    let middle = KeyIdentifier::from(MIDDLE);
     for (name, first, last, order) in OTHERS {
+        let other = identifier_with(*first, *last);
+        let found = (other == middle, hash_of(&other) == hash_of(&middle));
         let same = *order == Ordering::Equal;
-        let found = is_middle(identifier_with(*first, *last));
         assert_eq!(rt; found, (same, same), "{name}");
     }
 }
 
-/// How it compares to the middle, in each of the two ways to ask.
-fn order_to_middle(other: KeyIdentifier) -> (Ordering, Option<Ordering>) {
-    let middle = KeyIdentifier::from(MIDDLE);
-    (other.cmp(&middle), other.partial_cmp(&middle))
-}
-
 #[test]
 fn identifiers_are_ordered(rt: HostRuntime) {
+    let middle = KeyIdentifier::from(MIDDLE);
     for (name, first, last, order) in OTHERS {
-        let found = order_to_middle(identifier_with(*first, *last));
-        assert_eq!(rt; found, (*order, Some(*order)), "{name}");
+        let other = identifier_with(*first, *last);
+        assert_eq!(rt; other.cmp(&middle), *order, "{name}");
+        assert_eq!(rt; other.partial_cmp(&middle), Some(*order), "{name}");
     }
 }
 
-/// Whether the algorithm that is read is equal to the one with parameters, and whether it has the same hash.
-fn compared(octets: &'static [u8]) -> Option<(bool, bool)> {
-    let source = Bytes::from_static(octets);
-    let mut cons = Constructed::new(&source);
-    let with = RpkiSignatureAlgorithm::default();
-    match RpkiSignatureAlgorithm::x509_take_from(&mut cons) {
-        Ok(found) => Some((found == with, hash_of(&found) == hash_of(&with))),
-        Err(_) => None,
-    }
-}
+/// Algorithms, and whether they are equal to the one with parameters.
+const PARAMETERS: [(&str, &str, bool); 2] = [
+    ("NULL", RSA_SIGNATURE, true),
+    ("none", RSA_SIGNATURE_WITHOUT, false),
+];
 
 #[test]
-fn parameters_count(rt: HostRuntime) {
-    assert_eq!(rt; compared(RSA_SIGNATURE), Some((true, true)), "NULL");
-    assert_eq!(rt;
-        compared(RSA_SIGNATURE_WITHOUT),
-        Some((false, false)),
-        "none"
-    );
+fn parameters_count(rt: HostRuntime) -> Result<(), Fail> {
+    let with = RpkiSignatureAlgorithm::default();
+    for (name, digits, same) in PARAMETERS {
+        let source = source_of(rt.alloc(), digits)?;
+        let found = RpkiSignatureAlgorithm::x509_take_from(&mut Constructed::new(&source));
+        let found = found.map_err(|_| name)?;
+        assert_eq!(rt; found == with, same, "{name}");
+        assert_eq!(rt; hash_of(&found) == hash_of(&with), same, "{name}");
+    }
+    Ok(())
 }
 
 #[test]
@@ -108,24 +96,17 @@ fn formats_are_compared(rt: HostRuntime) {
     }
 }
 
-/// What is written of no contents with this tag.
-fn empty_with(alloc: Global, tag: Tag) -> Result<Option<Bytes>, AllocError> {
-    written(alloc, &().encode_as(tag))
-}
-
+/// A value, its tag, and what is written of no contents with the tag.
 #[test]
 fn contents_have_tags(rt: HostRuntime) -> Result<(), Fail> {
+    let signature = <SignatureValueContent<'static, RpkiSignatureAlgorithm>>::TAG;
     let cases: [(&str, Tag, &[u8]); 3] = [
         ("key identifier", KeyIdentifier::TAG, b"\x04\x00"),
         ("name of a key", PublicKeyCn::TAG, b"\x13\x00"),
-        (
-            "signature",
-            <SignatureValueContent<'static, RpkiSignatureAlgorithm>>::TAG,
-            b"\x03\x00",
-        ),
+        ("signature", signature, b"\x03\x00"),
     ];
     for (name, tag, expected) in cases {
-        let octets = empty_with(rt.alloc(), tag)?.ok_or("too long")?;
+        let octets = written(rt.alloc(), &().encode_as(tag))?.ok_or("too long")?;
         assert_eq!(rt; octets.as_slice(), expected, "{name}");
     }
     Ok(())

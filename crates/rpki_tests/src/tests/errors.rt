@@ -32,18 +32,14 @@ fn texts_are_passed_on(rt: HostRuntime) {
     let verification = VerificationError::from(content);
     assert!(rt; is_shown(rt.alloc(), &inspection, NAME), "inspection");
     assert!(rt; is_shown(rt.alloc(), &verification, NAME), "verification");
-    let inspected = ValidationError::from(inspection);
-    assert!(rt;
-        is_shown(rt.alloc(), &inspected, NAME),
-        "validation, inspected"
-    );
-    let verified = ValidationError::from(verification);
-    assert!(rt;
-        is_shown(rt.alloc(), &verified, NAME),
-        "validation, verified"
-    );
-    let decoded = ValidationError::from(DecodeError::Content(content));
-    assert!(rt; is_shown(rt.alloc(), &decoded, NAME), "validation, decoded");
+    let decoded = DecodeError::Content(content);
+    for (name, error) in [
+        ("inspected", ValidationError::from(inspection)),
+        ("verified", ValidationError::from(verification)),
+        ("decoded", ValidationError::from(decoded)),
+    ] {
+        assert!(rt; is_shown(rt.alloc(), &error, NAME), "validation, {name}");
+    }
 }
 
 #[test]
@@ -64,66 +60,25 @@ fn allocation_failures_are_told_apart(rt: HostRuntime) {
 #[test]
 fn texts_of_objects_that_fail_verification(rt: HostRuntime) {
     let signature = VerificationError::from(SignatureVerificationError);
-    assert!(rt;
-        is_shown(rt.alloc(), &signature, "signature verification failed"),
-        "signature"
-    );
     let early = VerificationError::from(ValidityPeriodError::TooNew);
-    assert!(rt;
-        is_shown(rt.alloc(), &early, "certificate is not yet valid"),
-        "too new"
-    );
     let late = VerificationError::from(ValidityPeriodError::TooOld);
-    assert!(rt;
-        is_shown(rt.alloc(), &late, "certificate has expired"),
-        "too old"
-    );
+    for (error, text) in [
+        (signature, "signature verification failed"),
+        (early, "certificate is not yet valid"),
+        (late, "certificate has expired"),
+    ] {
+        assert!(rt; is_shown(rt.alloc(), &error, text), "{text}");
+    }
 }
 
 /// Texts, and whether errors of the same kind with these texts are equal.
+#[rattlefmt::skip]
 const PAIRS: &[(&str, &str, &str, bool)] = &[
     ("invalid name twice", NAME, NAME, true),
-    (
-        "invalid and missing name",
-        NAME,
-        "missing common name",
-        false,
-    ),
-    (
-        "missing and invalid name",
-        "missing common name",
-        NAME,
-        false,
-    ),
-    (
-        "missing name twice",
-        "missing common name",
-        "missing common name",
-        true,
-    ),
+    ("invalid and missing name", NAME, "missing common name", false),
+    ("missing and invalid name", "missing common name", NAME, false),
+    ("missing name twice", "missing common name", "missing common name", true),
 ];
-
-/// Whether inspections with these contents are equal.
-fn inspections_equal(one: ContentError, other: ContentError) -> bool {
-    InspectionError::from(one) == InspectionError::from(other)
-}
-
-/// Whether verifications with these contents are equal.
-fn verifications_equal(one: ContentError, other: ContentError) -> bool {
-    VerificationError::from(one) == VerificationError::from(other)
-}
-
-/// Whether validations are equal that failed at inspections with these contents.
-fn validations_equal(one: ContentError, other: ContentError) -> bool {
-    let inspected = ValidationError::from(InspectionError::from(one));
-    inspected == ValidationError::from(InspectionError::from(other))
-}
-
-/// Whether a validation that failed at an inspection is another than one that failed at a verification.
-fn kinds_differ(one: ContentError, other: ContentError) -> bool {
-    let inspected = ValidationError::from(InspectionError::from(one));
-    inspected != ValidationError::from(VerificationError::from(other))
-}
 
 /// Equal where the kind and the text are.
 #[test]
@@ -131,21 +86,22 @@ fn errors_are_compared(rt: HostRuntime) {
     for (name, first, second, same) in PAIRS {
         let one = ContentError::from_static(first);
         let other = ContentError::from_static(second);
-        assert_eq!(rt; inspections_equal(one, other), *same, "inspections: {name}");
-        assert_eq!(rt;
-            verifications_equal(one, other),
-            *same,
-            "verifications: {name}"
-        );
+        let found = InspectionError::from(one) == InspectionError::from(other);
+        assert_eq!(rt; found, *same, "inspections: {name}");
+        let found = VerificationError::from(one) == VerificationError::from(other);
+        assert_eq!(rt; found, *same, "verifications: {name}");
     }
 }
 
 #[test]
 fn validations_are_compared(rt: HostRuntime) {
     for (name, first, second, same) in PAIRS {
-        let one = ContentError::from_static(first);
+        let one = InspectionError::from(ContentError::from_static(first));
+        let one = ValidationError::from(one);
         let other = ContentError::from_static(second);
-        assert_eq!(rt; validations_equal(one, other), *same, "inside: {name}");
-        assert!(rt; kinds_differ(one, other), "kinds: {name}");
+        let inspected = ValidationError::from(InspectionError::from(other));
+        assert_eq!(rt; one == inspected, *same, "inside: {name}");
+        let verified = ValidationError::from(VerificationError::from(other));
+        assert!(rt; one != verified, "kinds: {name}");
     }
 }

@@ -6,21 +6,18 @@ ghost use Rattle.rpki_der.specs.Format.{Takes};
 ghost use Rattle.rpki.specs.AlgorithmFault.{bare};
 
 use super::Always;
-use super::keys::decoded;
-use super::signed_data::{decoded_by, is_written_as};
+use super::keys::{KEY_OF_ABC, P256_KEY, decoded};
+use super::signed_data::{SIGNED, SIGNED_WITH_COUNT, decoded_by, is_written_as};
 use bytes::Bytes;
 use rpki::crypto::{
-    BgpsecSignatureAlgorithm, Provider, PublicKey, RpkiSignature, RpkiSignatureAlgorithm,
-    Signature, SignatureAlgorithm, SigningAlgorithm,
+    BgpsecSignatureAlgorithm, Provider, RpkiSignature, RpkiSignatureAlgorithm, Signature,
+    SignatureAlgorithm, SigningAlgorithm,
 };
-use rpki::repository::x509::SignedData;
 use rpki_der::{ConstOid, Constructed, DecodeError, Oid, Primitive, PrimitiveContent, Sequence};
-use std::alloc::Global;
 use std::marker::Model;
 use std::test::Fail;
 
-const BGPSEC: &[u8] =
-    b"\x30\x12\x30\x00\x30\x0A\x06\x08\x2A\x86\x48\xCE\x3D\x04\x03\x02\x03\x02\x00\xAA";
+const BGPSEC: &str = "30123000300a06082a8648ce3d040302030200aa";
 
 #[test]
 fn bgpsec_signed_data_is_written_again(rt: HostRuntime) -> Result<(), Fail> {
@@ -88,7 +85,7 @@ impl SignatureAlgorithm for OwnAlgorithm {
     }
 }
 
-const OWN: &[u8] = b"\x30\x0C\x30\x00\x30\x04\x06\x02\x2A\x03\x03\x02\x00\xAA";
+const OWN: &str = "300c3000300406022a03030200aa";
 
 #[test]
 fn signed_data_of_an_own_algorithm_is_written_again(rt: HostRuntime) -> Result<(), Fail> {
@@ -143,95 +140,46 @@ impl Provider for Table {
     }
 }
 
-const KEY_OF_ABC: &[u8] =
-    b"\x30\x15\x30\x0D\x06\x09\x2A\x86\x48\x86\xF7\x0D\x01\x01\x01\x05\x00\x03\x04\x00\x61\x62\x63";
-
-const P256_KEY: &[u8] =
-    b"\x30\x1A\x30\x13\x06\x07\x2A\x86\x48\xCE\x3D\x02\x01\x06\x08\x2A\x86\x48\xCE\x3D\x03\x01\x07\x03\x03\x00\x04\x01";
-
-const SIGNED: &[u8] =
-    b"\x30\x15\x30\x00\x30\x0D\x06\x09\x2A\x86\x48\x86\xF7\x0D\x01\x01\x0B\x05\x00\x03\x02\x00\xAA";
-
-const SIGNED_WITH_COUNT: &[u8] =
-    b"\x30\x15\x30\x00\x30\x0D\x06\x09\x2A\x86\x48\x86\xF7\x0D\x01\x01\x0B\x05\x00\x03\x02\x01\xAA";
-
-const CASES: &[(&str, &[u8], &[Triple], bool)] = &[
-    (
-        "no unused bit",
-        SIGNED,
-        &[(b"abc", b"\x30\x00", b"\xAA")],
-        true,
-    ),
-    (
-        "an unused bit",
-        SIGNED_WITH_COUNT,
-        &[(b"abc", b"\x30\x00", b"\xAA")],
-        true,
-    ),
+/// A name, signed data, the table of a provider, and whether the RSA key of `abc` verifies the signature.
+#[rattlefmt::skip]
+const CASES: &[(&str, &str, &[Triple], bool)] = &[
+    ("no unused bit", SIGNED, &[(b"abc", b"\x30\x00", b"\xAA")], true),
+    ("an unused bit", SIGNED_WITH_COUNT, &[(b"abc", b"\x30\x00", b"\xAA")], true),
     ("empty table", SIGNED, &[], false),
     ("an unused bit, empty table", SIGNED_WITH_COUNT, &[], false),
-    (
-        "the whole input for the slice",
-        SIGNED,
-        &[(b"abc", SIGNED, b"\xAA")],
-        false,
-    ),
+    ("the whole input for the slice", SIGNED, &[(b"abc", WHOLE, b"\xAA")], false),
 ];
 
-/// Whether signed data of any algorithm is verified with the key, as the provider says.
-fn is_accepted<Alg: SignatureAlgorithm, P: Provider>(
-    signed: &SignedData<Alg>,
-    provider: &P,
-    key: &PublicKey,
-) -> bool {
-    signed.verify_signature(provider, key).is_ok()
-}
-
-/// Whether the signed data is verified with the RSA key of `abc`, by a provider with this table.
-fn is_verified(
-    alloc: Global,
-    octets: &'static [u8],
-    triples: &'static [Triple],
-) -> Result<bool, DecodeError> {
-    let key = decoded(alloc, KEY_OF_ABC)?;
-    let signed = decoded_by::<RpkiSignatureAlgorithm>(alloc, octets)?;
-    Ok(is_accepted(&signed, &Table { triples }, &key))
-}
+/// The octets of SIGNED.
+const WHOLE: &[u8] =
+    b"\x30\x15\x30\x00\x30\x0D\x06\x09\x2A\x86\x48\x86\xF7\x0D\x01\x01\x0B\x05\x00\x03\x02\x00\xAA";
 
 #[test]
 fn signed_data_is_verified_over_its_slice(rt: HostRuntime) -> Result<(), Fail> {
-    for (name, octets, triples, expected) in CASES {
-        let verified = is_verified(rt.alloc(), octets, triples)?;
+    let key = decoded(rt.alloc(), KEY_OF_ABC)?;
+    for (name, digits, triples, expected) in CASES {
+        let signed = decoded_by::<RpkiSignatureAlgorithm>(rt.alloc(), digits)?;
+        let verified = signed.verify_signature(&Table { triples }, &key).is_ok();
         assert_eq!(rt; verified, *expected, "{name}");
     }
     Ok(())
 }
 
-/// A key, what the provider answers, and whether the signature is verified.
-const ANSWERS: &[(&str, &[u8], bool, bool)] = &[
+/// A key, what the provider answers, and whether an RSA signature is verified.
+const ANSWERS: &[(&str, &str, bool, bool)] = &[
     ("P-256 key", P256_KEY, true, false),
     ("RSA key, rejected", KEY_OF_ABC, false, false),
     ("RSA key", KEY_OF_ABC, true, true),
 ];
 
-/// Whether an RSA signature is verified with the key, by a provider that answers the same to all.
-fn is_verified_by(alloc: Global, answer: bool, octets: &'static [u8]) -> Result<bool, DecodeError> {
-    let key = decoded(alloc, octets)?;
-    let signature: RpkiSignature = Signature::new(
-        RpkiSignatureAlgorithm::default(),
-        Bytes::from_static(b"\xAA"),
-    );
-    Ok(
-        key.verify(&Always { answer }, b"message", &signature)
-            .is_ok(),
-    )
-}
-
 #[test]
 fn keys_of_another_format_verify_nothing(rt: HostRuntime) -> Result<(), Fail> {
-    for (name, octets, answer, expected) in ANSWERS {
-        let verified = is_verified_by(rt.alloc(), *answer, octets)?;
-        assert_eq!(rt; verified, *expected, "{name}");
+    let algorithm = RpkiSignatureAlgorithm::default();
+    let signature: RpkiSignature = Signature::new(algorithm, Bytes::from_static(b"\xAA"));
+    for (name, digits, answer, expected) in ANSWERS {
+        let key = decoded(rt.alloc(), digits)?;
+        let found = key.verify(&Always { answer: *answer }, b"message", &signature);
+        assert_eq!(rt; found.is_ok(), *expected, "{name}");
     }
     Ok(())
 }

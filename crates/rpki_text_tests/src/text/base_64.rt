@@ -4,7 +4,7 @@ use super::shown;
 use rpki_text::util::base_64::{
     Base64Error, DecodeError, DecodeSliceError, Serde, Slurm, Xml, XmlDecodeError,
 };
-use std::alloc::{AllocError, Global};
+use std::alloc::Global;
 use std::error::Error;
 use std::io;
 use std::test::Fail;
@@ -42,92 +42,61 @@ const XML_TEXTS: [(&str, Decoded); 10] = [
     (" Z\u{e9}", Err(DecodeError::InvalidByte(1, 195))),
 ];
 
-fn reads_xml(alloc: Global, octets: &[u8], want: Decoded) -> bool {
-    is_decoded_xml(Xml.decode_bytes(alloc, octets), want)
-}
-
-fn reads_xml_text(alloc: Global, text: &str, want: Decoded) -> bool {
-    is_decoded_xml(Xml.decode(alloc, text), want)
-}
-
 #[test]
 fn xml_texts(rt: HostRuntime) {
     for (text, want) in XML_TEXTS {
-        assert!(rt; reads_xml_text(rt.alloc(), text, want), "{text}");
+        let found = Xml.decode(rt.alloc(), text);
+        assert!(rt; is_decoded_xml(found, want), "{text}");
     }
 }
 
 #[test]
 fn octets_of_xml_texts(rt: HostRuntime) {
     for (text, want) in XML_TEXTS {
-        assert!(rt; reads_xml(rt.alloc(), text.as_bytes(), want), "{text}");
+        let found = Xml.decode_bytes(rt.alloc(), text.as_bytes());
+        assert!(rt; is_decoded_xml(found, want), "{text}");
     }
 }
 
 /// Octets that are no text.
+#[rattlefmt::skip]
 const XML_OCTETS: [(&str, &[u8], Decoded); 2] = [
-    (
-        "FF after a letter",
-        b"\x5A\xFF",
-        Err(DecodeError::InvalidByte(1, 255)),
-    ),
-    (
-        "FF after spaces and a letter",
-        b" \n\x5A\xFF",
-        Err(DecodeError::InvalidByte(3, 255)),
-    ),
+    ("FF after a letter", b"\x5A\xFF", Err(DecodeError::InvalidByte(1, 255))),
+    ("FF after spaces and a letter", b" \n\x5A\xFF", Err(DecodeError::InvalidByte(3, 255))),
 ];
 
 #[test]
 fn other_octets_of_xml(rt: HostRuntime) {
     for (name, octets, want) in XML_OCTETS {
-        assert!(rt; reads_xml(rt.alloc(), octets, want), "{name}");
+        let found = Xml.decode_bytes(rt.alloc(), octets);
+        assert!(rt; is_decoded_xml(found, want), "{name}");
     }
 }
 
 /// A text, and what it is decoded to by Serde and by Slurm.
+#[rattlefmt::skip]
 const OTHER_TEXTS: [(&str, Decoded, Decoded); 8] = [
-    (
-        "-_8",
-        Err(DecodeError::InvalidByte(0, 45)),
-        Ok(&[0xFB, 0xFF]),
-    ),
-    (
-        "+/8=",
-        Ok(&[0xFB, 0xFF]),
-        Err(DecodeError::InvalidByte(0, 43)),
-    ),
+    ("-_8", Err(DecodeError::InvalidByte(0, 45)), Ok(&[0xFB, 0xFF])),
+    ("+/8=", Ok(&[0xFB, 0xFF]), Err(DecodeError::InvalidByte(0, 43))),
     ("Zg", Err(DecodeError::InvalidPadding), Ok(b"f")),
     ("Zg==", Ok(b"f"), Ok(b"f")),
     ("Zm9v", Ok(b"foo"), Ok(b"foo")),
     ("Zm8=", Ok(b"fo"), Ok(b"fo")),
-    (
-        "Zm9v\n",
-        Err(DecodeError::InvalidByte(4, 10)),
-        Err(DecodeError::InvalidByte(4, 10)),
-    ),
+    ("Zm9v\n", Err(DecodeError::InvalidByte(4, 10)), Err(DecodeError::InvalidByte(4, 10))),
     ("", Ok(b""), Ok(b"")),
 ];
-
-fn reads_serde(alloc: Global, text: &str, want: Decoded) -> bool {
-    is_decoded(Serde.decode(alloc, text), want)
-}
-
-fn reads_slurm(alloc: Global, text: &str, want: Decoded) -> bool {
-    is_decoded(Slurm.decode(alloc, text), want)
-}
 
 #[test]
 fn serde_texts(rt: HostRuntime) {
     for (text, want, _) in OTHER_TEXTS {
-        assert!(rt; reads_serde(rt.alloc(), text, want), "{text}");
+        assert!(rt; is_decoded(Serde.decode(rt.alloc(), text), want), "{text}");
     }
 }
 
 #[test]
 fn slurm_texts(rt: HostRuntime) {
     for (text, _, want) in OTHER_TEXTS {
-        assert!(rt; reads_slurm(rt.alloc(), text, want), "{text}");
+        assert!(rt; is_decoded(Slurm.decode(rt.alloc(), text), want), "{text}");
     }
 }
 
@@ -139,31 +108,6 @@ const ENCODINGS: [(&[u8], &str, &str); 4] = [
     (b"", "", ""),
 ];
 
-/// Whether the text was made, and is this one.
-fn is_made(made: Result<String, AllocError>, want: &str) -> bool {
-    match made {
-        Ok(text) => text.as_str() == want,
-        Err(_) => false,
-    }
-}
-
-fn writes_xml(alloc: Global, octets: &[u8], want: &str) -> bool {
-    is_made(Xml.encode(alloc, octets), want)
-}
-
-fn writes_serde(alloc: Global, octets: &[u8], want: &str) -> bool {
-    is_made(Serde.encode(alloc, octets), want)
-}
-
-fn writes_slurm(alloc: Global, octets: &[u8], want: &str) -> bool {
-    is_made(Slurm.encode(alloc, octets), want)
-}
-
-/// Whether Display prints this.
-fn prints_slurm(alloc: Global, octets: &[u8], want: &str) -> Result<bool, Fail> {
-    Ok(shown(alloc, Slurm.display(octets))?.as_str() == want)
-}
-
 /// The text that Slurm writes.
 fn written(alloc: Global, octets: &[u8]) -> io::Result<Vec<u8>> {
     let mut out: Vec<u8> = Vec::new(alloc);
@@ -171,53 +115,41 @@ fn written(alloc: Global, octets: &[u8]) -> io::Result<Vec<u8>> {
     Ok(out)
 }
 
-fn is_written(alloc: Global, octets: &[u8], want: &str) -> io::Result<bool> {
-    Ok(written(alloc, octets)?.as_slice() == want.as_bytes())
-}
-
 #[test]
-fn encodings(rt: HostRuntime) {
+fn encodings(rt: HostRuntime) -> Result<(), Fail> {
     for (octets, want, _) in ENCODINGS {
-        assert!(rt; writes_xml(rt.alloc(), octets, want), "XML {want}");
-        assert!(rt; writes_serde(rt.alloc(), octets, want), "Serde {want}");
+        let text = Xml.encode(rt.alloc(), octets)?;
+        assert!(rt; text.as_str() == want, "XML {want}");
+        let text = Serde.encode(rt.alloc(), octets)?;
+        assert!(rt; text.as_str() == want, "Serde {want}");
     }
+    Ok(())
 }
 
 #[test]
 fn encodings_by_slurm(rt: HostRuntime) -> Result<(), Fail> {
     for (octets, _, want) in ENCODINGS {
-        assert!(rt; writes_slurm(rt.alloc(), octets, want), "{want}");
-        assert!(rt;
-            prints_slurm(rt.alloc(), octets, want)?,
-            "{want} as printed"
-        );
+        let text = Slurm.encode(rt.alloc(), octets)?;
+        assert!(rt; text.as_str() == want, "{want}");
+        let printed = shown(rt.alloc(), Slurm.display(octets))?;
+        assert!(rt; printed.as_str() == want, "{want} as printed");
+        let text = written(rt.alloc(), octets)?;
+        assert!(rt; text.as_slice() == want.as_bytes(), "{want} as written");
     }
     Ok(())
 }
 
-#[test]
-fn encodings_that_slurm_writes(rt: HostRuntime) -> Result<(), Fail> {
-    for (octets, _, want) in ENCODINGS {
-        assert!(rt; is_written(rt.alloc(), octets, want)?, "{want}");
-    }
-    Ok(())
-}
-
-/// So many octets that are zero, and how many digits they have: four for three octets, two more for one and three more
-/// for two.
+/// So many octets that are zero, and how many digits they have, each that of six zero bits: four for three octets, two
+/// more for one and three more for two.
 const ZEROS: [(usize, usize); 4] = [(767, 1023), (768, 1024), (769, 1026), (1537, 2050)];
-
-/// Whether the text of so many zero octets has so many digits, each that of six zero bits.
-fn are_zeros(alloc: Global, octets: usize, digits: usize) -> Result<bool, Fail> {
-    let zeros = vec![in alloc; 0u8; octets]?;
-    let out = written(alloc, zeros.as_slice())?;
-    Ok(out.len() == digits && out.iter().all(|digit| *digit == b'A'))
-}
 
 #[test]
 fn long_encodings(rt: HostRuntime) -> Result<(), Fail> {
     for (octets, digits) in ZEROS {
-        assert!(rt; are_zeros(rt.alloc(), octets, digits)?, "{octets} octets");
+        let zeros = vec![in rt.alloc(); 0u8; octets]?;
+        let text = written(rt.alloc(), zeros.as_slice())?;
+        let expected = vec![in rt.alloc(); b'A'; digits]?;
+        assert!(rt; text.as_slice() == expected.as_slice(), "{octets} octets");
     }
     Ok(())
 }
@@ -264,23 +196,18 @@ fn slices(rt: HostRuntime) {
     }
 }
 
+const REFUSED: Base64Error = Base64Error::Refused(DecodeError::InvalidPadding);
+
+/// The text of an error.
 fn error_text<E: Error + Drop>(alloc: Global, error: E) -> Result<String, Fail> {
     shown(alloc, error)
 }
 
-const REFUSED: Base64Error = Base64Error::Refused(DecodeError::InvalidPadding);
-
 #[test]
-fn errors_of_memory_have_a_text(rt: HostRuntime) -> Result<(), Fail> {
+fn errors_have_texts(rt: HostRuntime) -> Result<(), Fail> {
     let memory = error_text(rt.alloc(), Base64Error::OutOfMemory)?;
     assert!(rt; memory.as_str() == "out of memory");
-    Ok(())
-}
-
-#[test]
-fn refusals_have_a_text(rt: HostRuntime) -> Result<(), Fail> {
-    let refused = error_text(rt.alloc(), REFUSED)?;
-    assert!(rt; !refused.is_empty());
+    assert!(rt; !error_text(rt.alloc(), REFUSED)?.is_empty());
     Ok(())
 }
 
@@ -290,7 +217,6 @@ fn errors_of_xml_have_texts(rt: HostRuntime) -> Result<(), Fail> {
         return Err(Fail::from("read without padding"));
     };
     assert!(rt; *error.cause() == REFUSED);
-    let refused = error_text(rt.alloc(), error)?;
-    assert!(rt; !refused.is_empty());
+    assert!(rt; !error_text(rt.alloc(), error)?.is_empty());
     Ok(())
 }

@@ -1,7 +1,6 @@
 //! URIs that were read before, by the places of their parts.
 
 use rpki_text::uri::{Error, HttpsCut, HttpsView, Joined, RsyncCut, RsyncView};
-use std::test::Fail;
 
 /// The authority, the module's name and the path.
 fn rsync_parts(text: &str, module: usize, path: usize) -> Option<(&[u8], &[u8], &[u8])> {
@@ -25,10 +24,7 @@ const RSYNC_PARTS: [(&str, usize, usize, Option<(&str, &str, &str)>); 9] = [
 #[test]
 fn rsync_parts_are_cut(rt: HostRuntime) {
     for (text, module, path, want) in RSYNC_PARTS {
-        let want = match want {
-            Some((a, m, p)) => Some((a.as_bytes(), m.as_bytes(), p.as_bytes())),
-            None => None,
-        };
+        let want = want.map(|(a, m, p)| (a.as_bytes(), m.as_bytes(), p.as_bytes()));
         let found = rsync_parts(text, module, path);
         assert!(rt; found == want, "{text} at {module} and {path}");
     }
@@ -56,8 +52,7 @@ const COMPARED: [(&str, &str, (bool, bool, bool)); 5] = [
 #[test]
 fn cuts_are_compared(rt: HostRuntime) {
     for (text, other, want) in COMPARED {
-        let found = compared(text, other);
-        assert!(rt; found == Some(want), "{text} and {other}");
+        assert!(rt; compared(text, other) == Some(want), "{text} and {other}");
     }
 }
 
@@ -133,12 +128,8 @@ const HTTPS_PARTS: [(&str, usize, Option<(&str, &str, Option<usize>)>); 6] = [
 #[test]
 fn https_parts_are_cut(rt: HostRuntime) {
     for (text, path, want) in HTTPS_PARTS {
-        let want = match want {
-            Some((a, p, parent)) => Some((a.as_bytes(), p.as_bytes(), parent)),
-            None => None,
-        };
-        let found = https_parts(text, path);
-        assert!(rt; found == want, "{text} at {path}");
+        let want = want.map(|(a, p, parent)| (a.as_bytes(), p.as_bytes(), parent));
+        assert!(rt; https_parts(text, path) == want, "{text} at {path}");
     }
 }
 
@@ -155,29 +146,12 @@ fn https_answers(text: &str, other: &str, joined: &str, dir: &str) -> Option<(bo
     ))
 }
 
+#[rattlefmt::skip]
 const HTTPS_ANSWERS: [(&str, &str, &str, &str, bool); 4] = [
-    (
-        "https://h/a",
-        "HTTPS://H/a",
-        "https://h/a/b",
-        "https://h/a/",
-        true,
-    ),
-    (
-        "https://h/a/",
-        "https://h/a",
-        "https://h/a/b",
-        "https://h/a/",
-        false,
-    ),
+    ("https://h/a", "HTTPS://H/a", "https://h/a/b", "https://h/a/", true),
+    ("https://h/a/", "https://h/a", "https://h/a/b", "https://h/a/", false),
     ("https://h", "https://i", "https://h/b", "https://h", false),
-    (
-        "https://h/",
-        "https://h/",
-        "https://h/b",
-        "https://h/",
-        true,
-    ),
+    ("https://h/", "https://h/", "https://h/b", "https://h/", true),
 ];
 
 #[test]

@@ -67,30 +67,14 @@ fn write<V: Values>(values: &V, out: &mut Failing) -> Result<io::Result<()>, Fai
     Ok(values.write_encoded(out))
 }
 
-fn encode_rsync(alloc: Global, is_name: bool, out: &mut Failing) -> Result<io::Result<()>, Fail> {
-    let uri = Rsync::from_str(alloc, RSYNC)?;
-    if is_name {
-        write(&uri.encode_general_name(), out)
-    } else {
-        write(&(&uri).encode(), out)
-    }
-}
-
-fn encode_https(alloc: Global, is_name: bool, out: &mut Failing) -> Result<io::Result<()>, Fail> {
-    let uri = Https::from_str(alloc, HTTPS)?;
-    if is_name {
-        write(&uri.encode_general_name(), out)
-    } else {
-        write(&(&uri).encode(), out)
-    }
-}
-
 fn encode(alloc: Global, encoder: Encoder, out: &mut Failing) -> Result<io::Result<()>, Fail> {
+    let rsync = Rsync::from_str(alloc, RSYNC)?;
+    let https = Https::from_str(alloc, HTTPS)?;
     match encoder {
-        Encoder::RsyncString => encode_rsync(alloc, false, out),
-        Encoder::RsyncName => encode_rsync(alloc, true, out),
-        Encoder::HttpsString => encode_https(alloc, false, out),
-        Encoder::HttpsName => encode_https(alloc, true, out),
+        Encoder::RsyncString => write(&(&rsync).encode(), out),
+        Encoder::RsyncName => write(&rsync.encode_general_name(), out),
+        Encoder::HttpsString => write(&(&https).encode(), out),
+        Encoder::HttpsName => write(&https.encode_general_name(), out),
         Encoder::Slurm => Ok(Slurm.write_encoded_slice(&[0; 800], out)),
     }
 }

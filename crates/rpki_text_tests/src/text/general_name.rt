@@ -1,7 +1,7 @@
 //! URIs as general names and as IA5Strings.
 
 use bytes::Bytes;
-use rpki_der::{Captured, Constructed, PrimitiveContent, Tag, Values};
+use rpki_der::{Captured, Constructed, DecodeError, PrimitiveContent, Tag, Values};
 use rpki_der_tests::kinds::{Outcome, refused};
 use rpki_text::uri::{Error, Https, Rsync};
 use std::alloc::Global;
@@ -22,21 +22,11 @@ fn captured<V: Values>(alloc: Global, values: &V) -> Result<Option<Captured>, Er
     Ok(Some(Captured::from_values(alloc, values)?))
 }
 
-fn rsync_name(alloc: Global, text: &str) -> Result<Option<Captured>, Error> {
-    let uri = Rsync::from_str(alloc, text)?;
-    captured(alloc, &uri.encode_general_name())
-}
-
-fn https_name(alloc: Global, text: &str) -> Result<Option<Captured>, Error> {
-    let uri = Https::from_str(alloc, text)?;
-    captured(alloc, &uri.encode_general_name())
-}
-
 /// The general name of the text, by whichever of the two reads it.
 fn general_name(alloc: Global, text: &str) -> Result<Option<Captured>, Error> {
-    match rsync_name(alloc, text) {
-        Ok(name) => Ok(name),
-        Err(_) => https_name(alloc, text),
+    match Rsync::from_str(alloc, text) {
+        Ok(uri) => captured(alloc, &uri.encode_general_name()),
+        Err(_) => captured(alloc, &Https::from_str(alloc, text)?.encode_general_name()),
     }
 }
 
@@ -46,21 +36,11 @@ const STRINGS: [(&str, &[u8]); 2] = [
     ("hTtps://eXample.com/some", &[0x16, 0x18]),
 ];
 
-fn rsync_string(alloc: Global, text: &str) -> Result<Option<Captured>, Error> {
-    let uri = Rsync::from_str(alloc, text)?;
-    captured(alloc, &(&uri).encode())
-}
-
-fn https_string(alloc: Global, text: &str) -> Result<Option<Captured>, Error> {
-    let uri = Https::from_str(alloc, text)?;
-    captured(alloc, &(&uri).encode())
-}
-
 /// The IA5String of the text, by whichever of the two reads it.
 fn ia5_string(alloc: Global, text: &str) -> Result<Option<Captured>, Error> {
-    match rsync_string(alloc, text) {
-        Ok(string) => Ok(string),
-        Err(_) => https_string(alloc, text),
+    match Rsync::from_str(alloc, text) {
+        Ok(uri) => captured(alloc, &(&uri).encode()),
+        Err(_) => captured(alloc, &(&Https::from_str(alloc, text)?).encode()),
     }
 }
 
@@ -88,137 +68,54 @@ fn general_names(rt: HostRuntime) {
     }
 }
 
-/// A name, the octets, the texts that are read as an rsync and as an https URI, and how many octets each leaves.
-type Name = (
-    &'static str,
-    &'static [u8],
-    Result<&'static str, Outcome>,
-    usize,
-    Result<&'static str, Outcome>,
-    usize,
-);
+/// A text that is read, or the error.
+type Read = Result<&'static str, Outcome>;
 
-const READ: &[Name] = &[
-    (
-        "an rsync URI, and an octet",
-        b"\x86\x14rSync://hOst/module/\x05",
-        Ok("rSync://hOst/module/"),
-        1,
-        Err(Outcome::Content),
-        23,
-    ),
-    (
-        "an https URI",
-        b"\x86\x18hTtps://eXample.com/some",
-        Err(Outcome::Content),
-        26,
-        Ok("hTtps://eXample.com/some"),
-        0,
-    ),
-    (
-        "an http URI",
-        b"\x86\x08http://a",
-        Err(Outcome::Content),
-        10,
-        Err(Outcome::Content),
-        10,
-    ),
-    (
-        "a DNS name",
-        b"\x82\x08https://",
-        Err(Outcome::Unexpected),
-        10,
-        Err(Outcome::Unexpected),
-        10,
-    ),
-    (
-        "an IA5String",
-        b"\x16\x08https://",
-        Err(Outcome::Unexpected),
-        10,
-        Err(Outcome::Unexpected),
-        10,
-    ),
-    (
-        "constructed",
-        b"\xa6\x08https://",
-        Err(Outcome::Unexpected),
-        10,
-        Err(Outcome::Unexpected),
-        10,
-    ),
-    (
-        "cut short",
-        b"\x86\x09https://",
-        Err(Outcome::Truncated),
-        10,
-        Err(Outcome::Truncated),
-        10,
-    ),
-    (
-        "nothing",
-        b"",
-        Err(Outcome::Truncated),
-        0,
-        Err(Outcome::Truncated),
-        0,
-    ),
+/// A name, the octets, and the texts of the rsync and of the https URI, each with how many octets remain.
+#[rattlefmt::skip]
+const READ: &[(&str, &[u8], Read, usize, Read, usize)] = &[
+    ("an rsync URI, and an octet", b"\x86\x14rSync://hOst/module/\x05", Ok("rSync://hOst/module/"), 1,
+        Err(Outcome::Content), 23),
+    ("an https URI", b"\x86\x18hTtps://eXample.com/some", Err(Outcome::Content), 26, Ok("hTtps://eXample.com/some"), 0),
+    ("an http URI", b"\x86\x08http://a", Err(Outcome::Content), 10, Err(Outcome::Content), 10),
+    ("a DNS name", b"\x82\x08https://", Err(Outcome::Unexpected), 10, Err(Outcome::Unexpected), 10),
+    ("an IA5String", b"\x16\x08https://", Err(Outcome::Unexpected), 10, Err(Outcome::Unexpected), 10),
+    ("constructed", b"\xa6\x08https://", Err(Outcome::Unexpected), 10, Err(Outcome::Unexpected), 10),
+    ("cut short", b"\x86\x09https://", Err(Outcome::Truncated), 10, Err(Outcome::Truncated), 10),
+    ("nothing", b"", Err(Outcome::Truncated), 0, Err(Outcome::Truncated), 0),
 ];
 
-fn read_rows() -> &'static [Name] {
-    READ
+/// Whether this was read, or refused.
+fn is_read(found: Result<&str, &DecodeError>, expected: Read) -> bool {
+    match (found, expected) {
+        (Ok(found), Ok(text)) => found == text,
+        (Err(e), Err(outcome)) => refused(e) == outcome,
+        _ => false,
+    }
 }
 
 /// Whether the cursor gives the URI, or the kind of the error, and leaves so many octets.
-fn is_rsync(
-    alloc: Global,
-    mut cursor: Constructed<'_>,
-    text: Result<&'static str, Outcome>,
-    left: usize,
-) -> bool {
-    let same = match (Rsync::take_general_name(alloc, &mut cursor), text) {
-        (Ok(uri), Ok(text)) => uri.as_slice() == text.as_bytes(),
-        (Err(e), Err(outcome)) => refused(&e) == outcome,
-        _ => false,
-    };
-    same && cursor.rest().len() == left
+fn is_rsync(alloc: Global, mut cursor: Constructed<'_>, expected: Read, left: usize) -> bool {
+    let uri = Rsync::take_general_name(alloc, &mut cursor);
+    is_read(uri.as_ref().map(|uri| uri.as_str()), expected) && cursor.rest().len() == left
 }
 
-fn is_https(
-    alloc: Global,
-    mut cursor: Constructed<'_>,
-    text: Result<&'static str, Outcome>,
-    left: usize,
-) -> bool {
-    let same = match (Https::take_general_name(alloc, &mut cursor), text) {
-        (Ok(uri), Ok(text)) => uri.as_slice() == text.as_bytes(),
-        (Err(e), Err(outcome)) => refused(&e) == outcome,
-        _ => false,
-    };
-    same && cursor.rest().len() == left
+fn is_https(alloc: Global, mut cursor: Constructed<'_>, expected: Read, left: usize) -> bool {
+    let uri = Https::take_general_name(alloc, &mut cursor);
+    is_read(uri.as_ref().map(|uri| uri.as_str()), expected) && cursor.rest().len() == left
 }
 
 #[test]
 fn general_names_are_read(rt: HostRuntime) {
-    for (name, octets, rsync, rsync_left, https, https_left) in read_rows() {
+    let alloc = rt.alloc();
+    for (name, octets, rsync, rsync_left, https, https_left) in READ {
         let source: Bytes = Bytes::from_static(octets);
-        let alloc = rt.alloc();
-        assert!(rt;
-            is_rsync(alloc, Constructed::new(&source), *rsync, *rsync_left),
-            "{name}"
-        );
-        assert!(rt;
-            is_https(alloc, Constructed::new(&source), *https, *https_left),
-            "{name}"
-        );
-        assert!(rt;
-            is_rsync(alloc, Constructed::from_slice(octets), *rsync, *rsync_left),
-            "{name}"
-        );
-        assert!(rt;
-            is_https(alloc, Constructed::from_slice(octets), *https, *https_left),
-            "{name}"
-        );
+        for cursor in [Constructed::new(&source), Constructed::from_slice(octets)] {
+            let is_read = is_rsync(alloc, cursor, *rsync, *rsync_left);
+            assert!(rt; is_read, "{name}, rsync");
+            let is_read = is_https(alloc, cursor, *https, *https_left);
+            assert!(rt; is_read, "{name}, https");
+        }
     }
 }
 

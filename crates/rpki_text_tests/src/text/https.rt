@@ -3,7 +3,7 @@
 use super::shown;
 use bytes::Bytes;
 use rpki_text::uri::{Error, Https};
-use std::alloc::{AllocError, Global};
+use std::alloc::Global;
 use std::hash::{FoldHasher, Hash, Hasher};
 use std::test::Fail;
 
@@ -11,12 +11,15 @@ fn parsed(alloc: Global, text: &str) -> Result<Https, Error> {
     Https::from_bytes(Bytes::copy_from_slice(alloc, text.as_bytes())?)
 }
 
+/// The URI of a row; a failure names its text.
+fn uri_of(alloc: Global, text: &'static str) -> Result<Https, &'static str> {
+    parsed(alloc, text).map_err(|_| text)
+}
+
 /// The error of a text, if it has one.
 fn refusal(alloc: Global, text: &str) -> Option<Error> {
     parsed(alloc, text).err()
 }
-
-const LOWER: &str = "https://aaaa/";
 
 const REFUSALS: [(&str, Option<Error>); 10] = [
     ("https://example.com/some", None),
@@ -38,90 +41,45 @@ fn refusals(rt: HostRuntime) {
     }
 }
 
-fn long_authority(alloc: Global, times: usize) -> Result<Option<Error>, Fail> {
-    let mut text = String::from_str(alloc, "https://")?;
-    for _ in 0..times {
-        text.push_str("a")?;
-    }
-    text.push_str("/p")?;
-    Ok(refusal(alloc, text.as_str()))
-}
-
 /// How long an authority is, and its error.
 const AUTHORITIES: [(usize, Option<Error>); 2] = [(255, None), (256, Some(Error::BadUri))];
 
 #[test]
 fn authorities(rt: HostRuntime) -> Result<(), Fail> {
     for (times, want) in AUTHORITIES {
-        let found = long_authority(rt.alloc(), times)?;
-        assert!(rt; found == want, "{times}");
+        let authority = String::from_utf8(vec![in rt.alloc(); b'a'; times]?)?;
+        let text = format!(in rt.alloc(); "https://{authority}/p")?;
+        assert!(rt; refusal(rt.alloc(), &text) == want, "{times}");
     }
     Ok(())
 }
 
-fn join(alloc: Global, base: &Https, path: &str) -> Result<Https, Error> {
-    base.join(alloc, path.as_bytes())
-}
-
-/// Whether the path is joined to this text, or is rejected with this error.
-fn is_joined(
-    alloc: Global,
-    base: &str,
-    path: &str,
-    want: Result<&str, Error>,
-) -> Result<bool, Error> {
-    let base = parsed(alloc, base)?;
-    Ok(match join(alloc, &base, path) {
-        Ok(joined) => want == Ok(joined.as_str()),
-        Err(e) => want == Err(e),
-    })
-}
-
+/// A text, a path, and the text that it is joined to, or the error.
+#[rattlefmt::skip]
 const JOINS: [(&str, &str, Result<&str, Error>); 7] = [
     ("https://example.com", "a", Ok("https://example.com/a")),
     ("https://", "a", Ok("https:///a")),
-    (
-        "https://example.com/some",
-        "sub/",
-        Ok("https://example.com/some/sub/"),
-    ),
-    (
-        "https://example.com/some/",
-        "sub/",
-        Ok("https://example.com/some/sub/"),
-    ),
-    (
-        "https://example.com/some",
-        "",
-        Ok("https://example.com/some/"),
-    ),
+    ("https://example.com/some", "sub/", Ok("https://example.com/some/sub/")),
+    ("https://example.com/some/", "sub/", Ok("https://example.com/some/sub/")),
+    ("https://example.com/some", "", Ok("https://example.com/some/")),
     ("https://exAmple.com/", "/..", Ok("https://exAmple.com//..")),
     ("https://example.com/", "a b", Err(Error::InvalidCharacters)),
 ];
 
 #[test]
-fn joins(rt: HostRuntime) {
+fn joins(rt: HostRuntime) -> Result<(), Fail> {
     for (base, path, want) in JOINS {
-        assert!(rt;
-            is_joined(rt.alloc(), base, path, want) == Ok(true),
-            "{base} join {path}"
-        );
+        let base = uri_of(rt.alloc(), base)?;
+        let same = match base.join(rt.alloc(), path.as_bytes()) {
+            Ok(joined) => want == Ok(joined.as_str()),
+            Err(e) => want == Err(e),
+        };
+        assert!(rt; same, "{base} join {path}");
     }
+    Ok(())
 }
 
-fn parent(uri: &Https) -> Result<Option<Https>, AllocError> {
-    uri.parent()
-}
-
-/// Whether this is the parent, or "None".
-fn is_parent(alloc: Global, text: &str, want: &str) -> Result<bool, Error> {
-    let uri = parsed(alloc, text)?;
-    Ok(match parent(&uri)? {
-        Some(parent) => parent.as_str() == want,
-        None => want == "None",
-    })
-}
-
+/// A text, and its parent, or "None".
 const PARENTS: [(&str, &str); 9] = [
     ("https://example.com/", "None"),
     ("https://example.com", "None"),
@@ -135,10 +93,16 @@ const PARENTS: [(&str, &str); 9] = [
 ];
 
 #[test]
-fn parents(rt: HostRuntime) {
+fn parents(rt: HostRuntime) -> Result<(), Fail> {
     for (text, want) in PARENTS {
-        assert!(rt; is_parent(rt.alloc(), text, want) == Ok(true), "{text}");
+        let parent = uri_of(rt.alloc(), text)?.parent()?;
+        let same = match &parent {
+            Some(parent) => parent.as_str() == want,
+            None => want == "None",
+        };
+        assert!(rt; same, "{text}");
     }
+    Ok(())
 }
 
 fn hash_of(u: &Https) -> u64 {
@@ -147,41 +111,21 @@ fn hash_of(u: &Https) -> u64 {
     state.finish()
 }
 
-/// Equal, equal by the octets of the second, and the same authority.
-fn equalities(u: &Https, v: &Https, octets: &[u8]) -> (bool, bool, bool) {
-    (u == v, u.eq_bytes(octets), u.eq_authority(v))
-}
-
 /// Equal, equal by octets, the same authority, and hashed alike.
 fn comparison(alloc: Global, a: &str, b: &str) -> Result<(bool, bool, bool, bool), Error> {
     let (u, v) = (parsed(alloc, a)?, parsed(alloc, b)?);
-    let (equal, octets, authority) = equalities(&u, &v, b.as_bytes());
-    Ok((equal, octets, authority, hash_of(&u) == hash_of(&v)))
+    let (octets, authority) = (u.eq_bytes(b.as_bytes()), u.eq_authority(&v));
+    Ok((u == v, octets, authority, hash_of(&u) == hash_of(&v)))
 }
 
 const SOME: &str = "https://example.com/some/stuff";
 
+#[rattlefmt::skip]
 const COMPARISONS: [(&str, &str, (bool, bool, bool, bool)); 4] = [
-    (
-        "htTps://eXAMple.coM/some/stuff",
-        SOME,
-        (true, true, true, true),
-    ),
-    (
-        SOME,
-        "https://example.com/Some/stuff",
-        (false, false, true, false),
-    ),
-    (
-        SOME,
-        "https://example.net/some/stuff",
-        (false, false, false, false),
-    ),
-    (
-        "https://example.com",
-        "https://example.com/",
-        (false, false, true, false),
-    ),
+    ("htTps://eXAMple.coM/some/stuff", SOME, (true, true, true, true)),
+    (SOME, "https://example.com/Some/stuff", (false, false, true, false)),
+    (SOME, "https://example.net/some/stuff", (false, false, false, false)),
+    ("https://example.com", "https://example.com/", (false, false, true, false)),
 ];
 
 #[test]
@@ -193,129 +137,64 @@ fn comparisons(rt: HostRuntime) {
 
 /// A text, which is what Display prints; the authority, the canonical authority, the path, whether it is a directory,
 /// and the text as a directory.
+#[rattlefmt::skip]
 const PARTS: [(&str, &str, &str, &str, bool, &str); 4] = [
-    (
-        "https://example.com/some",
-        "example.com",
-        "example.com",
-        "/some",
-        false,
-        "https://example.com/some/",
-    ),
+    ("https://example.com/some", "example.com", "example.com", "/some", false, "https://example.com/some/"),
     ("https://HOST", "HOST", "host", "", true, "https://HOST"),
     ("HTTPS://h/a/", "h", "h", "/a/", true, "HTTPS://h/a/"),
     ("https://", "", "", "", true, "https://"),
 ];
 
-fn authority_and_path(u: &Https) -> (&str, &str) {
-    (u.authority(), u.path())
-}
-
-/// The scheme, and whether the path is a directory.
-fn scheme_and_kind(u: &Https) -> (&'static str, bool) {
-    (u.scheme().as_str(), u.path_is_dir())
-}
-
-/// Which part of the text is not as wanted: none, if all are.
-fn wrong_part(alloc: Global, text: &str, authority: &str, path: &str, dir: bool) -> &'static str {
-    let Ok(uri) = parsed(alloc, text) else {
-        return "parsing";
-    };
-    if authority_and_path(&uri) != (authority, path) {
-        return "authority or path";
-    }
-    if scheme_and_kind(&uri) == ("https", dir) {
-        ""
-    } else {
-        "scheme or kind of path"
-    }
-}
-
 #[test]
-fn uri_parts(rt: HostRuntime) {
+fn uri_parts(rt: HostRuntime) -> Result<(), Fail> {
     for (text, authority, _, path, dir, _) in PARTS {
-        let wrong = wrong_part(rt.alloc(), text, authority, path, dir);
-        assert!(rt; wrong.is_empty(), "{wrong} of {text}");
+        let uri = uri_of(rt.alloc(), text)?;
+        let found = (uri.authority(), uri.path());
+        assert!(rt; found == (authority, path), "authority or path of {text}");
+        let found = (uri.scheme().as_str(), uri.path_is_dir());
+        assert!(rt; found == ("https", dir), "scheme or kind of path of {text}");
     }
-}
-
-fn canonical(alloc: Global, u: &Https) -> Result<String, AllocError> {
-    u.canonical_authority(alloc)?.into_owned(alloc)
-}
-
-/// Whether this is the canonical authority of the text.
-fn has_canonical(alloc: Global, text: &str, want: &str) -> Result<bool, Error> {
-    let uri = parsed(alloc, text)?;
-    Ok(canonical(alloc, &uri)?.as_str() == want)
+    Ok(())
 }
 
 #[test]
-fn canonical_authorities(rt: HostRuntime) {
+fn canonical_authorities(rt: HostRuntime) -> Result<(), Fail> {
     for (text, _, authority, _, _, _) in PARTS {
-        assert!(rt;
-            has_canonical(rt.alloc(), text, authority) == Ok(true),
-            "{text}"
-        );
+        let uri = uri_of(rt.alloc(), text)?;
+        let found = uri.canonical_authority(rt.alloc())?;
+        assert!(rt; found.as_str() == authority, "{text}");
     }
-}
-
-fn into_dir(alloc: Global, uri: Https) -> Result<Https, AllocError> {
-    let mut uri = uri;
-    uri.path_into_dir(alloc)?;
-    Ok(uri)
-}
-
-/// Whether Display prints the text, and this once it is a directory.
-fn prints(alloc: Global, text: &str, dir: &str) -> Result<(bool, bool), Fail> {
-    let uri = parsed(alloc, text)?;
-    let same = shown(alloc, &uri)?.as_str() == text;
-    let uri = into_dir(alloc, uri)?;
-    Ok((same, shown(alloc, &uri)?.as_str() == dir))
+    Ok(())
 }
 
 #[test]
 fn printed_texts(rt: HostRuntime) -> Result<(), Fail> {
     for (text, _, _, _, _, dir) in PARTS {
-        let (same, same_dir) = prints(rt.alloc(), text, dir)?;
-        assert!(rt; same, "{text}");
-        assert!(rt; same_dir, "{dir}");
+        let mut uri = uri_of(rt.alloc(), text)?;
+        assert!(rt; shown(rt.alloc(), &uri)?.as_str() == text, "{text}");
+        uri.path_into_dir(rt.alloc())?;
+        assert!(rt; shown(rt.alloc(), &uri)?.as_str() == dir, "{dir}");
     }
     Ok(())
 }
 
-/// Whether the text was read, and is that of the URI.
-fn is_text<E: Drop>(read: Result<Https, E>, text: &str) -> bool {
-    match read {
-        Ok(uri) => uri.as_str() == text && uri.as_bytes().as_slice() == text.as_bytes(),
-        Err(_) => false,
-    }
-}
-
-/// A copy, and what is read from the octets, have the text.
-fn borrowed_copies_agree(alloc: Global, uri: &Https, text: &str) -> bool {
-    is_text(uri.clone(), text) && is_text(Https::from_slice(alloc, uri.as_slice()), text)
-}
-
-/// The URI of the text, after it was made to own its octets.
-fn unshared(alloc: Global, text: &str) -> Result<Https, Error> {
-    let mut uri = Https::from_str(alloc, text)?;
-    uri.unshare(alloc)?;
-    Ok(uri)
-}
-
 /// Each way of making a copy gives the same text.
-fn copies_agree(alloc: Global, text: &str) -> Result<bool, Fail> {
-    let owned = is_text(Https::from_string(String::from_str(alloc, text)?), text);
-    let uri = unshared(alloc, text)?;
-    Ok(owned && borrowed_copies_agree(alloc, &uri, text) && uri.as_str() == text)
-}
-
-const COPIED: [&str; 3] = ["htTps://eXAMple.coM/some/stuff", LOWER, "https://"];
-
 #[test]
 fn copies(rt: HostRuntime) -> Result<(), Fail> {
-    for text in COPIED {
-        assert!(rt; copies_agree(rt.alloc(), text)?, "{text}");
+    let alloc = rt.alloc();
+    for text in [
+        "htTps://eXAMple.coM/some/stuff",
+        "https://aaaa/",
+        "https://",
+    ] {
+        let owned = Https::from_string(String::from_str(alloc, text)?).map_err(|_| text)?;
+        let mut uri = Https::from_str(alloc, text).map_err(|_| text)?;
+        uri.unshare(alloc)?;
+        let again = Https::from_slice(alloc, uri.as_slice()).map_err(|_| text)?;
+        for copy in [&owned, &uri, &uri.clone()?, &again] {
+            let found = (copy.as_str(), copy.as_bytes().as_slice());
+            assert!(rt; found == (text, text.as_bytes()), "{text}");
+        }
     }
     Ok(())
 }

@@ -1,8 +1,7 @@
 //! Comparisons, hashes and orders of rsync URIs, among each other and with octets.
 
-use super::rsync::parsed;
-use rpki_text::uri::{Error, Rsync};
-use std::alloc::Global;
+use super::rsync::uri_of;
+use rpki_text::uri::Rsync;
 use std::hash::{FoldHasher, Hash, Hasher};
 use std::test::Fail;
 
@@ -12,115 +11,39 @@ fn hash_of(u: &Rsync) -> u64 {
     state.finish()
 }
 
-/// Identical, equal, and equal by the octets of the second.
-fn equalities(u: &Rsync, v: &Rsync, octets: &[u8]) -> (bool, bool, bool) {
-    (u.is_identical_to(v), u == v, u.eq_bytes(octets))
-}
-
-/// Above and below.
-fn levels(u: &Rsync, v: &Rsync) -> (bool, bool) {
-    (u.is_parent_of(v), v.is_parent_of(u))
-}
-
-/// Identical, equal, equal by octets, above and below; and hashed alike.
-fn comparison(
-    alloc: Global,
-    a: &str,
-    b: &str,
-) -> Result<((bool, bool, bool, bool, bool), bool), Error> {
-    let (u, v) = (parsed(alloc, a)?, parsed(alloc, b)?);
-    let (same, equal, octets) = equalities(&u, &v, b.as_bytes());
-    let (above, below) = levels(&u, &v);
-    let hashed = hash_of(&u) == hash_of(&v);
-    Ok(((same, equal, octets, above, below), hashed))
-}
+/// Identical, equal, equal by the octets of the second, above and below.
+type Relations = (bool, bool, bool, bool, bool);
 
 const PATH: &str = "rsync://example.org/module/some/path";
 
-const COMPARISONS: [(&str, &str, (bool, bool, bool, bool, bool)); 13] = [
+#[rattlefmt::skip]
+const COMPARISONS: [(&str, &str, Relations); 13] = [
     (PATH, PATH, (true, true, true, false, false)),
-    (
-        PATH,
-        "rsync://example.org/module/some/path/",
-        (true, false, false, false, false),
-    ),
-    (
-        PATH,
-        "rsync://EXAMPLE.ORG/module/some/path",
-        (true, true, true, false, false),
-    ),
-    (
-        PATH,
-        "rsync://example.org/module/some/path2",
-        (false, false, false, false, false),
-    ),
-    (
-        PATH,
-        "rsync://example.org/module/some/PATH",
-        (false, false, false, false, false),
-    ),
-    (
-        PATH,
-        "rsync://example.org/module2/some/path",
-        (false, false, false, false, false),
-    ),
-    (
-        PATH,
-        "rsync://example.net/module/some/path",
-        (false, false, false, false, false),
-    ),
-    (
-        "rsync://host/M/a",
-        "rsync://host/m/a",
-        (false, false, false, false, false),
-    ),
-    (
-        "rsyNc://hOst/module/path",
-        "rsync://host/module/path",
-        (true, true, true, false, false),
-    ),
-    (
-        "rsyNc://hOst/module/path",
-        "rsync://host/module/pAth",
-        (false, false, false, false, false),
-    ),
-    (
-        "rsync://host/module/",
-        "rsync://HOST/module/a",
-        (false, false, false, true, false),
-    ),
-    (
-        "rsync://host/module/a/b",
-        "rsync://host/module/a/",
-        (false, false, false, false, true),
-    ),
-    (
-        "rsync://host/module/a",
-        "rsync://host/module/ab",
-        (false, false, false, false, false),
-    ),
+    (PATH, "rsync://example.org/module/some/path/", (true, false, false, false, false)),
+    (PATH, "rsync://EXAMPLE.ORG/module/some/path", (true, true, true, false, false)),
+    (PATH, "rsync://example.org/module/some/path2", (false, false, false, false, false)),
+    (PATH, "rsync://example.org/module/some/PATH", (false, false, false, false, false)),
+    (PATH, "rsync://example.org/module2/some/path", (false, false, false, false, false)),
+    (PATH, "rsync://example.net/module/some/path", (false, false, false, false, false)),
+    ("rsync://host/M/a", "rsync://host/m/a", (false, false, false, false, false)),
+    ("rsyNc://hOst/module/path", "rsync://host/module/path", (true, true, true, false, false)),
+    ("rsyNc://hOst/module/path", "rsync://host/module/pAth", (false, false, false, false, false)),
+    ("rsync://host/module/", "rsync://HOST/module/a", (false, false, false, true, false)),
+    ("rsync://host/module/a/b", "rsync://host/module/a/", (false, false, false, false, true)),
+    ("rsync://host/module/a", "rsync://host/module/ab", (false, false, false, false, false)),
 ];
 
-/// What of the comparison is not as wanted: nothing, if all is.
-fn wrong_comparison(
-    alloc: Global,
-    a: &str,
-    b: &str,
-    want: (bool, bool, bool, bool, bool),
-) -> &'static str {
-    match comparison(alloc, a, b) {
-        Ok((found, hashed)) if found == want => { if hashed == want.1 { "" } else { "hashes" } }
-        Ok(_) => "relations",
-        Err(_) => "parsing",
-    }
-}
-
 #[test]
-fn comparisons(rt: HostRuntime) {
+fn comparisons(rt: HostRuntime) -> Result<(), Fail> {
     for (a, b, want) in COMPARISONS {
-        let wrong = wrong_comparison(rt.alloc(), a, b, want);
-        assert!(rt; wrong.is_empty(), "{wrong} of {a} and {b}");
+        let (u, v) = (uri_of(rt.alloc(), a)?, uri_of(rt.alloc(), b)?);
+        let (same, octets) = (u.is_identical_to(&v), u.eq_bytes(b.as_bytes()));
+        let found = (same, u == v, octets, u.is_parent_of(&v), v.is_parent_of(&u));
+        assert!(rt; found == want, "relations of {a} and {b}");
+        let hashed = hash_of(&u) == hash_of(&v);
+        assert!(rt; hashed == want.1, "hashes of {a} and {b}");
     }
+    Ok(())
 }
 
 /// A name, a URI, and octets that are not equal to it.
@@ -131,15 +54,11 @@ const OTHER_OCTETS: [(&str, &str, &[u8]); 4] = [
     ("no slash at the end", "rsync://h/m/", b"rsync://h/m"),
 ];
 
-/// Whether the text is read as a URI that is not equal to the octets.
-fn differs(alloc: Global, text: &str, octets: &[u8]) -> Result<bool, Error> {
-    Ok(!parsed(alloc, text)?.eq_bytes(octets))
-}
-
 #[test]
 fn other_octets(rt: HostRuntime) -> Result<(), Fail> {
     for (name, text, octets) in OTHER_OCTETS {
-        assert!(rt; differs(rt.alloc(), text, octets)?, "{name}, {text}");
+        let uri = uri_of(rt.alloc(), text)?;
+        assert!(rt; !uri.eq_bytes(octets), "{name}, {text}");
     }
     Ok(())
 }

@@ -6,11 +6,8 @@ use std::test::Fail;
 /// Where the authority, the module's name and the path begin and end.
 fn rsync_ranges(text: &str) -> Result<[usize; 6], Error> {
     let uri = RsyncView::from_slice(text.as_bytes())?;
-    let (authority, name, path) = (
-        uri.authority_range(),
-        uri.module_name_range(),
-        uri.path_range(),
-    );
+    let (authority, name) = (uri.authority_range(), uri.module_name_range());
+    let path = uri.path_range();
     Ok([
         authority.start,
         authority.end,
@@ -37,8 +34,7 @@ const RSYNC_RANGES: [(&str, Result<[usize; 6], Error>); 9] = [
 #[test]
 fn rsync_parts_stand(rt: HostRuntime) {
     for (text, want) in RSYNC_RANGES {
-        let found = rsync_ranges(text);
-        assert!(rt; found == want, "{text}");
+        assert!(rt; rsync_ranges(text) == want, "{text}");
     }
 }
 
@@ -63,8 +59,7 @@ const HTTPS_RANGES: [(&str, Result<[usize; 4], Error>); 8] = [
 #[test]
 fn https_parts_stand(rt: HostRuntime) {
     for (text, want) in HTTPS_RANGES {
-        let found = https_ranges(text);
-        assert!(rt; found == want, "{text}");
+        assert!(rt; https_ranges(text) == want, "{text}");
     }
 }
 
@@ -78,27 +73,12 @@ fn relative<'a>(of: &'a str, base: &str) -> Result<Option<(&'a str, usize, usize
     })
 }
 
+#[rattlefmt::skip]
 const RELATIVES: [(&str, &str, Option<(&str, usize, usize)>); 10] = [
-    (
-        "rsync://host/module/a/b/",
-        "rsync://host/module/a",
-        Some(("b/", 22, 24)),
-    ),
-    (
-        "rsync://host/module/a/b/",
-        "RSYNC://HOST/module/a/",
-        Some(("b/", 22, 24)),
-    ),
-    (
-        "rsync://host/module/a",
-        "rsync://host/module/",
-        Some(("a", 20, 21)),
-    ),
-    (
-        "rsync://host/module/a/",
-        "rsync://host/module/a",
-        Some(("", 22, 22)),
-    ),
+    ("rsync://host/module/a/b/", "rsync://host/module/a", Some(("b/", 22, 24))),
+    ("rsync://host/module/a/b/", "RSYNC://HOST/module/a/", Some(("b/", 22, 24))),
+    ("rsync://host/module/a", "rsync://host/module/", Some(("a", 20, 21))),
+    ("rsync://host/module/a/", "rsync://host/module/a", Some(("", 22, 22))),
     // Parts with the same octets.
     ("rsync://h/m/m", "rsync://h/m/", Some(("m", 12, 13))),
     ("rsync://m/m/m/m", "rsync://m/m/m", Some(("m", 14, 15))),
@@ -111,13 +91,8 @@ const RELATIVES: [(&str, &str, Option<(&str, usize, usize)>); 10] = [
 #[test]
 fn relative_paths_stand(rt: HostRuntime) {
     for (of, base, want) in RELATIVES {
-        let found = relative(of, base);
-        assert!(rt; found == Ok(want), "{of} from {base}");
+        assert!(rt; relative(of, base) == Ok(want), "{of} from {base}");
     }
-}
-
-fn parent_len(text: &str) -> Result<Option<usize>, Error> {
-    Ok(RsyncView::from_slice(text.as_bytes())?.parent_len())
 }
 
 const PARENT_LENGTHS: [(&str, Option<usize>); 5] = [
@@ -131,7 +106,7 @@ const PARENT_LENGTHS: [(&str, Option<usize>); 5] = [
 #[test]
 fn parent_lengths(rt: HostRuntime) {
     for (text, want) in PARENT_LENGTHS {
-        let found = parent_len(text);
+        let found = RsyncView::from_slice(text.as_bytes()).map(|uri| uri.parent_len());
         assert!(rt; found == Ok(want), "{text}");
     }
 }
@@ -143,44 +118,15 @@ fn join_into(base: &str, path: &str, buffer: &mut [u8]) -> Result<Option<usize>,
 }
 
 /// Base, path, what is returned, and what a buffer of this length holds that held `#` throughout.
+#[rattlefmt::skip]
 const JOINS: [(&str, &str, Result<Option<usize>, Error>, &str); 8] = [
-    (
-        "rsync://host/m/some",
-        "foo",
-        Ok(Some(23)),
-        "rsync://host/m/some/foo###",
-    ),
-    (
-        "rsync://host/m/some/",
-        "foo/",
-        Ok(Some(24)),
-        "rsync://host/m/some/foo/",
-    ),
-    (
-        "rsync://host/m/",
-        "a/b",
-        Ok(Some(18)),
-        "rsync://host/m/a/b#",
-    ),
-    (
-        "rsync://host/m/some",
-        "",
-        Ok(Some(19)),
-        "rsync://host/m/some##",
-    ),
-    (
-        "rsync://host/m/some",
-        "foo",
-        Ok(None),
-        "######################",
-    ),
+    ("rsync://host/m/some", "foo", Ok(Some(23)), "rsync://host/m/some/foo###"),
+    ("rsync://host/m/some/", "foo/", Ok(Some(24)), "rsync://host/m/some/foo/"),
+    ("rsync://host/m/", "a/b", Ok(Some(18)), "rsync://host/m/a/b#"),
+    ("rsync://host/m/some", "", Ok(Some(19)), "rsync://host/m/some##"),
+    ("rsync://host/m/some", "foo", Ok(None), "######################"),
     ("rsync://host/m/some", "", Ok(None), ""),
-    (
-        "rsync://host/m/",
-        "a//b",
-        Err(Error::EmptySegments),
-        "########",
-    ),
+    ("rsync://host/m/", "a//b", Err(Error::EmptySegments), "########"),
     ("rsync://host/m", "a", Err(Error::BadUri), "########"),
 ];
 
@@ -190,10 +136,8 @@ fn joins_in_a_buffer(rt: HostRuntime) -> Result<(), Fail> {
         let mut buffer = vec![in rt.alloc(); b'#'; text.len()]?;
         let found = join_into(base, path, &mut buffer);
         assert!(rt; found == want, "{base} and {path}");
-        assert!(rt;
-            buffer.as_slice() == text.as_bytes(),
-            "buffer of {base} and {path}"
-        );
+        let same = buffer.as_slice() == text.as_bytes();
+        assert!(rt; same, "buffer of {base} and {path}");
     }
     Ok(())
 }

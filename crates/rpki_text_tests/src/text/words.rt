@@ -2,9 +2,9 @@
 
 use super::shown;
 use rpki_text::uri::{Error, Scheme, check_uri_ascii, starts_with_ignore_case};
-use std::alloc::Global;
 use std::test::Fail;
 
+#[rattlefmt::skip]
 const ERRORS: [(Error, u8, &str); 8] = [
     (Error::InvalidCharacters, 1, "invalid characters"),
     (Error::BadUri, 2, "bad URI"),
@@ -12,11 +12,7 @@ const ERRORS: [(Error, u8, &str); 8] = [
     (Error::BadScheme, 4, "bad URI scheme"),
     (Error::DotSegments, 5, "URI with dot path segments"),
     (Error::EmptySegments, 6, "URI with empty path segments"),
-    (
-        Error::LongSegments,
-        7,
-        "one or more segments are longer than 255 characters",
-    ),
+    (Error::LongSegments, 7, "one or more segments are longer than 255 characters"),
     (Error::OutOfMemory, 8, "out of memory"),
 ];
 
@@ -28,50 +24,35 @@ fn error_numbers(rt: HostRuntime) {
     }
 }
 
-fn is_shown(alloc: Global, error: Error, text: &str) -> Result<bool, Fail> {
-    Ok(shown(alloc, error)?.as_str() == text)
-}
-
 #[test]
 fn error_texts(rt: HostRuntime) -> Result<(), Fail> {
     for (error, _, text) in ERRORS {
-        assert!(rt; is_shown(rt.alloc(), error, text)?, "{text}");
+        assert!(rt; shown(rt.alloc(), error)?.as_str() == text, "{text}");
     }
     Ok(())
 }
 
+/// A scheme, whether it is https and not rsync, its name, and how a URI of it begins, which Display prints.
 const SCHEMES: [(Scheme, bool, &str, &str); 2] = [
     (Scheme::Https, true, "https", "https://"),
     (Scheme::Rsync, false, "rsync", "rsync://"),
 ];
 
-/// Whether it is https, whether it is rsync, and its name.
-fn facts(scheme: Scheme) -> (bool, bool, &'static str) {
-    (scheme.is_https(), scheme.is_rsync(), scheme.as_str())
-}
-
 #[test]
 fn schemes(rt: HostRuntime) {
     for (scheme, https, name, _) in SCHEMES {
-        assert!(rt; facts(scheme) == (https, !https, name), "{name}");
+        let found = (scheme.is_https(), scheme.is_rsync(), scheme.as_str());
+        assert!(rt; found == (https, !https, name), "{name}");
     }
-}
-
-/// Whether a URI of the scheme begins so, and Display prints it.
-fn begins(alloc: Global, scheme: Scheme, want: &str) -> Result<(bool, bool), Fail> {
-    let made = scheme.into_string(alloc)?;
-    Ok((
-        made.as_str() == want,
-        shown(alloc, scheme)?.as_str() == want,
-    ))
 }
 
 #[test]
 fn beginnings_of_schemes(rt: HostRuntime) -> Result<(), Fail> {
     for (scheme, _, _, beginning) in SCHEMES {
-        let (made, printed) = begins(rt.alloc(), scheme, beginning)?;
-        assert!(rt; made, "{beginning}");
-        assert!(rt; printed, "{beginning} as printed");
+        let made = scheme.into_string(rt.alloc())?;
+        assert!(rt; made.as_str() == beginning, "{beginning}");
+        let printed = shown(rt.alloc(), scheme)?;
+        assert!(rt; printed.as_str() == beginning, "{beginning} as printed");
     }
     Ok(())
 }
@@ -84,10 +65,7 @@ fn characters(rt: HostRuntime) {
     assert!(rt; check_uri_ascii(b"").is_ok());
     assert!(rt; check_uri_ascii(CHARACTERS).is_ok());
     for octet in 0..=255u8 {
-        let refused = match check_uri_ascii(&[b'a', octet]) {
-            Ok(()) => false,
-            Err(e) => e == Error::InvalidCharacters,
-        };
+        let refused = check_uri_ascii(&[b'a', octet]) == Err(Error::InvalidCharacters);
         assert!(rt; refused != CHARACTERS.contains(&octet), "{octet}");
     }
 }
