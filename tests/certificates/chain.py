@@ -5,7 +5,7 @@ import subprocess
 from datetime import datetime, timedelta, timezone
 
 import forms
-from fields import PROFILES, expected_fields, lines_of, signature, verdict
+from fields import PROFILES, UNASKED, expected_fields, lines_of, signature, verdict
 from makers import authority
 from makers.certificate import Certificate
 from programs import octets_of, ran
@@ -46,7 +46,7 @@ def several(program, folder):
     names = [value for label, value in lines_of(output) if label == "File"]
     yield "one text after another", (status, names, faults), (0, files, b"")
     status, output, faults = ran(program, "--check", "--profile", "ca", *files)
-    good = [": OK" in line for line in output.decode().splitlines()]
+    good = [f"{path}: {UNASKED}\n" in output.decode() for path in files]
     yield "of one profile", (status, good, faults), (1, [name == "ca" for name in PROFILES], b"")
     lost = paths["ta"] + ".none"
     said = f"{lost}: cannot be read: No such file or directory\n"
@@ -61,8 +61,13 @@ def several(program, folder):
         status, output, faults = ran(program, *order, "--profile", "ca", lost, *files)
         told = [json.loads(line, object_pairs_hook=list) for line in output.splitlines()]
         lines = ran(program, "--check", "--profile", "ca", lost, *files)[1].decode().splitlines()
-        wanted = [[("file", path), ("signature", "not checked"), ("verdict", line[len(path) + 2:])]
-                  for path, line in zip([lost, *files], lines)]
+        said = {path: [line[len(path) + 2:] for line in lines if line.startswith(f"{path}: ")]
+                for path in [lost, *files]}
+        front = "violates the profile: "
+        wanted = [[("file", path), ("signature", "not checked"), ("verdict", told_of[0])]
+                  + [("violations", [[("rule", rule[len(front):])] for rule in told_of])
+                     for _ in told_of[:1] if told_of[0].startswith(front)]
+                  for path, told_of in said.items()]
         yield f"verdicts as JSON {order}", (status, told, faults), (2, wanted, b"")
     many = files * 100
     status, output, faults = ran(program, "--check", *many)
@@ -71,14 +76,14 @@ def several(program, folder):
 
 
 def profiles(program, folder):
-    """Each certificate has its own profile alone; the text is printed where it has it."""
+    """Each certificate has its own profile alone; the text is printed whether it has the profile or not."""
     paths = authority.paths(folder)
     for name in PROFILES:
         for profile in PROFILES:
             path = paths[name] + ".der"
             status, output, faults = ran(program, "--profile", profile, path)
             seen = (status, output.startswith(b"File: "), faults.startswith(f"rpkicert: {path}: violates".encode()))
-            yield f"{name} as {profile}", seen, (0, True, False) if name == profile else (1, False, True)
+            yield f"{name} as {profile}", seen, (0, True, False) if name == profile else (1, True, True)
 
 
 def chains(calls, folder):

@@ -72,7 +72,8 @@ def issued(program, folder):
     status, output, faults = ran(program, "--json", "--at", at(period(path)[0]), path)
     yield "a member without an issuer", (status, json.loads(output)["signature"], faults), (0, "not checked", b"")
     seen = ran(program, "--issuer", paths["ca"] + ".der", path)
-    yield "a fault", seen, (1, b"", b"rpkicert: " + line(path, OF_CERTIFICATE + BAD))
+    wrong = b"\n".join(plain[:2] + [b"Signature: bad signature"] + plain[3:]) + b"\n"
+    yield "a fault", seen, (1, wrong, b"rpkicert: " + line(path, OF_CERTIFICATE + BAD))
     seen = ran(program, "--check", "--profile", "ee", "--issuer", paths["ca"] + ".der", path)
     yield "the profile is first", (seen[0], seen[1].startswith(f"{path}: violates".encode())), (1, True)
     seen = ran(program, "--check", "--issuer", paths["ca"] + ".der", "--at", "1999-12-31T00:00:00Z", path)

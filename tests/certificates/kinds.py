@@ -92,7 +92,8 @@ def said_of_octets(program, text, octets, expected):
         return text, (status, output.decode(), faults), (1, f"-: {said}\n", b"")
     if kind(octets) == "list":
         return text, (status, output, faults), (0, f"-: {UNASKED}\n".encode(), b"")
-    return text, (status, output, faults), (1, f"-: {OF_AUTHORITY}\n".encode(), b"")
+    first = output[:output.find(b"\n") + 1]
+    return text, (status, first, faults), (1, f"-: {OF_AUTHORITY}\n".encode(), b"")
 
 
 def is_like_a_list(octets):

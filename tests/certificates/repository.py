@@ -131,7 +131,7 @@ def repository(program, folder):
         0, "".join(f"{path}: {UNASKED}\n" for path in paths).encode(), b"")
     for profile, good in (("ee", True), ("ca", False), ("detached", False)):
         status, output, _ = ran(program, "--check", "--profile", profile, *paths)
-        seen = [line.endswith(f": {UNASKED}") for line in output.decode().splitlines()]
+        seen = [f"{path}: {UNASKED}\n" in output.decode() for path in paths]
         wanted = [good and not path.endswith(".crl") for path in paths]
         yield f"the signers as {profile}", (status, seen), (1, wanted)
     path = rows[0][0]

@@ -1,9 +1,15 @@
-"""The rule of a profile that a certificate breaks first, by its section: the variants of tests/python/variants."""
+"""The rules of a profile that a certificate breaks, each by its section: of the variants of tests/python/variants the
+first, and of changes that break a rule each all of them."""
+import functools
+import itertools
+import json
+
 import sections
 from fields import UNASKED
+from makers import certificate as made, x509
 from programs import ran
 from values import changed
-from variants import names_and_places
+from variants import certificates, names_and_places
 from variants.certificates import VARIANTS
 
 # The words of hostile_calls, and the profile that is asked for.
@@ -17,6 +23,11 @@ def of_profile(profile):
     return "RFC 8630 2.3: bad signature" if profile == "ta" else UNASKED
 
 
+def first_of(seen):
+    """What is seen of a run, with the first line alone of its output."""
+    return seen._replace(output=seen.output[:seen.output.find(b"\n") + 1])
+
+
 def violations(program, folder):
     """What is said of a certificate that violates a profile is the rule that it breaks first, by its section."""
     for text, change, expected in VARIANTS:
@@ -26,7 +37,7 @@ def violations(program, folder):
                 good = expected[word] == "ok"
                 said = of_profile(profile) if good else sections.violated(text, expected[word])
                 good = good and profile != "ta"
-                seen = ran(program, "--check", "--profile", profile, path)
+                seen = first_of(ran(program, "--check", "--profile", profile, path))
                 yield f"{text} as {profile}", seen, (0 if good else 1, f"{path}: {said}\n".encode(), b"")
 
 
@@ -35,10 +46,10 @@ def sectioned(program, folder):
     for text, change, profile, said in sections.ROWS:
         path = changed(folder, change)
         line = f"{path}: violates the profile: {said}\n".encode()
-        seen = ran(program, "--check", "--profile", profile, path)
+        seen = first_of(ran(program, "--check", "--profile", profile, path))
         yield f"{text}, by its section", seen, (1, line, b"")
         seen = ran(program, "--profile", profile, path)
-        yield f"{text}, by its section, shown", seen, (1, b"", b"rpkicert: " + line)
+        yield f"{text}, by its section, shown", seen, (1, ran(program, path).output, b"rpkicert: " + line)
 
 
 # The errors of a name that is not of its profile (RFC 6487 4.4, RFC 8209 3.1.1, RFC 5280 A.1), which --lax doesn't look
@@ -57,8 +68,61 @@ def lax(program, folder):
                 good = expected[word] == "ok" or expected[word] in OF_NAMES
                 said = of_profile(profile) if good else sections.violated(text, expected[word])
                 good = good and profile != "ta"
-                seen = ran(program, "--check", "--profile", profile, "--lax", path)
+                seen = first_of(ran(program, "--check", "--profile", profile, "--lax", path))
                 yield f"{text} as {profile}, lax", seen, (0 if good else 1, f"{path}: {said}\n".encode(), b"")
 
 
-TABLES = [violations, sectioned, lax]
+# Changes of an authority's certificate that break one rule each, in the order of the rules, and what is said of it.
+SINGLE = [
+    (made.serial(b"\x00"), "RFC 5280 4.1.2.2: serial number is 0"),
+    (made.add(x509.UNKNOWN, b"", critical=True), "RFC 5280 4.2: unknown critical extension"),
+    (sections.of_issuer(sections.BY_UTF8), sections.ISSUER + "invalid name"),
+    (made.turn(x509.SUBJECT_KEY), sections.SUBJECT_KEY + sections.CRITICAL),
+    (made.subject(sections.BY_UTF8), sections.SUBJECT + "invalid name"),
+    (made.put(x509.CONSTRAINTS, sections.WRONG), sections.CONSTRAINTS + "unexpected value"),
+    (made.turn(x509.USAGE), sections.USAGE + sections.CRITICAL),
+    (made.turn(x509.AUTHORITY_KEY), sections.AUTHORITY_KEY + sections.CRITICAL),
+    (made.remove(x509.REVOCATION), certificates.NO_LIST),
+    (made.turn(x509.AUTHORITY_ACCESS), sections.AUTHORITY_ACCESS + sections.CRITICAL),
+]
+# An authority's certificate under other profiles, and all that is said of it; worked by hand from RFC 6487 4, RFC 8209
+# 3.1 and RFC 9323 2.
+NO_ACCESS = "RFC 8209 3.1.3.3, RFC 9323 2: subject information access"
+OTHERS = {
+    "ta": ["RFC 6487 4.8.6: CRL distribution points of a trust anchor",
+           "RFC 6487 4.8.7: authority information access of a trust anchor", certificates.NOT_SELF_ISSUED,
+           certificates.NOT_OWN],
+    "ee": ["RFC 6487 4.8.1: basic constraints of an end entity", certificates.OTHER_USAGE, certificates.NO_OBJECT,
+           certificates.OTHER_METHOD],
+    "detached": ["RFC 6487 4.8.1: basic constraints of an end entity", certificates.OTHER_USAGE, NO_ACCESS],
+    "router": [certificates.NO_POINT, "RFC 6487 4.8.1: basic constraints of an end entity", certificates.OTHER_USAGE,
+               "RFC 8209 3.1.3.4, 3.1.3.5: missing numbers, or addresses are there", NO_ACCESS,
+               "RFC 8209 3.1.3.2: missing purpose of a router"],
+}
+
+
+def of_all(program, profile, path, rules, *words):
+    """What is seen of a certificate that breaks these rules, as lines and as JSON, and what has to be."""
+    lines = "".join(f"{path}: violates the profile: {rule}\n" for rule in rules).encode()
+    status, output, faults = ran(program, "--json", "--check", "--profile", profile, *words, path)
+    yield "", ran(program, "--check", "--profile", profile, *words, path), (1, lines, b"")
+    yield " as JSON", (status, json.loads(output), faults), (1, {
+        "file": path, "signature": "not checked", "verdict": f"violates the profile: {rules[0]}",
+        "violations": [{"rule": rule} for rule in rules]}, b"")
+
+
+def all_rules(program, folder):
+    """Of a certificate that breaks several rules each is told, once, in the order of the profile."""
+    groups = [*itertools.combinations(SINGLE, 1), *itertools.combinations(SINGLE, 2), SINGLE]
+    for group in groups:
+        rules = [rule for _, rule in group]
+        path = changed(folder, functools.reduce(made.both, (change for change, _ in group)))
+        for form, seen, wanted in of_all(program, "ca", path, rules):
+            yield f"{rules}{form}", seen, wanted
+    for profile, rules in OTHERS.items():
+        path = changed(folder, lambda it: None)
+        for form, seen, wanted in of_all(program, profile, path, rules, "--lax"):
+            yield f"an authority as {profile}{form}", seen, wanted
+
+
+TABLES = [violations, sectioned, lax, all_rules]

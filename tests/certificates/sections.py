@@ -42,9 +42,15 @@ def violated(text, expected):
 # Extensions that are malformed, or not as critical as they have to be, and names; the profile, and what is said.
 CRITICAL, WRONG = "extension is not as critical as it has to be", b"\5\0"
 BY_UTF8 = (x509.COMMON, x509.UTF8, b"a")
+
+
+def of_issuer(name):
+    """A change of the issuer's name."""
+    return lambda it: it.tbs.inside.__setitem__(3, values_of(x509.of_names(name))[0])
+
+
 ROWS = [
-    ("an issuer of UTF-8", lambda it: it.tbs.inside.__setitem__(3, values_of(x509.of_names(BY_UTF8))[0]), "ca",
-     ISSUER + "invalid name"),
+    ("an issuer of UTF-8", of_issuer(BY_UTF8), "ca", ISSUER + "invalid name"),
     ("a subject of UTF-8", made.subject(BY_UTF8), "ca", SUBJECT + "invalid name"),
     ("a subject of two names", made.subject((x509.COMMON, x509.PRINTABLE, b"a"), (x509.COMMON, x509.PRINTABLE, b"b")),
      "ca", SUBJECT + "multiple common names"),

@@ -1,5 +1,5 @@
 -- What is found of a file.
-use Rattle.std.proofs.Common.{◌≡◌, ℕ, Bool, List, inl, inr, refl, subst, sym}
+use Rattle.std.proofs.Common.{◌≡◌, ℕ, false, List, inl, inr, refl, subst, sym}
 use Rattle.std.specs.Prelude.{◌⊎◌, Option, Some, None, Result, Ok, Err, IfSome, IsErrAnd, MatchResult}
 use Rattle.rpki_der.specs.declared.error.DecodeError.{DecodeError}
 use Rattle.rpki_der.specs.declared.error.DecodeError.TheVariants.{Truncated, BadTag, BadLength, Unexpected, Content}
@@ -13,12 +13,12 @@ use Rattle.rpki_fields.specs.declared.place.Place.{Place}
 use Rattle.rpkicert.specs.declared.profile.Inspection.{Inspection}
 use Rattle.rpkicert.specs.declared.fault.Fault.{Fault}
 use Rattle.rpkicert.specs.declared.finding.Found.{Found}
-use Rattle.rpkicert.specs.FindingView.{finding_of}
+use Rattle.rpkicert.specs.FindingView.{finding_of, wrong_finding}
 use Rattle.rpkicert.specs.declared.fault.Fault.TheVariants.{Unreadable, TooLarge, OutOfMemory, Malformed, Refused}
 use Rattle.rpkicert.specs.declared.fault.Fault.TheVariants.{Violated, Unverified, NoCertificate, OtherAlgorithm}
 use Rattle.rpkicert.specs.Fault.{refusal}
-use Rattle.rpkicert.specs.Terms.{TermParts, IsUnverifiedBy}
-use Rattle.rpkicert.specs.Finding.{Finding, IsObject, IsRefusal, HoldsTo, FindsIn, Finds, IsRead}
+use Rattle.rpkicert.specs.Terms.{TermParts, IsVerified, IsUnverifiedBy}
+use Rattle.rpkicert.specs.Finding.{Finding, IsObject, IsRefusal, IsHeld, IsWrong, HoldsTo, FindsIn, Finds, IsRead}
 use Rattle.rpkicert.specs.Profiled.{Meets, IsUnmet, own_inspection, IsProfiled, IsUnprofiled}
 use Rattle.rpkicert.specs.Finding.{is_outside}
 
@@ -40,18 +40,6 @@ refusal-of octets place Trailing h k =
     record { told = refl; memory = λ (z : Trailing ≡ der.OutOfMemory). cc; none = h; placed = k }
 refusal-of octets place der.OutOfMemory h k = tt
 
-pub refused-holds : (terms : TermParts) (octets : List ℕ) (f : Fault) → IsRefusal octets f
-    → HoldsTo terms octets (Err f)
-refused-holds terms octets (Refused kind place e) h = h
-refused-holds terms octets OutOfMemory h = tt
-refused-holds terms octets (Unreadable cause) h = absurd h
-refused-holds terms octets TooLarge h = absurd h
-refused-holds terms octets Malformed h = absurd h
-refused-holds terms octets (Violated v) h = absurd h
-refused-holds terms octets (Unverified clause e) h = absurd h
-refused-holds terms octets NoCertificate h = absurd h
-refused-holds terms octets OtherAlgorithm h = absurd h
-
 -- an object in memory of its own
 pub boxed-is : {B : Type 0} (r : Result B Fault) (value : B → Object) (octets : List ℕ) (x : Object)
     → MatchResult r (λ b. value b ≡ x) (λ f. f ≡ OutOfMemory) → IsObject octets x
@@ -63,42 +51,58 @@ boxed-is (Err f) value octets x h k = subst (λ (g : Fault). IsRefusal octets g)
 pub given-up : (terms : TermParts) (octets : List ℕ) (r : Result Found Fault) (f : Fault)
     → IsErrAnd r (λ g. g ≡ f) → IsRefusal octets f → HoldsTo terms octets (finding_of r)
 given-up terms octets (Ok x) f h k = absurd h
-given-up terms octets (Err g) f h k =
-    refused-holds terms octets g (subst (λ (g : Fault). IsRefusal octets g) (sym h) k)
+given-up terms octets (Err g) f h k = subst (λ (g : Fault). IsRefusal octets g) (sym h) k
 
--- an object that doesn't hold
-pub unverified-holds : (terms : TermParts) (octets : List ℕ) (x : Object) (f : Fault) → IsObject octets x
-    → IsProfiled terms.inspection x → IsUnverifiedBy terms x f → HoldsTo terms octets (Err f)
-unverified-holds terms octets x f h k (inl m) = subst (λ (g : Fault). HoldsTo terms octets (Err g)) (sym m) tt
-unverified-holds terms octets x f h k (inr u) =
-    subst (λ (g : Fault). HoldsTo terms octets (Err g)) (sym u.2) (x, h, k, u.3)
+-- an object that holds, unless it is unverified
+pub verified-held : (terms : TermParts) (x : Object) (r : Result (Unit {0}) Fault) → IsProfiled terms.inspection x
+    → is_outside terms x ≡ false → MatchResult r (λ _. IsVerified terms x) (IsUnverifiedBy terms x)
+    → MatchResult r (λ _. IsHeld terms x) (λ f. (f ≡ OutOfMemory) ⊎ IsWrong terms x f)
+verified-held terms x (Ok u) h o v = record { profiled = h; verified = v; inside = o }
+verified-held terms x (Err f) h o (inl m) = inl m
+verified-held terms x (Err f) h o (inr u) =
+    inr (subst (λ (g : Fault). IsWrong terms x g) (sym u.2) (h, u.3))
 
 -- an object whose certificate has another profile
-unmet-holds : (terms : TermParts) (octets : List ℕ) (x : Object) (f : Fault) (inspection : Option Inspection)
-    → IsObject octets x → IsUnmet inspection (cert_of x) f → IsUnprofiled terms.inspection x f
-    → HoldsTo terms octets (Err f)
-unmet-holds terms octets x f inspection h (inl m) u =
-    subst (λ (g : Fault). IsUnprofiled terms.inspection x g → HoldsTo terms octets (Err g)) (sym m.0)
-    (λ (k : IsUnprofiled terms.inspection x NoCertificate). (x, h, k)) u
-unmet-holds terms octets x f inspection h (inr m) u =
-    subst (λ (g : Fault). IsUnprofiled terms.inspection x g → HoldsTo terms octets (Err g)) (sym m.1)
-    (λ (k : IsUnprofiled terms.inspection x (Violated m.0)). (x, h, k)) u
+unmet-wrong : (terms : TermParts) (x : Object) (f : Fault) (inspection : Option Inspection)
+    → IsUnmet inspection (cert_of x) f → IsUnprofiled terms.inspection x f → IsWrong terms x f
+unmet-wrong terms x f inspection (inl m) u =
+    subst (λ (g : Fault). IsUnprofiled terms.inspection x g → IsWrong terms x g) (sym m.0)
+    (λ (k : IsUnprofiled terms.inspection x NoCertificate). k) u
+unmet-wrong terms x f inspection (inr m) u =
+    subst (λ (g : Fault). IsUnprofiled terms.inspection x g → IsWrong terms x g) (sym m.1)
+    (λ (k : IsUnprofiled terms.inspection x (Violated m.0)). k) u
 
-unprofiled-by : (terms : TermParts) (octets : List ℕ) (x : Object) (f : Fault) → IsObject octets x
+unprofiled-by : (terms : TermParts) (x : Object) (f : Fault)
     → ((Meets terms.inspection (cert_of x) → ⊥) × IsUnmet terms.inspection (cert_of x) f)
     ⊎ (Meets terms.inspection (cert_of x) × IsUnmet (own_inspection terms.inspection x) (cert_of x) f)
-    → IsUnprofiled terms.inspection x f → HoldsTo terms octets (Err f)
-unprofiled-by terms octets x f h (inl m) u = unmet-holds terms octets x f terms.inspection h m.1 u
-unprofiled-by terms octets x f h (inr m) u =
-    unmet-holds terms octets x f (own_inspection terms.inspection x) h m.1 u
+    → IsUnprofiled terms.inspection x f → IsWrong terms x f
+unprofiled-by terms x f (inl m) u = unmet-wrong terms x f terms.inspection m.1 u
+unprofiled-by terms x f (inr m) u = unmet-wrong terms x f (own_inspection terms.inspection x) m.1 u
 
-pub unprofiled-holds : (terms : TermParts) (octets : List ℕ) (x : Object) (f : Fault) → IsObject octets x
-    → IsUnprofiled terms.inspection x f → HoldsTo terms octets (Err f)
-unprofiled-holds terms octets x f h u = unprofiled-by terms octets x f h u.1 u
+pub unprofiled-wrong : (terms : TermParts) (x : Object) (f : Fault) → IsUnprofiled terms.inspection x f
+    → IsWrong terms x f
+unprofiled-wrong terms x f u = unprofiled-by terms x f u.1 u
 
-pub outside-of : (terms : TermParts) (x y : Object) (b : Bool) → x ≡ y → is_outside terms x ≡ b
-    → is_outside terms y ≡ b
-outside-of terms x y b same h = subst (λ (z : Object). is_outside terms z ≡ b) same h
+-- an object that doesn't hold
+pub wrong-holds : (terms : TermParts) (octets : List ℕ) (x : Object) (f : Fault) → IsObject octets x
+    → (f ≡ OutOfMemory) ⊎ IsWrong terms x f → HoldsTo terms octets (wrong_finding octets x f)
+wrong-holds terms octets x OutOfMemory h w = tt
+wrong-holds terms octets x (Violated v) h (inl e) = absurd cc
+wrong-holds terms octets x (Violated v) h (inr w) = (refl, h, w)
+wrong-holds terms octets x (Unverified clause e) h (inl m) = absurd cc
+wrong-holds terms octets x (Unverified clause e) h (inr w) = (refl, h, w)
+wrong-holds terms octets x NoCertificate h (inl e) = absurd cc
+wrong-holds terms octets x NoCertificate h (inr w) = (refl, h, w)
+wrong-holds terms octets x OtherAlgorithm h (inl e) = absurd cc
+wrong-holds terms octets x OtherAlgorithm h (inr w) = (refl, h, w)
+wrong-holds terms octets x (Refused kind place e) h (inl m) = absurd cc
+wrong-holds terms octets x (Refused kind place e) h (inr w) = absurd w
+wrong-holds terms octets x (Unreadable cause) h (inl e) = absurd cc
+wrong-holds terms octets x (Unreadable cause) h (inr w) = absurd w
+wrong-holds terms octets x TooLarge h (inl e) = absurd cc
+wrong-holds terms octets x TooLarge h (inr w) = absurd w
+wrong-holds terms octets x Malformed h (inl e) = absurd cc
+wrong-holds terms octets x Malformed h (inr w) = absurd w
 
 -- a file that was not read
 pub not-read : (terms : TermParts) (source : Option (List ℕ)) (f : Fault) → IsRead source (Err f)

@@ -14,18 +14,19 @@ use Rattle.rpkicert.specs.declared.fault.Fault.TheVariants.{Unreadable, TooLarge
 use Rattle.rpkicert.specs.declared.fault.Fault.TheVariants.{Violated, Unverified, NoCertificate, OtherAlgorithm}
 use Rattle.rpki_fields.specs.declared.rendering.Form.{Form}
 use Rattle.rpkicert.specs.Fault.{status_of}
-use Rattle.rpkicert.specs.Finding.{Finding, HoldsTo, FindsIn, Finds, is_outside}
-use Rattle.rpkicert.specs.Profiled.{IsProfiled}
-use Rattle.rpkicert.specs.Signature.{signature_of}
+use Rattle.rpkicert.specs.Finding.{FoundParts, found_parts, Finding, IsHeld, IsJudged, HoldsTo, FindsIn, Finds}
+use Rattle.rpkicert.specs.declared.signature.Signature.{Signature}
+use Rattle.rpkicert.specs.Signature.{signature_found}
 use Rattle.rpkicert.specs.Request.{Asked}
-use Rattle.rpkicert.specs.Terms.{TermParts, term_parts, no_terms, IsVerified}
+use Rattle.rpkicert.specs.Terms.{TermParts, term_parts, no_terms}
 use Rattle.rpkicert.specs.Shown.{file_text, hashed, marked, IsTextOf, ShownParts, shown_parts, IsShown, IsSeen}
+use Rattle.rpkicert.specs.Shown.{IsChecked, fault_line, status_in}
 use Rattle.rpkicert.specs.Shown.{LacksMemory, AreSeen, outputs, faults, worst, IsRun}
 use Rattle.rpkicert.specs.Shown.{joined, numbered, IsSeenIn, AreSeenFrom, IsSeenEach, IsSeenOf}
 use Rattle.rpkicert.specs.Shown.IsSeenOf.{OfAll, OfEach, OfNone}
 use Rattle.rpkicert.specs.Shown.IsRun.{Whole, Cut}
-use Rattle.rpkicert.specs.Run.{Holds, IsMoment, issuer_in, IsIssuerOf, AreTerms, Sees, IsRunOf, AreKnown, IsKnown}
-use Rattle.rpkicert.specs.Run.{EndsWellWith}
+use Rattle.rpkicert.specs.Run.{Holds, IsMoment, issuer_in, issuer_or, IsIssuerOf, AreTerms, Sees, IsRunOf, AreKnown}
+use Rattle.rpkicert.specs.Run.{IsKnown, EndsWellWith}
 use Rattle.rpkicert.specs.Run.IsRunOf.{Held, Denied}
 use Rattle.rpkicert.specs.Words.{Prints}
 use Rattle.rpki_fields.proofs.OneObjectLaws.{one-of, none-of}
@@ -37,74 +38,96 @@ use Rattle.jiff.proofs.Family.{same_datetime}
 
 -- ---- the text
 
-pub one-text-of : (form : Form) (issued : Bool) (name octets : List ℕ) (x : Object) (text other : List ℕ)
-    → IsTextOf form issued name octets x text → IsTextOf form issued name octets x other → text ≡ other
-one-text-of form issued name octets x text other g h =
+pub one-text-of : (form : Form) (signature : Signature) (name octets : List ℕ) (x : Object) (text other : List ℕ)
+    → IsTextOf form signature name octets x text → IsTextOf form signature name octets x other → text ≡ other
+one-text-of form signature name octets x text other g h =
     g.2 ∙ ap (λ (s : SheetParts). rendering form
     (sheet_behind (field_parts (codes "File") (file_text form name))
-    (hashed octets (marked (signature_of issued x) s)))) (one-sheet octets x g.0 h.0 g.1 h.1) ∙ sym h.2
+    (hashed octets (marked signature s)))) (one-sheet octets x g.0 h.0 g.1 h.1) ∙ sym h.2
 
 -- ---- what is found
 
-abbrev IsAlone : List ℕ × Object → Finding → Type 0
+abbrev IsAlone : FoundParts → Finding → Type 0
 IsAlone found f = (f ≡ Ok found) ⊎ (f ≡ Err OutOfMemory)
 
-same-found : (a b : List ℕ × Object) → a.0 ≡ b.0 → a.1 ≡ b.1 → a ≡ b
-same-found a b p q = let e : (a.0, a.1) ≡ (b.0, b.1) = rw (p, q) refl in e
+same-found : (a b : FoundParts) → a.octets ≡ b.octets → a.object ≡ b.object → a.fault ≡ b.fault → a ≡ b
+same-found a b p q r =
+    let e : found_parts a.octets a.object a.fault ≡ found_parts b.octets b.object b.fault = rw (p, q, r) refl in e
 
-one-held : (terms : TermParts) (octets : List ℕ) (found : List ℕ × Object) (f : Finding)
+-- where an object holds, there is no fault of it
+held-alone : (terms : TermParts) (x : Object) (fault : Option Fault) → IsHeld terms x → IsJudged terms x fault
+    → fault ≡ None
+held-alone terms x None g h = refl
+held-alone terms x (Some (Violated e)) g h = absurd (h.0 g.profiled)
+held-alone terms x (Some NoCertificate) g h = absurd (h.0 g.profiled)
+held-alone terms x (Some (Unverified clause e)) g h = absurd (h.1.not_all g.verified)
+held-alone terms x (Some OtherAlgorithm) g h = absurd (false≢true (sym g.inside ∙ h))
+held-alone terms x (Some (Refused kind place e)) g h = absurd h
+held-alone terms x (Some OutOfMemory) g h = absurd h
+held-alone terms x (Some (Unreadable cause)) g h = absurd h
+held-alone terms x (Some TooLarge) g h = absurd h
+held-alone terms x (Some Malformed) g h = absurd h
+
+one-held : (terms : TermParts) (octets : List ℕ) (found : FoundParts) (f : Finding) → found.fault ≡ None
     → HoldsTo terms octets (Ok found) → HoldsTo terms octets f → IsAlone found f
-one-held terms octets found (Ok other) g h =
-    inl (ap (λ (w : List ℕ × Object). Ok w) (same-found other found (h.0 ∙ sym g.0)
-    (one-of (kind_of octets) octets other.1 found.1 h.1.is g.1.is)))
-one-held terms octets found (Err (Violated e)) g h =
-    absurd (h.2.0 (subst (λ (x : Object). IsProfiled terms.inspection x)
-    (one-of (kind_of octets) octets found.1 h.0 g.1.is h.1.is) g.2))
-one-held terms octets found (Err NoCertificate) g h =
-    absurd (h.2.0 (subst (λ (x : Object). IsProfiled terms.inspection x)
-    (one-of (kind_of octets) octets found.1 h.0 g.1.is h.1.is) g.2))
-one-held terms octets found (Err (Unverified clause e)) g h =
-    absurd (h.3.not_all (subst (λ (x : Object). IsVerified terms x)
-    (one-of (kind_of octets) octets found.1 h.0 g.1.is h.1.is) g.3))
-one-held terms octets found (Err OtherAlgorithm) g h =
-    absurd (false≢true (sym g.4 ∙ ap (is_outside terms)
-    (one-of (kind_of octets) octets found.1 h.0 g.1.is h.1.is) ∙ h.2))
-one-held terms octets found (Err (Refused kind place e)) g h =
-    absurd (none-of (kind_of octets) octets e found.1 h.memory h.none g.1.is)
-one-held terms octets found (Err OutOfMemory) g h = inr refl
-one-held terms octets found (Err (Unreadable cause)) g h = absurd h
-one-held terms octets found (Err TooLarge) g h = absurd h
-one-held terms octets found (Err Malformed) g h = absurd h
+one-held terms octets found (Ok other) n g h =
+    let same = one-of (kind_of octets) octets other.object found.object h.1.is g.1.is in
+    let held : IsHeld terms found.object = subst (λ (o : Option Fault). IsJudged terms found.object o) n g.2 in
+    let none = held-alone terms other.object other.fault (subst (λ (x : Object). IsHeld terms x) (sym same) held) h.2 in
+    inl (ap (λ (w : FoundParts). Ok w) (same-found other found (h.0 ∙ sym g.0) same (none ∙ sym n)))
+one-held terms octets found (Err (Refused kind place e)) n g h =
+    absurd (none-of (kind_of octets) octets e found.object h.memory h.none g.1.is)
+one-held terms octets found (Err OutOfMemory) n g h = inr refl
+one-held terms octets found (Err (Violated e)) n g h = absurd h
+one-held terms octets found (Err NoCertificate) n g h = absurd h
+one-held terms octets found (Err (Unverified clause e)) n g h = absurd h
+one-held terms octets found (Err OtherAlgorithm) n g h = absurd h
+one-held terms octets found (Err (Unreadable cause)) n g h = absurd h
+one-held terms octets found (Err TooLarge) n g h = absurd h
+one-held terms octets found (Err Malformed) n g h = absurd h
 
-one-found-in : (terms : TermParts) (input : List ℕ) (found : List ℕ × Object) (f : Finding)
+one-found-in : (terms : TermParts) (input : List ℕ) (found : FoundParts) (f : Finding) → found.fault ≡ None
     → FindsIn terms input (Ok found) → FindsIn terms input f → IsAlone found f
-one-found-in terms input found f (inl g) (inl h) =
+one-found-in terms input found f n (inl g) (inl h) =
     let same : h.0 ≡ g.0 = cc in
-    one-held terms g.0 found f g.2 (subst (λ (octets : List ℕ). HoldsTo terms octets f) same h.2)
-one-found-in terms input found f (inl g) (inr (inl h)) = absurd (let a = g.1 in let b = h.0 in cc)
-one-found-in terms input found f (inl g) (inr (inr h)) = inr h
-one-found-in terms input found f (inr (inl g)) h = absurd (let a = g.1 in cc)
-one-found-in terms input found f (inr (inr g)) h = absurd cc
+    one-held terms g.0 found f n g.2 (subst (λ (octets : List ℕ). HoldsTo terms octets f) same h.2)
+one-found-in terms input found f n (inl g) (inr (inl h)) = absurd (let a = g.1 in let b = h.0 in cc)
+one-found-in terms input found f n (inl g) (inr (inr h)) = inr h
+one-found-in terms input found f n (inr (inl g)) h = absurd (let a = g.1 in cc)
+one-found-in terms input found f n (inr (inr g)) h = absurd cc
 
-pub one-finding : (terms : TermParts) (source : Option (List ℕ)) (found : List ℕ × Object)
+pub one-finding : (terms : TermParts) (source : Option (List ℕ)) (found : FoundParts) → found.fault ≡ None
     → Finds terms source (Ok found) → (f : Finding) → Finds terms source f
     → (f ≡ Ok found) ⊎ (f ≡ Err OutOfMemory)
-one-finding terms None found (inl g) f h = absurd (let a = g.1 in cc)
-one-finding terms None found (inr g) f h = absurd cc
-one-finding terms (Some input) found (inl g) f (inl h) = one-found-in terms input found f g.1 h.1
-one-finding terms (Some input) found (inl g) f (inr (inl h)) = absurd (let a = g.0 in let b = h.0 in omega arith)
-one-finding terms (Some input) found (inl g) f (inr (inr h)) = inr h
-one-finding terms (Some input) found (inr (inl g)) f h = absurd (let a = g.1 in cc)
-one-finding terms (Some input) found (inr (inr g)) f h = absurd cc
+one-finding terms None found n (inl g) f h = absurd (let a = g.1 in cc)
+one-finding terms None found n (inr g) f h = absurd cc
+one-finding terms (Some input) found n (inl g) f (inl h) = one-found-in terms input found f n g.1 h.1
+one-finding terms (Some input) found n (inl g) f (inr (inl h)) =
+    absurd (let a = g.0 in let b = h.0 in omega arith)
+one-finding terms (Some input) found n (inl g) f (inr (inr h)) = inr h
+one-finding terms (Some input) found n (inr (inl g)) f h = absurd (let a = g.1 in cc)
+one-finding terms (Some input) found n (inr (inr g)) f h = absurd cc
 
 -- ---- what is seen
 
-one-shown : (check : Bool) (form : Form) (issued : Bool) (name : List ℕ) (found : List ℕ × Object) (s t : ShownParts)
-    → IsShown check form issued name (Ok found) s → IsShown check form issued name (Ok found) t → t ≡ s
-one-shown true form issued name found s t g h = h ∙ sym g
-one-shown false form issued name found s t g h =
-    h.2 ∙ ap (λ (text : List ℕ). shown_parts text [] 0) (one-text-of form issued name found.0 found.1 h.0 g.0 h.1 g.1)
-    ∙ sym g.2
+one-listed : (form : Form) (terms : TermParts) (name : List ℕ) (found : FoundParts) (s t : ShownParts)
+    → IsShown false form terms name (Ok found) s → IsShown false form terms name (Ok found) t → t ≡ s
+one-listed form terms name found s t g h =
+    h.2 ∙ ap (λ (text : List ℕ). shown_parts text (fault_line name found.fault) (status_in found.fault))
+    (one-text-of form (signature_found (is_some terms.issuer) found.object found.fault) name found.octets found.object
+    h.0 g.0 h.1 g.1) ∙ sym g.2
+
+one-checked : (form : Form) (terms : TermParts) (name : List ℕ) (x : Object) (fault : Option Fault) (s t : ShownParts)
+    → fault ≡ None → IsChecked form terms name x fault s → IsChecked form terms name x fault t → t ≡ s
+one-checked form terms name x None s t n g h = h ∙ sym g
+one-checked form terms name x (Some fault) s t n g h = absurd cc
+
+one-shown : (check : Bool) (form : Form) (terms : TermParts) (name : List ℕ) (found : FoundParts) (s t : ShownParts)
+    → found.fault ≡ None → IsShown check form terms name (Ok found) s → IsShown check form terms name (Ok found) t
+    → t ≡ s
+one-shown true form terms name found s t n g h =
+    one-checked form terms name found.object found.fault s t n g h
+one-shown false form terms name found s t n g h = one-listed form terms name found s t g h
 
 fault-status : (fault : Fault) → status_of fault ≡ 0 → ⊥
 fault-status (Unreadable cause) e = omega arith
@@ -117,63 +140,93 @@ fault-status (Unverified clause x) e = omega arith
 fault-status NoCertificate e = omega arith
 fault-status OtherAlgorithm e = omega arith
 
-shown-status : (check : Bool) (form : Form) (issued : Bool) (name : List ℕ) (fault : Fault) (s : ShownParts)
-    → IsShown check form issued name (Err fault) s → s.status ≡ status_of fault
-shown-status true form issued name fault s g = ap (λ (w : ShownParts). w.status) g
-shown-status false form issued name fault s g = ap (λ (w : ShownParts). w.status) g
+shown-status : (check : Bool) (form : Form) (terms : TermParts) (name : List ℕ) (fault : Fault) (s : ShownParts)
+    → IsShown check form terms name (Err fault) s → s.status ≡ status_of fault
+shown-status true form terms name fault s g = ap (λ (w : ShownParts). w.status) g
+shown-status false form terms name fault s g = ap (λ (w : ShownParts). w.status) g
+
+-- with the status 0 there is no fault
+some-status : (form : Form) (terms : TermParts) (name : List ℕ) (x : Object) (fault : Fault) (s : ShownParts)
+    → IsChecked form terms name x (Some fault) s → s.status ≡ status_of fault
+some-status form terms name x (Violated v) s g = ap (λ (w : ShownParts). w.status) g.2
+some-status form terms name x (Unreadable cause) s g = ap (λ (w : ShownParts). w.status) g
+some-status form terms name x TooLarge s g = ap (λ (w : ShownParts). w.status) g
+some-status form terms name x OutOfMemory s g = ap (λ (w : ShownParts). w.status) g
+some-status form terms name x Malformed s g = ap (λ (w : ShownParts). w.status) g
+some-status form terms name x (Refused kind place e) s g = ap (λ (w : ShownParts). w.status) g
+some-status form terms name x (Unverified clause e) s g = ap (λ (w : ShownParts). w.status) g
+some-status form terms name x NoCertificate s g = ap (λ (w : ShownParts). w.status) g
+some-status form terms name x OtherAlgorithm s g = ap (λ (w : ShownParts). w.status) g
+
+checked-status : (form : Form) (terms : TermParts) (name : List ℕ) (x : Object) (fault : Option Fault) (s : ShownParts)
+    → IsChecked form terms name x fault s → s.status ≡ 0 → fault ≡ None
+checked-status form terms name x None s g z = refl
+checked-status form terms name x (Some fault) s g z =
+    absurd (fault-status fault (sym (some-status form terms name x fault s g) ∙ z))
+
+listed-status : (fault : Option Fault) → status_in fault ≡ 0 → fault ≡ None
+listed-status None z = refl
+listed-status (Some fault) z = absurd (fault-status fault z)
+
+well-shown : (check : Bool) (form : Form) (terms : TermParts) (name : List ℕ) (found : FoundParts) (s : ShownParts)
+    → IsShown check form terms name (Ok found) s → s.status ≡ 0 → found.fault ≡ None
+well-shown true form terms name found s g z = checked-status form terms name found.object found.fault s g z
+well-shown false form terms name found s g z =
+    listed-status found.fault (sym (ap (λ (w : ShownParts). w.status) g.2) ∙ z)
 
 -- another finding is shown
-other-shown : (check : Bool) (form : Form) (issued : Bool) (name : List ℕ) (found : List ℕ × Object) (f : Finding)
-    (s t : ShownParts) → IsAlone found f
-    → IsShown check form issued name (Ok found) s → IsShown check form issued name f t
-    → (t ≡ s) ⊎ LacksMemory check form issued name t
-other-shown check form issued name found f s t (inl e) g h =
-    inl (one-shown check form issued name found s t g (subst (λ (w : Finding). IsShown check form issued name w t) e h))
-other-shown check form issued name found f s t (inr e) g h =
-    inr (inl (subst (λ (w : Finding). IsShown check form issued name w t) e h))
+other-shown : (check : Bool) (form : Form) (terms : TermParts) (name : List ℕ) (found : FoundParts) (f : Finding)
+    (s t : ShownParts) → found.fault ≡ None → IsAlone found f
+    → IsShown check form terms name (Ok found) s → IsShown check form terms name f t
+    → (t ≡ s) ⊎ LacksMemory check form terms name t
+other-shown check form terms name found f s t n (inl e) g h =
+    inl (one-shown check form terms name found s t n g (subst (λ (w : Finding). IsShown check form terms name w t) e h))
+other-shown check form terms name found f s t n (inr e) g h =
+    inr (inl (subst (λ (w : Finding). IsShown check form terms name w t) e h))
 
 good-seen : (check : Bool) (form : Form) (terms : TermParts) (name : List ℕ) (source : Option (List ℕ))
-    (f : Finding) (s t : ShownParts) → Finds terms source f → IsShown check form (is_some terms.issuer) name f s
+    (f : Finding) (s t : ShownParts) → Finds terms source f → IsShown check form terms name f s
     → s.status ≡ 0 → IsSeen check form terms name source t
-    → (t ≡ s) ⊎ LacksMemory check form (is_some terms.issuer) name t
+    → (t ≡ s) ⊎ LacksMemory check form terms name t
 good-seen check form terms name source (Err fault) s t g k z h =
-    absurd (fault-status fault (sym (shown-status check form (is_some terms.issuer) name fault s k) ∙ z))
+    absurd (fault-status fault (sym (shown-status check form terms name fault s k) ∙ z))
 good-seen check form terms name source (Ok found) s t g k z (inl h) =
-    other-shown check form (is_some terms.issuer) name found h.0 s t (one-finding terms source found g h.0 h.1) k h.2
+    let none = well-shown check form terms name found s k z in
+    other-shown check form terms name found h.0 s t none (one-finding terms source found none g h.0 h.1) k h.2
 good-seen check form terms name source (Ok found) s t g k z (inr h) = inr (inr h)
 
 pub one-seen : (check : Bool) (form : Form) (terms : TermParts) (name : List ℕ) (source : Option (List ℕ))
     (s t : ShownParts)
     → IsSeen check form terms name source s → s.status ≡ 0 → IsSeen check form terms name source t
-    → (t ≡ s) ⊎ LacksMemory check form (is_some terms.issuer) name t
+    → (t ≡ s) ⊎ LacksMemory check form terms name t
 one-seen check form terms name source s t (inl g) z h = good-seen check form terms name source g.0 s t g.1 g.2 z h
 one-seen check form terms name source s t (inr g) z h =
     absurd (let e : s.status ≡ 2 = ap (λ (w : ShownParts). w.status) g in omega arith)
 
 -- ---- files
 
-lacking-status : (check : Bool) (form : Form) (issued : Bool) (name : List ℕ) (s : ShownParts)
-    → LacksMemory check form issued name s → s.status ≡ 2
-lacking-status check form issued name s (inl g) = shown-status check form issued name OutOfMemory s g
-lacking-status check form issued name s (inr g) = ap (λ (w : ShownParts). w.status) g
+lacking-status : (check : Bool) (form : Form) (terms : TermParts) (name : List ℕ) (s : ShownParts)
+    → LacksMemory check form terms name s → s.status ≡ 2
+lacking-status check form terms name s (inl g) = shown-status check form terms name OutOfMemory s g
+lacking-status check form terms name s (inr g) = ap (λ (w : ShownParts). w.status) g
 
-unless-lacking : (check : Bool) (form : Form) (issued : Bool) (name : List ℕ) (s t : ShownParts)
-    → (t ≡ s) ⊎ LacksMemory check form issued name t → t.status ≡ 0 → t ≡ s
-unless-lacking check form issued name s t (inl e) z = e
-unless-lacking check form issued name s t (inr g) z =
-    absurd (let e = lacking-status check form issued name t g in omega arith)
+unless-lacking : (check : Bool) (form : Form) (terms : TermParts) (name : List ℕ) (s t : ShownParts)
+    → (t ≡ s) ⊎ LacksMemory check form terms name t → t.status ≡ 0 → t ≡ s
+unless-lacking check form terms name s t (inl e) z = e
+unless-lacking check form terms name s t (inr g) z =
+    absurd (let e = lacking-status check form terms name t g in omega arith)
 
 -- ---- several certificates
 
 one-inside : (check : Bool) (form : Form) (terms : TermParts) (name input : List ℕ) (f : Finding) (s t : ShownParts)
-    → FindsIn terms input f → IsShown check form (is_some terms.issuer) name f s
+    → FindsIn terms input f → IsShown check form terms name f s
     → IsSeenIn check form terms name input t → s.status ≡ 0 → t.status ≡ 0 → t ≡ s
 one-inside check form terms name input (Err fault) s t g k h y z =
-    absurd (fault-status fault (sym (shown-status check form (is_some terms.issuer) name fault s k) ∙ y))
+    absurd (fault-status fault (sym (shown-status check form terms name fault s k) ∙ y))
 one-inside check form terms name input (Ok found) s t g k h y z =
-    unless-lacking check form (is_some terms.issuer) name s t
-    (other-shown check form (is_some terms.issuer) name found h.0 s t (one-found-in terms input found h.0 g h.1) k h.2)
-    z
+    let none = well-shown check form terms name found s k y in
+    unless-lacking check form terms name s t
+    (other-shown check form terms name found h.0 s t none (one-found-in terms input found h.0 none g h.1) k h.2) z
 
 one-each : (check : Bool) (form : Form) (terms : TermParts) (name : List ℕ) (number : ℕ) (texts : List (List ℕ))
     (all others : List ShownParts) → AreSeenFrom (IsSeenIn check form terms) name number texts all
@@ -197,25 +250,25 @@ one-joined check form terms name texts others s t e g h y z =
     k.2 ∙ ap joined (one-each check form terms name 1 texts g.0 k.0 g.1 k.1
     (sym (ap (λ (w : ShownParts). w.status) g.2) ∙ y) (sym (ap (λ (w : ShownParts). w.status) k.2) ∙ z)) ∙ sym g.2
 
-lacks-none : {P : Type 0} (check : Bool) (form : Form) (issued : Bool) (name : List ℕ) (s : ShownParts)
-    → LacksMemory check form issued name s → s.status ≡ 0 → P
-lacks-none check form issued name s g z = absurd (let e = lacking-status check form issued name s g in omega arith)
+lacks-none : {P : Type 0} (check : Bool) (form : Form) (terms : TermParts) (name : List ℕ) (s : ShownParts)
+    → LacksMemory check form terms name s → s.status ≡ 0 → P
+lacks-none check form terms name s g z = absurd (let e = lacking-status check form terms name s g in omega arith)
 
 pub one-of-file : (check : Bool) (form : Form) (terms : TermParts) (name : List ℕ) (source : Option (List ℕ))
     (s t : ShownParts) → IsSeenOf check form terms name source s → s.status ≡ 0
     → IsSeenOf check form terms name source t → t.status ≡ 0 → t ≡ s
 one-of-file check form terms name source s t (OfAll e g) y (OfAll f h) z =
-    unless-lacking check form (is_some terms.issuer) name s t (one-seen check form terms name source s t g y h) z
+    unless-lacking check form terms name s t (one-seen check form terms name source s t g y h) z
 one-of-file check form terms name source s t (OfAll e g) y (OfEach texts f h) z = absurd cc
 one-of-file check form terms name source s t (OfEach texts e g) y (OfAll f h) z = absurd cc
 one-of-file check form terms name source s t (OfEach texts e g) y (OfEach others f h) z =
     let same : others ≡ texts = cc in one-joined check form terms name texts others s t same g h y z
 one-of-file check form terms name source s t (OfNone g) y h z =
-    lacks-none check form (is_some terms.issuer) name s g y
+    lacks-none check form terms name s g y
 one-of-file check form terms name source s t (OfAll e g) y (OfNone h) z =
-    lacks-none check form (is_some terms.issuer) name t h z
+    lacks-none check form terms name t h z
 one-of-file check form terms name source s t (OfEach texts e g) y (OfNone h) z =
-    lacks-none check form (is_some terms.issuer) name t h z
+    lacks-none check form terms name t h z
 
 one-sees : (held : Option (Option (List ℕ))) (check : Bool) (form : Form) (terms : TermParts) (name : List ℕ)
     (s t : ShownParts) → IsSome held
@@ -253,7 +306,11 @@ one-moment (Some word) (Some t) (Some u) g h =
     let same : civil_nanos t ≡ civil_nanos u = cc in
     ap Some (same_datetime t u same)
 
-other-issuer : (found : List ℕ × Object) (k : Finding) (t u : TbsParts) → IsAlone found k
+issuer-held : (x : Object) (fault : Option Fault) (t : TbsParts) → issuer_or x fault ≡ Ok t → fault ≡ None
+issuer-held x None t p = refl
+issuer-held x (Some fault) t p = absurd (let r = p in cc)
+
+other-issuer : (found : FoundParts) (k : Finding) (t u : TbsParts) → IsAlone found k
     → issuer_in (Ok found) ≡ Ok t → issuer_in k ≡ Ok u → t ≡ u
 other-issuer found k t u (inl e) p q = let r = sym p ∙ sym (ap issuer_in e) ∙ q in cc
 other-issuer found k t u (inr e) p q = absurd (let r = sym (ap issuer_in e) ∙ q in cc)
@@ -261,7 +318,9 @@ other-issuer found k t u (inr e) p q = absurd (let r = sym (ap issuer_in e) ∙ 
 same-issuer : (source : Option (List ℕ)) (f k : Finding) (t u : TbsParts) → Finds no_terms source f
     → Finds no_terms source k → issuer_in f ≡ Ok t → issuer_in k ≡ Ok u → t ≡ u
 same-issuer source (Err fault) k t u g h p q = absurd (let r = p in cc)
-same-issuer source (Ok found) k t u g h p q = other-issuer found k t u (one-finding no_terms source found g k h) p q
+same-issuer source (Ok found) k t u g h p q =
+    other-issuer found k t u
+    (one-finding no_terms source found (issuer-held found.object found.fault t p) g k h) p q
 
 held-issuer : (held : Option (Option (List ℕ))) (f k : Finding) (t u : TbsParts) → IsSome held
     → IfSome held (λ source. Finds no_terms source f) → IfSome held (λ source. Finds no_terms source k)

@@ -108,7 +108,7 @@ large-none octets h =
 
 -- what wasn't read
 unread-seen : (check : Bool) (form : Form) (terms : TermParts) (name : List ℕ) (source : Option (List ℕ)) (f : Fault)
-    (s : ShownParts) → IsRead source (Err f) → IsShown check form (is_some terms.issuer) name (Err f) s
+    (s : ShownParts) → IsRead source (Err f) → IsShown check form terms name (Err f) s
     → IsSeenOf check form terms name source s
 unread-seen check form terms name None f s h k = OfAll refl (inl (Err f, not-read terms None f h, k))
 unread-seen check form terms name (Some octets) TooLarge s h k =
@@ -123,12 +123,9 @@ unread-seen check form terms name (Some octets) NoCertificate s h k = absurd h
 unread-seen check form terms name (Some octets) OtherAlgorithm s h k = absurd h
 
 pub not-seen : {E : Type 0} (held : Option (Option (List ℕ))) (check : Bool) (form : Form) (terms : TermParts)
-    (issued : Bool) (name : List ℕ) (f : Fault) (r : Result Shown E) → issued ≡ is_some terms.issuer
-    → IfSome held (λ source. IsRead source (Err f))
-    → IfOk r (λ s. IsShown check form issued name (Err f) (parts_of s))
+    (name : List ℕ) (f : Fault) (r : Result Shown E) → IfSome held (λ source. IsRead source (Err f))
+    → IfOk r (λ s. IsShown check form terms name (Err f) (parts_of s))
     → IfSome held (λ source. IsSeenOf check form terms name source (seen_of r))
-not-seen None check form terms issued name f r e h k = tt
-not-seen (Some source) check form terms issued name f (Ok s) e h k =
-    unread-seen check form terms name source f (parts_of s) h
-    (subst (λ (b : Bool). IsShown check form b name (Err f) (parts_of s)) e k)
-not-seen (Some source) check form terms issued name f (Err x) e h k = OfNone (inr refl)
+not-seen None check form terms name f r h k = tt
+not-seen (Some source) check form terms name f (Ok s) h k = unread-seen check form terms name source f (parts_of s) h k
+not-seen (Some source) check form terms name f (Err x) h k = OfNone (inr refl)

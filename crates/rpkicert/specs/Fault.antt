@@ -1,4 +1,4 @@
--- Why nothing is printed of a file.
+-- What is wrong with a file.
 use Rattle.std.specs.Prelude.{ℕ, nat_eq, Bool, if◌then◌else◌, List, [], ◌++◌, codes, unwrap_or, Option}
 use Rattle.std.specs.List.{ends_with}
 use Rattle.rpki_der.specs.declared.error.DecodeError.{DecodeError}

@@ -23,9 +23,18 @@ abbrev pub is_outside : TermParts → Object → Bool
 is_outside terms x =
     (is_some terms.inspection || is_some terms.issuer || is_some terms.moment) && is_some (objection_to x)
 
--- an object and its octets, or a fault
+-- an object, its octets, and why it doesn't hold, where it doesn't
+pub record FoundParts : Type 0 where
+  pub octets : List ℕ
+  pub object : Object
+  pub fault : Option Fault
+
+abbrev pub found_parts : List ℕ → Object → Option Fault → FoundParts
+found_parts octets object fault = record { octets = octets; object = object; fault = fault }
+
+-- what is found of a file, or why nothing is
 abbrev pub Finding : Type 0
-Finding = Result (List ℕ × Object) Fault
+Finding = Result FoundParts Fault
 
 -- the octets are this object, which is of the kind that they tell, and no other
 pub record IsObject (octets : List ℕ) (x : Object) : Type 0 where
@@ -50,24 +59,35 @@ IsRefusal octets (Unverified clause e) = ⊥
 IsRefusal octets NoCertificate = ⊥
 IsRefusal octets OtherAlgorithm = ⊥
 
--- What is found of octets: the object that they are, where it holds; or why there is none, or it doesn't: first the
--- profiles of the certificate in it, then the clauses of Terms; or allocation failed.
+-- the object holds
+pub record IsHeld (terms : TermParts) (x : Object) : Type 0 where
+  pub profiled : IsProfiled terms.inspection x
+  pub verified : IsVerified terms x
+  pub inside : is_outside terms x ≡ false
+
+-- Why the object doesn't hold: first the profiles of the certificate in it, then the clauses of Terms.
+abbrev pub IsWrong : TermParts → Object → Fault → Type 0
+IsWrong terms x (Violated v) = IsUnprofiled terms.inspection x (Violated v)
+IsWrong terms x (Unverified clause e) = IsProfiled terms.inspection x × IsUnverified terms x clause e
+IsWrong terms x NoCertificate = IsUnprofiled terms.inspection x NoCertificate
+IsWrong terms x OtherAlgorithm = is_outside terms x ≡ true
+IsWrong terms x (Refused kind place e) = ⊥
+IsWrong terms x OutOfMemory = ⊥
+IsWrong terms x (Unreadable cause) = ⊥
+IsWrong terms x TooLarge = ⊥
+IsWrong terms x Malformed = ⊥
+
+-- the object holds, or this is why it doesn't
+abbrev pub IsJudged : TermParts → Object → Option Fault → Type 0
+IsJudged terms x None = IsHeld terms x
+IsJudged terms x (Some fault) = IsWrong terms x fault
+
+-- What is found of octets: the object that they are, and why it doesn't hold, where it doesn't; or why they are none;
+-- or allocation failed.
 abbrev pub HoldsTo : TermParts → List ℕ → Finding → Type 0
 HoldsTo terms octets (Ok found) =
-    (found.0 ≡ octets) × IsObject octets found.1 × IsProfiled terms.inspection found.1 × IsVerified terms found.1
-    × (is_outside terms found.1 ≡ false)
-HoldsTo terms octets (Err (Violated v)) =
-    (x : Object) × IsObject octets x × IsUnprofiled terms.inspection x (Violated v)
-HoldsTo terms octets (Err (Unverified clause e)) =
-    (x : Object) × IsObject octets x × IsProfiled terms.inspection x × IsUnverified terms x clause e
-HoldsTo terms octets (Err NoCertificate) =
-    (x : Object) × IsObject octets x × IsUnprofiled terms.inspection x NoCertificate
-HoldsTo terms octets (Err OtherAlgorithm) = (x : Object) × IsObject octets x × (is_outside terms x ≡ true)
-HoldsTo terms octets (Err (Refused kind place e)) = IsRefusal octets (Refused kind place e)
-HoldsTo terms octets (Err OutOfMemory) = Unit {0}
-HoldsTo terms octets (Err (Unreadable cause)) = ⊥
-HoldsTo terms octets (Err TooLarge) = ⊥
-HoldsTo terms octets (Err Malformed) = ⊥
+    (found.octets ≡ octets) × IsObject octets found.object × IsJudged terms found.object found.fault
+HoldsTo terms octets (Err fault) = IsRefusal octets fault
 
 -- The same of an input, which may be a text that stands for octets, or for none.
 abbrev pub FindsIn : TermParts → List ℕ → Finding → Type 0
@@ -82,10 +102,10 @@ Finds terms (Some input) finding =
     ((length input ≤ most_octets) × FindsIn terms input finding)
     ⊎ ((most_octets < length input) × (finding ≡ Err TooLarge)) ⊎ (finding ≡ Err OutOfMemory)
 
--- where this object is found, nothing else is, unless allocation fails
-abbrev pub IsFoundAlone : TermParts → Option (List ℕ) → List ℕ × Object → Type 0
+-- where this object is found, and holds, nothing else is found, unless allocation fails
+abbrev pub IsFoundAlone : TermParts → Option (List ℕ) → FoundParts → Type 0
 IsFoundAlone terms source found =
-    Finds terms source (Ok found) → (f : Finding) → Finds terms source f
+    found.fault ≡ None → Finds terms source (Ok found) → (f : Finding) → Finds terms source f
     → (f ≡ Ok found) ⊎ (f ≡ Err OutOfMemory)
 
 -- What reading a file gives: all of its octets, which are few enough; or why not.

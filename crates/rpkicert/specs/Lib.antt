@@ -4,6 +4,7 @@ pub mod Violation
 pub mod Fault
 pub mod Terms
 pub mod Profiled
+pub mod Broken
 pub mod Finding
 pub mod Signature
 pub mod Shown

@@ -55,9 +55,14 @@ certificate_in (Aspa a) = Err NoCertificate
 certificate_in (SignedObject o) = Err NoCertificate
 certificate_in (OtherCertificate c) = Err OtherAlgorithm
 
+-- the same of an object that holds, or doesn't for this fault
+abbrev pub issuer_or : Object → Option Fault → Result TbsParts Fault
+issuer_or x None = certificate_in x
+issuer_or x (Some fault) = Err fault
+
 -- the same of what was found; or why there is none
 abbrev pub issuer_in : Finding → Result TbsParts Fault
-issuer_in (Ok found) = certificate_in found.1
+issuer_in (Ok found) = issuer_or found.object found.fault
 issuer_in (Err fault) = Err fault
 
 -- what is found in the file of this name, as of an issuer

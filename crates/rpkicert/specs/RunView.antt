@@ -5,6 +5,7 @@ use Rattle.rpki_cert.specs.Cert.{TbsParts}
 use Rattle.rpkicert.specs.declared.finding.Found.{Found}
 use Rattle.rpkicert.specs.declared.request.Request.{Request}
 use Rattle.rpkicert.specs.declared.terms.Terms.{Terms}
+use Rattle.rpkicert.specs.FindingView.{found_of}
 use Rattle.rpkicert.specs.RequestView.{asked_of}
 use Rattle.rpkicert.specs.Run.{Holds, IsMoment, IsRunOf, RunsOver, RunsBy, issuer_in}
 use Rattle.rpkicert.specs.Terms.{term_parts}
@@ -24,8 +25,7 @@ RunsTo holds old new was is status r issuer moment =
 abbrev pub RunsOf : Holds → (old new was is : Option (List ℕ)) → ℕ → Request → (name : List ℕ) → Option DateTime
     → Found → Type 0
 RunsOf holds old new was is status r name moment found =
-    RunsBy holds old new was is status (asked_of r) name moment
-    (issuer_in (Ok (found.octets.items, found.object.value)))
+    RunsBy holds old new was is status (asked_of r) name moment (issuer_in (Ok (found_of found)))
 
 -- at this moment, where it is the one that is asked for
 abbrev pub RunsAt : Holds → (old new was is : Option (List ℕ)) → ℕ → Request → Option DateTime → Type 0

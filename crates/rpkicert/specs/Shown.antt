@@ -1,27 +1,31 @@
 -- What is shown of a file, and of a run.
 use Rattle.std.specs.Prelude.{◌≡◌, ◌⊎◌, ℕ, suc, nat_lt, nat_eq, ◌||◌, max, if◌then◌else◌, List, [], ◌∷◌, ◌++◌, codes}
-use Rattle.std.specs.Prelude.{length, decimal, Option, Some, None, Result, Ok, Err, Bool, true, false, is_some}
+use Rattle.std.specs.Prelude.{length, map, decimal, Option, Some, None, Result, Ok, Err, Bool, true, false, is_some}
 use Rattle.std.specs.Io.KnownBytes.{Appends}
 use Rattle.std.specs.List.{flat_map}
 use Rattle.rpki_der.specs.Written.{AppendsBeginning, AppendsCut}
 use Rattle.rpki_fields.specs.declared.rendering.Form.{Form}
 use Rattle.rpki_fields.specs.declared.rendering.Form.TheVariants.{Text, Json}
-use Rattle.rpkicert.specs.declared.fault.Fault.TheVariants.{OutOfMemory}
+use Rattle.rpkicert.specs.declared.fault.Fault.TheVariants.{OutOfMemory, Violated}
 use Rattle.rpki_fields.specs.ValueText.{hex_pair}
 use Rattle.base64.specs.Engines.{standard}
 use Rattle.base64.specs.GeneralPurpose.{encode_of}
 use Rattle.sha2.specs.Sha256.{sha256}
-use Rattle.rpki_fields.specs.Field.{field_parts}
+use Rattle.rpki_fields.specs.Field.{FieldParts, field_parts}
 use Rattle.rpki_fields.specs.Rendering.{rendering}
 use Rattle.rpki_fields.specs.Object.{objection_to}
 use Rattle.rpki_fields.specs.ObjectText.{IsSheet}
-use Rattle.rpki_fields.specs.Sheet.{SheetParts, plain_sheet, sheet_behind}
+use Rattle.rpki_fields.specs.Sheet.{SheetParts, listing_parts, plain_sheet, sheet_behind, sheet_with}
 use Rattle.rpki_fields.specs.declared.object.Object.{Object}
 use Rattle.rpkicert.specs.Pem.{bundle_in}
 use Rattle.rpkicert.specs.Fault.{most_octets, fault_text, status_of}
 use Rattle.rpkicert.specs.Finding.{Finding, FindsIn, Finds}
+use Rattle.rpkicert.specs.declared.fault.Fault.{Fault}
 use Rattle.rpkicert.specs.declared.signature.Signature.{Signature}
-use Rattle.rpkicert.specs.Signature.{signature_text, good_text, signature_of, signature_in}
+use Rattle.rpkicert.specs.declared.violation.Violation.{Violation}
+use Rattle.rpkicert.specs.Violation.{violation_text}
+use Rattle.rpkicert.specs.Broken.{AreViolations}
+use Rattle.rpkicert.specs.Signature.{signature_text, good_text, signature_of, signature_in, signature_found}
 use Rattle.rpkicert.specs.Terms.{TermParts}
 use Rattle.rpkicert.specs.Words.{memory_text}
 
@@ -58,19 +62,23 @@ abbrev pub hashed : (octets : List ℕ) → SheetParts → SheetParts
 hashed octets s = sheet_behind (field_parts (codes "Hash ID") (hash_text octets)) s
 
 -- the text of the object that these octets are: its file and the digest, and then its sheet, in one form or the other
-abbrev pub IsTextOf : Form → (issued : Bool) → List ℕ → List ℕ → Object → List ℕ → Type 0
-IsTextOf form issued name octets x text =
+abbrev pub IsTextOf : Form → Signature → List ℕ → List ℕ → Object → List ℕ → Type 0
+IsTextOf form signature name octets x text =
     (s : SheetParts) × IsSheet octets x s
     × (text ≡ rendering form (sheet_behind (field_parts (codes "File") (file_text form name))
-    (hashed octets (marked (signature_of issued x) s))))
+    (hashed octets (marked signature s))))
+
+-- a sheet of the name of a file, of what was checked of the signatures, and of the verdict
+abbrev pub verdict_sheet : Signature → (name said : List ℕ) → SheetParts
+verdict_sheet signature name said =
+    sheet_behind (field_parts (codes "File") name)
+    (marked signature (sheet_behind (field_parts (codes "Verdict") said) (plain_sheet [])))
 
 -- The verdict on a file, OK or what is wrong: a line, or an object of JSON on a line; and there what was checked of the
 -- signatures. It isn't under the name `validation`, by which `rpki-client -f -j` means a whole path.
 abbrev pub verdict : Form → Signature → (name said : List ℕ) → List ℕ
 verdict Text signature name said = line name said
-verdict Json signature name said =
-    rendering Json (sheet_behind (field_parts (codes "File") name)
-    (marked signature (sheet_behind (field_parts (codes "Verdict") said) (plain_sheet []))))
+verdict Json signature name said = rendering Json (verdict_sheet signature name said)
 
 -- what goes to the output, what goes to the faults, and the status
 pub record ShownParts : Type 0 where
@@ -86,38 +94,79 @@ abbrev pub checked_parts : Form → Signature → (name : List ℕ) → Option (
 checked_parts form signature name None = shown_parts (verdict form signature name (good_text signature)) [] 0
 checked_parts form signature name (Some said) = shown_parts (verdict form signature name said) [] 1
 
--- an object by its sheet, a fault by a line among the faults; or only the verdict on either
-abbrev pub IsShown : (check : Bool) → Form → (issued : Bool) → List ℕ → Finding → ShownParts → Type 0
-IsShown true form issued name (Ok found) s =
-    s ≡ checked_parts form (signature_of issued found.1) name (objection_to found.1)
-IsShown true form issued name (Err fault) s =
-    s ≡ shown_parts (verdict form (signature_in fault) name (fault_text fault)) [] (status_of fault)
-IsShown false form issued name (Ok found) s =
-    (text : List ℕ) × IsTextOf form issued name found.0 found.1 text × (s ≡ shown_parts text [] 0)
-IsShown false form issued name (Err fault) s =
-    s ≡ shown_parts [] (codes "rpkicert: " ++ line name (fault_text fault)) (status_of fault)
+-- the verdict on a fault
+abbrev pub checked_fault : Form → (name : List ℕ) → Fault → ShownParts
+checked_fault form name fault =
+    shown_parts (verdict form (signature_in fault) name (fault_text fault)) [] (status_of fault)
+
+-- each rule that is broken, by its section, as an item
+abbrev pub rule_item : Violation → List FieldParts
+rule_item v = field_parts (codes "Rule") (violation_text v) ∷ []
+
+-- the line of a rule that is broken
+abbrev pub rule_line : (name : List ℕ) → Violation → List ℕ
+rule_line name v = line name (fault_text (Violated v))
+
+-- The verdict on an object whose certificate breaks these rules, of which this is the first: a line for each; in JSON
+-- that of the first, and after it each of them.
+abbrev pub violated : Form → (name : List ℕ) → (first : Violation) → List Violation → List ℕ
+violated Text name first all = flat_map (rule_line name) all
+violated Json name first all =
+    rendering Json (sheet_with (listing_parts (codes "Violations") (map rule_item all) true)
+    (verdict_sheet (signature_in (Violated first)) name (fault_text (Violated first))))
+
+-- The verdict on an object, which doesn't hold for this fault, or holds: where its certificate violates a profile, all
+-- of the rules that it breaks.
+abbrev pub IsChecked : Form → TermParts → (name : List ℕ) → Object → Option Fault → ShownParts → Type 0
+IsChecked form terms name x None s =
+    s ≡ checked_parts form (signature_of (is_some terms.issuer) x) name (objection_to x)
+IsChecked form terms name x (Some (Violated v)) s =
+    (all : List Violation) × AreViolations terms.inspection x all
+    × (s ≡ shown_parts (violated form name v all) [] (status_of (Violated v)))
+IsChecked form terms name x (Some fault) s = s ≡ checked_fault form name fault
+
+-- a fault, where there is one, as a line among the faults, and its status
+abbrev pub fault_line : (name : List ℕ) → Option Fault → List ℕ
+fault_line name None = []
+fault_line name (Some fault) = codes "rpkicert: " ++ line name (fault_text fault)
+
+abbrev pub status_in : Option Fault → ℕ
+status_in None = 0
+status_in (Some fault) = status_of fault
+
+-- an object by its sheet, whether it holds or not, and a fault by a line among the faults; or only the verdict
+abbrev pub IsShown : (check : Bool) → Form → TermParts → List ℕ → Finding → ShownParts → Type 0
+IsShown true form terms name (Ok found) s = IsChecked form terms name found.object found.fault s
+IsShown true form terms name (Err fault) s = s ≡ checked_fault form name fault
+IsShown false form terms name (Ok found) s =
+    (text : List ℕ)
+    × IsTextOf form (signature_found (is_some terms.issuer) found.object found.fault) name found.octets found.object
+    text
+    × (s ≡ shown_parts text (fault_line name found.fault) (status_in found.fault))
+IsShown false form terms name (Err fault) s =
+    s ≡ shown_parts [] (fault_line name (Some fault)) (status_of fault)
 
 -- What is seen of a file: what was found, as it is shown; or that there was no memory to show it.
 abbrev pub IsSeen : (check : Bool) → Form → TermParts → List ℕ → Option (List ℕ) → ShownParts → Type 0
 IsSeen check form terms name source s =
-    ((finding : Finding) × Finds terms source finding × IsShown check form (is_some terms.issuer) name finding s)
+    ((finding : Finding) × Finds terms source finding × IsShown check form terms name finding s)
     ⊎ (s ≡ shown_parts [] memory_text 2)
 
 -- what is seen of an input that was read, as it is shown
 abbrev pub IsSeenIn : (check : Bool) → Form → TermParts → List ℕ → (input : List ℕ) → ShownParts → Type 0
 IsSeenIn check form terms name input s =
-    (finding : Finding) × FindsIn terms input finding × IsShown check form (is_some terms.issuer) name finding s
+    (finding : Finding) × FindsIn terms input finding × IsShown check form terms name finding s
 
 -- there was no memory to find what is shown, or to show it
-abbrev pub LacksMemory : (check : Bool) → Form → (issued : Bool) → List ℕ → ShownParts → Type 0
-LacksMemory check form issued name s =
-    IsShown check form issued name (Err OutOfMemory) s ⊎ (s ≡ shown_parts [] memory_text 2)
+abbrev pub LacksMemory : (check : Bool) → Form → TermParts → List ℕ → ShownParts → Type 0
+LacksMemory check form terms name s =
+    IsShown check form terms name (Err OutOfMemory) s ⊎ (s ≡ shown_parts [] memory_text 2)
 
 -- where something is seen with the status 0, nothing else is, unless memory is lacking
 abbrev pub HasOneGoodAnswer : (check : Bool) → Form → TermParts → List ℕ → Option (List ℕ) → Type 0
 HasOneGoodAnswer check form terms name source =
     (s t : ShownParts) → IsSeen check form terms name source s → s.status ≡ 0 → IsSeen check form terms name source t
-    → (t ≡ s) ⊎ LacksMemory check form (is_some terms.issuer) name t
+    → (t ≡ s) ⊎ LacksMemory check form terms name t
 
 -- ---- files
 
@@ -164,7 +213,7 @@ pub data IsSeenOf (check : Bool) (form : Form) (terms : TermParts) (name : List 
   OfAll : bundle_of source ≡ None → IsSeen check form terms name source s → IsSeenOf check form terms name source s
   OfEach : (texts : List (List ℕ)) → bundle_of source ≡ Some texts → IsSeenEach check form terms name texts s
       → IsSeenOf check form terms name source s
-  OfNone : LacksMemory check form (is_some terms.issuer) name s → IsSeenOf check form terms name source s
+  OfNone : LacksMemory check form terms name s → IsSeenOf check form terms name source s
 
 -- where a file is seen with the status 0, it is seen alike whenever the status is 0
 abbrev pub HasOneGoodText : (check : Bool) → Form → TermParts → List ℕ → Option (List ℕ) → Type 0

@@ -1,5 +1,5 @@
 -- What is said of an object's signatures: what was checked of them.
-use Rattle.std.specs.Prelude.{ℕ, Bool, true, false, if◌then◌else◌, List, codes}
+use Rattle.std.specs.Prelude.{ℕ, Bool, true, false, if◌then◌else◌, List, codes, Option, Some, None}
 use Rattle.rpki_cert.specs.Cert.{CertParts}
 use Rattle.rpki_fields.specs.declared.object.Object.{Object}
 use Rattle.rpki_fields.specs.declared.object.Object.TheVariants.{Certificate, Crl, Manifest, Roa}
@@ -76,3 +76,8 @@ signature_in (Refused kind place e) = Unchecked
 signature_in (Violated v) = Unchecked
 signature_in NoCertificate = Unchecked
 signature_in OtherAlgorithm = Unchecked
+
+-- of an object that doesn't hold, for this fault; or that holds, and is of the issuer, if one is asked for
+abbrev pub signature_found : (issued : Bool) → Object → Option Fault → Signature
+signature_found issued x None = signature_of issued x
+signature_found issued x (Some fault) = signature_in fault

@@ -1,4 +1,4 @@
-//! Why nothing is printed of a file.
+//! What is wrong with a file.
 
 ghost use Rattle.std.specs.Prelude.{◌≡◌, IfOk, ◌++◌, codes, string_bytes};
 ghost use Rattle.rpki_der.specs.ErrorText.{error_text};
@@ -102,7 +102,7 @@ impl Clause {
     }
 }
 
-/// Why nothing is printed of a file.
+/// What is wrong with a file: it has no object, or one that doesn't hold.
 #[derive(Clone, Copy, Debug, PartialEq, Eq)]
 pub enum Fault {
     /// There is no such file, or it could not be read to its end.

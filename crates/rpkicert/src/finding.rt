@@ -1,8 +1,8 @@
 //! What is found of a file.
 
-ghost use Rattle.std.specs.Prelude.{IfSome, MatchResult, ◌≡◌};
-ghost use Rattle.rpkicert.specs.Finding.{IsObject, IsRefusal, HoldsTo, FindsIn, Finds, is_outside};
-ghost use Rattle.rpkicert.specs.FindingView.{finding_of};
+ghost use Rattle.std.specs.Prelude.{IfSome, MatchResult, ◌≡◌, ◌⊎◌};
+ghost use Rattle.rpkicert.specs.Finding.{IsObject, IsRefusal, IsHeld, IsWrong, HoldsTo, FindsIn, Finds, is_outside};
+ghost use Rattle.rpkicert.specs.FindingView.{finding_of, wrong_finding};
 ghost use Rattle.rpkicert.specs.Terms.{no_terms};
 ghost use Rattle.rpkicert.specs.TermsView.{terms_of};
 ghost use Rattle.rpkicert.specs.declared.fault.Fault.TheVariants.{OutOfMemory};
@@ -16,13 +16,15 @@ use bytes::Bytes;
 use rpki_fields::{Kind, Object, Place};
 use std::alloc::Global;
 
-/// An object, and its octets.
+/// An object, its octets, and what is wrong with it.
 #[derive(Drop)]
 pub struct Found {
     /// The octets.
     pub octets: Vec<u8>,
     /// The object, in memory of its own: it is large.
     pub object: Box<Object>,
+    /// Why it doesn't hold, where it doesn't.
+    pub fault: Option<Fault>,
 }
 
 /// The object that the octets are.
@@ -66,30 +68,58 @@ fn is_outside(terms: &Terms<'_>, object: &Object) -> bool
     held && object.has_objection()
 }
 
-/// The object of these octets, where it holds.
-fn held(alloc: Global, terms: &Terms<'_>, octets: Vec<u8>) -> Result<Found, Fault>
-    ensures { HoldsTo (terms_of terms.now) octets.items (finding_of result) }
+/// Whether the object holds.
+///
+/// The error is `OtherAlgorithm` where it is checked against something, and is a certificate of an algorithm that the
+/// RPKI doesn't use; `Violated` and `NoCertificate` as [profiled]; `Unverified` as [verify]; `OutOfMemory` if
+/// allocation fails.
+fn judge(alloc: Global, terms: &Terms<'_>, object: &Object) -> Result<(), Fault>
+    ensures { MatchResult result (λ _. IsHeld (terms_of terms.now) object.now)
+        (λ f. (f ≡ OutOfMemory) ⊎ IsWrong (terms_of terms.now) object.now f) }
 {
-    let object = kept(alloc, octets.as_slice())?;
-    if is_outside(terms, object.as_ref()) {
+    if is_outside(terms, object) {
         return Err(Fault::OtherAlgorithm);
     }
-    match profiled(terms.inspection, object.as_ref()) {
-        Ok(()) => match verify(alloc, terms, object.as_ref()) {
-            Ok(()) => Ok(Found { octets, object }),
-            Err(fault) => Err(fault),
-        },
+    match profiled(terms.inspection, object) {
+        Ok(()) => verify(alloc, terms, object),
         Err(fault) => Err(fault),
     }
 }
 
-/// The object that an input stands for, where it holds. The profile is that of the certificate: of a signed object that
-/// of its signer; a revocation list has none.
+/// The object of these octets, which doesn't hold for this fault; allocation failed where that is the fault.
+fn wrong(octets: Vec<u8>, object: Box<Object>, fault: Fault) -> Result<Found, Fault>
+    ensures { finding_of result ≡ wrong_finding octets.items object.value fault }
+{
+    match fault {
+        Fault::OutOfMemory => Err(Fault::OutOfMemory),
+        fault => Ok(Found {
+            octets,
+            object,
+            fault: Some(fault),
+        }),
+    }
+}
+
+/// The object of these octets, and why it doesn't hold, where it doesn't.
+fn held(alloc: Global, terms: &Terms<'_>, octets: Vec<u8>) -> Result<Found, Fault>
+    ensures { HoldsTo (terms_of terms.now) octets.items (finding_of result) }
+{
+    let object = kept(alloc, octets.as_slice())?;
+    match judge(alloc, terms, object.as_ref()) {
+        Ok(()) => Ok(Found {
+            octets,
+            object,
+            fault: None,
+        }),
+        Err(fault) => wrong(octets, object, fault),
+    }
+}
+
+/// The object that an input stands for, and why it doesn't hold, where it doesn't. The profile is that of the
+/// certificate: of a signed object that of its signer; a revocation list has none.
 ///
 /// Returns `Malformed` for a text that isn't one certificate; `Refused` for octets that are no object of the kind that
-/// they tell; `Violated` and `NoCertificate` as [profiled]; `Unverified` as [verify]; `OtherAlgorithm` where it is
-/// checked against something, and is a certificate of an algorithm that the RPKI doesn't use; `OutOfMemory` if
-/// allocation fails.
+/// they tell; `OutOfMemory` if allocation fails.
 pub fn found_in(alloc: Global, terms: &Terms<'_>, input: Vec<u8>) -> Result<Found, Fault>
     ensures { FindsIn (terms_of terms.now) input.items (finding_of result) }
 {
@@ -102,8 +132,7 @@ pub fn found_in(alloc: Global, terms: &Terms<'_>, input: Vec<u8>) -> Result<Foun
 /// The object in the file of this name, which is checked against no profile, issuer or moment, so that it can be an
 /// issuer.
 ///
-/// Returns `Unreadable` and `TooLarge` as [Sources::read]; else the errors of [found_in], but for `NoCertificate` and
-/// `OtherAlgorithm`.
+/// Returns `Unreadable` and `TooLarge` as [Sources::read]; else the errors of [found_in].
 pub fn find_issuer<S: Sources>(alloc: Global, sources: &S, name: &str) -> Result<Found, Fault>
     ensures { IfSome (S.holds sources.now name.now) (λ source. Finds no_terms source (finding_of result)) }
 {

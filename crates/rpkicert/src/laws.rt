@@ -5,7 +5,8 @@ ghost use Rattle.rpki_fields.specs.declared.rendering.Form.{Form};
 ghost use Rattle.rpki_fields.specs.AtMostOne.{AtMostOne};
 ghost use Rattle.rpki_fields.specs.declared.object.Object.{Object};
 ghost use Rattle.rpkicert.specs.declared.violation.Violation.{Violation as BrokenRule};
-ghost use Rattle.rpkicert.specs.Finding.{IsObject, IsFoundAlone};
+ghost use Rattle.rpkicert.specs.declared.signature.Signature.{Signature};
+ghost use Rattle.rpkicert.specs.Finding.{IsObject, FoundParts, IsFoundAlone};
 ghost use Rattle.rpkicert.specs.Request.{Asked};
 ghost use Rattle.rpkicert.specs.Terms.{TermParts};
 ghost use Rattle.rpkicert.specs.Shown.{IsTextOf, HasOneGoodAnswer, HasOneGoodText};
@@ -17,14 +18,14 @@ use rpki::repository::error::ValidationError;
 /// Octets are one object at most. With the name of a file it has one text in each form.
 pub fn one_text()
     ensures object { (octets : List ℕ) → AtMostOne (IsObject octets) }
-    ensures text { (form : Form) (issued : Bool) (name octets : List ℕ) (x : Object)
-        → AtMostOne (IsTextOf form issued name octets x) }
+    ensures text { (form : Form) (signature : Signature) (name octets : List ℕ) (x : Object)
+        → AtMostOne (IsTextOf form signature name octets x) }
 {}
 
-/// Where an object is found in a file, nothing else is found; and where it is shown, nothing else is seen; unless
-/// allocation fails. Where all certificates in a file are shown, they are shown alike each time that all are.
+/// Where an object is found in a file, and holds, nothing else is found; and where it is shown, nothing else is seen;
+/// unless allocation fails. Where all certificates in a file are shown, they are shown alike each time that all are.
 pub fn one_answer()
-    ensures found { (terms : TermParts) (source : Option (List ℕ)) (found : List ℕ × Object)
+    ensures found { (terms : TermParts) (source : Option (List ℕ)) (found : FoundParts)
         → IsFoundAlone terms source found }
     ensures seen { (check : Bool) (form : Form) (terms : TermParts) (name : List ℕ) (source : Option (List ℕ))
         → HasOneGoodAnswer check form terms name source }

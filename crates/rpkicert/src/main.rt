@@ -4,6 +4,7 @@
 
 mod alone;
 mod arguments;
+mod broken;
 mod complaint;
 mod fault;
 mod finding;
@@ -21,6 +22,7 @@ mod signature;
 mod signed;
 mod sources;
 mod terms;
+mod violated;
 mod violation;
 mod words;
 

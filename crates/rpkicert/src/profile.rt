@@ -56,7 +56,7 @@ fn end_profile(object: &SignedObject) -> Profile
 
 /// How the certificate of the object's signer is checked against its profile, where it is a signed object: as the
 /// certificate is checked against the one that is asked for, or strictly.
-fn own_inspection(asked: Option<Inspection>, object: &Object) -> Option<Inspection>
+pub fn own_inspection(asked: Option<Inspection>, object: &Object) -> Option<Inspection>
     ensures { result ≡ own_inspection asked object.now }
 {
     match signed(object) {

@@ -27,7 +27,7 @@ fn seen_in(
     ensures { IfOk result (λ s. IsSeenIn check form (terms_of terms.now) name.now input.items (parts_of s)) }
 {
     let found = found_in(alloc, terms, input);
-    show(alloc, check, form, terms.issuer.is_some(), name, found)
+    show(alloc, check, form, terms, name, found)
 }
 
 /// The name of a file, followed by a number in parentheses.
@@ -108,6 +108,6 @@ pub fn seen<S: Sources>(
 {
     match sources.read(alloc, name) {
         Ok(input) => seen_input(alloc, check, form, terms, name, input),
-        Err(fault) => show(alloc, check, form, terms.issuer.is_some(), name, Err(fault)),
+        Err(fault) => show(alloc, check, form, terms, name, Err(fault)),
     }
 }

@@ -2,6 +2,7 @@
 
 ghost use Rattle.std.specs.Prelude.{◌≡◌, IfOk, Ok};
 ghost use Rattle.std.specs.Result.{result_map_both};
+ghost use Rattle.rpkicert.specs.FindingView.{found_of};
 ghost use Rattle.rpkicert.specs.Run.{issuer_in, wrong_moment_text, wrong_issuer_text};
 
 use crate::fault::Fault;
@@ -14,12 +15,14 @@ use std::alloc::{AllocError, Global};
 
 /// The certificate that was found, as that of an issuer.
 ///
-/// Returns `OtherAlgorithm` if it is one of an algorithm that the RPKI doesn't use; `NoCertificate` if it is an object
-/// of another kind.
+/// Returns why it doesn't hold, where it doesn't; `OtherAlgorithm` if it is one of an algorithm that the RPKI doesn't
+/// use; `NoCertificate` if it is an object of another kind.
 pub fn issuer_of(found: &Found) -> Result<&TbsCert, Fault>
-    ensures { result_map_both (λ t. t.now) (λ f. f) result
-        ≡ issuer_in (Ok (found.now.octets.items, found.now.object.value)) }
+    ensures { result_map_both (λ t. t.now) (λ f. f) result ≡ issuer_in (Ok (found_of found.now)) }
 {
+    if let Some(fault) = found.fault {
+        return Err(fault);
+    }
     match found.object.as_ref() {
         Object::Certificate(cert) => Ok(cert.tbs()),
         Object::OtherCertificate(_) => Err(Fault::OtherAlgorithm),

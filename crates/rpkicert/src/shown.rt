@@ -1,16 +1,24 @@
 //! What is shown of a file.
 
-ghost use Rattle.std.specs.Prelude.{◌≡◌, ◌++◌, OnOk, IfOk, Bool, Ok, Err, string_bytes};
+ghost use Rattle.std.specs.Prelude.{◌≡◌, ◌++◌, false, OnOk, IfOk, Ok, Err, Some, string_bytes};
 ghost use Rattle.rpki_fields.specs.declared.rendering.Form.TheVariants.{Json};
 ghost use Rattle.rpkicert.specs.Shown.{name_octet, visible, line, file_text, marked, hash_text, hashed, verdict};
-ghost use Rattle.rpkicert.specs.Shown.{IsTextOf, IsShown, checked_parts};
+ghost use Rattle.rpkicert.specs.Shown.{verdict_sheet, IsTextOf, IsShown, IsChecked, checked_parts, checked_fault};
+ghost use Rattle.rpkicert.specs.Shown.{fault_line, status_in};
 ghost use Rattle.rpki_fields.specs.Object.{objection_to};
-ghost use Rattle.rpkicert.specs.FindingView.{finding_of};
+ghost use Rattle.rpkicert.specs.FindingView.{found_of, finding_of};
 ghost use Rattle.rpkicert.specs.ShownView.{parts_of};
+ghost use Rattle.rpkicert.specs.Terms.{TermParts};
+ghost use Rattle.rpkicert.specs.TermsView.{terms_of};
+ghost use Rattle.rpkicert.specs.declared.fault.Fault.TheVariants.{Violated};
 
+use crate::broken::violations;
 use crate::fault::Fault;
 use crate::finding::Found;
-use crate::signature::{Signature, signature_in, signature_of};
+use crate::signature::{Signature, signature_found, signature_in, signature_of};
+use crate::terms::Terms;
+use crate::violated::violated;
+use crate::violation::Violation;
 use base64::engine::general_purpose::STANDARD;
 use rpki_fields::{Form, Object, Sheet, hex_pair};
 use sha2::{Digest, Sha256};
@@ -101,20 +109,19 @@ fn hashed(alloc: Global, octets: &[u8], sheet: Sheet) -> Result<Sheet, AllocErro
     sheet.behind(alloc, b"Hash ID", text.as_bytes())
 }
 
-/// The text of an object, in this form.
+/// The text of an object of whose signatures this was checked, in this form.
 fn text_of(
     alloc: Global,
     form: Form,
-    issued: bool,
+    signature: Signature,
     name: &str,
     found: &Found,
 ) -> Result<Vec<u8>, AllocError>
     ensures { IfOk result (λ text.
-        IsTextOf form issued name.now found.now.octets.items found.now.object.value text.items) }
+        IsTextOf form signature name.now found.now.octets.items found.now.object.value text.items) }
 {
     let file = file_text(alloc, form, name)?;
     let sheet = found.object.as_ref().sheet(alloc, found.octets.as_slice())?;
-    let signature = signature_of(issued, found.object.as_ref());
     let own = marked(alloc, signature, sheet)?;
     let told = hashed(alloc, found.octets.as_slice(), own)?;
     let all = told.behind(alloc, b"File", file.as_slice())?;
@@ -130,6 +137,21 @@ fn line_of(alloc: Global, name: &str, said: &[u8]) -> Result<Vec<u8>, AllocError
     Ok(text)
 }
 
+/// A sheet of the name of a file, of what was checked of the signatures, and of the verdict.
+pub fn verdict_sheet(
+    alloc: Global,
+    signature: Signature,
+    name: &str,
+    said: &[u8],
+) -> Result<Sheet, AllocError>
+    ensures { IfOk result (λ s. s ≡ verdict_sheet signature name.now said.now) }
+{
+    let none = Sheet::plain(Vec::new(alloc));
+    let told = none.behind(alloc, b"Verdict", said)?;
+    let own = marked(alloc, signature, told)?;
+    own.behind(alloc, b"File", name.as_bytes())
+}
+
 /// The verdict on a file as an object of JSON.
 fn member_of(
     alloc: Global,
@@ -139,10 +161,7 @@ fn member_of(
 ) -> Result<Vec<u8>, AllocError>
     ensures { IfOk result (λ text. text.items ≡ verdict Json signature name.now said.now) }
 {
-    let none = Sheet::plain(Vec::new(alloc));
-    let told = none.behind(alloc, b"Verdict", said)?;
-    let own = marked(alloc, signature, told)?;
-    let all = own.behind(alloc, b"File", name.as_bytes())?;
+    let all = verdict_sheet(alloc, signature, name, said)?;
     Form::Json.render(alloc, &all)
 }
 
@@ -193,32 +212,149 @@ fn checked(
     }
 }
 
-/// What is shown of an object.
-fn good(
+/// The verdict on a fault.
+fn checked_fault(alloc: Global, form: Form, name: &str, fault: Fault) -> Result<Shown, AllocError>
+    ensures { IfOk result (λ s. parts_of s ≡ checked_fault form name.now fault) }
+{
+    let said = fault.text(alloc)?;
+    let signature = signature_in(alloc, fault)?;
+    let output = verdict(alloc, form, signature, name, said.as_bytes())?;
+    let faults = Vec::new(alloc);
+    Ok(Shown {
+        output,
+        faults,
+        status: fault.status(),
+    })
+}
+
+/// The verdict on an object whose certificate violates a profile, by all of the rules that it breaks.
+fn checked_rules(
     alloc: Global,
-    check: bool,
     form: Form,
-    issued: bool,
+    terms: &Terms<'_>,
+    name: &str,
+    object: &Object,
+    first: Violation,
+) -> Result<Shown, AllocError>
+    ensures { IfOk result (λ s.
+        IsChecked form (terms_of terms.now) name.now object.now (Some (Violated first)) (parts_of s)) }
+{
+    let all = violations(alloc, terms.inspection, object)?;
+    let output = violated(alloc, form, name, first, all.as_slice())?;
+    let faults = Vec::new(alloc);
+    Ok(Shown {
+        output,
+        faults,
+        status: Fault::Violated(first).status(),
+    })
+}
+
+/// The verdict on an object that doesn't hold for this fault.
+fn checked_wrong(
+    alloc: Global,
+    form: Form,
+    terms: &Terms<'_>,
+    name: &str,
+    object: &Object,
+    fault: Fault,
+) -> Result<Shown, AllocError>
+    ensures { IfOk result (λ s.
+        IsChecked form (terms_of terms.now) name.now object.now (Some fault) (parts_of s)) }
+{
+    match fault {
+        Fault::Violated(first) => checked_rules(alloc, form, terms, name, object, first),
+        fault => checked_fault(alloc, form, name, fault),
+    }
+}
+
+/// The verdict on an object.
+fn checked_found(
+    alloc: Global,
+    form: Form,
+    terms: &Terms<'_>,
     name: &str,
     found: &Found,
 ) -> Result<Shown, AllocError>
     ensures { IfOk result (λ s.
-        IsShown check form issued name.now (Ok (found.now.octets.items, found.now.object.value)) (parts_of s)) }
+        IsChecked form (terms_of terms.now) name.now found.now.object.value found.now.fault (parts_of s)) }
 {
-    if check {
-        let signature = signature_of(issued, found.object.as_ref());
-        return checked(alloc, form, signature, name, found.object.as_ref());
+    match found.fault {
+        Some(fault) => checked_wrong(alloc, form, terms, name, found.object.as_ref(), fault),
+        None => {
+            let signature = signature_of(terms.issuer.is_some(), found.object.as_ref());
+            checked(alloc, form, signature, name, found.object.as_ref())
+        }
     }
-    let faults = Vec::new(alloc);
-    let output = text_of(alloc, form, issued, name, found)?;
+}
+
+/// A fault, where there is one, as a line among the faults.
+fn fault_line(alloc: Global, name: &str, fault: Option<Fault>) -> Result<Vec<u8>, AllocError>
+    ensures { IfOk result (λ text. text.items ≡ fault_line name.now fault) }
+{
+    let mut text = Vec::new(alloc);
+    if let Some(fault) = fault {
+        let said = fault.text(alloc)?;
+        text.extend_from_slice(b"rpkicert: ")?;
+        push_line(&mut text, name, said.as_bytes())?;
+    }
+    Ok(text)
+}
+
+/// The exit status for a fault; 0 where there is none.
+fn status_in(fault: Option<Fault>) -> u8
+    ensures { result ≡ status_in fault }
+{
+    match fault {
+        Some(fault) => fault.status(),
+        None => 0,
+    }
+}
+
+/// What is shown of an object: its fields, and a fault among the faults.
+fn listed(
+    alloc: Global,
+    form: Form,
+    terms: &Terms<'_>,
+    name: &str,
+    found: &Found,
+) -> Result<Shown, AllocError>
+    ensures { IfOk result (λ s.
+        IsShown false form (terms_of terms.now) name.now (Ok (found_of found.now)) (parts_of s)) }
+{
+    let signature = signature_found(
+        alloc,
+        terms.issuer.is_some(),
+        found.object.as_ref(),
+        found.fault,
+    )?;
+    let output = text_of(alloc, form, signature, name, found)?;
+    let faults = fault_line(alloc, name, found.fault)?;
     Ok(Shown {
         output,
         faults,
-        status: 0,
+        status: status_in(found.fault),
     })
 }
 
-/// What is shown of a fault.
+/// What is shown of an object, or the verdict on it.
+fn good(
+    alloc: Global,
+    check: bool,
+    form: Form,
+    terms: &Terms<'_>,
+    name: &str,
+    found: &Found,
+) -> Result<Shown, AllocError>
+    ensures { IfOk result (λ s.
+        IsShown check form (terms_of terms.now) name.now (Ok (found_of found.now)) (parts_of s)) }
+{
+    if check {
+        return checked_found(alloc, form, terms, name, found);
+    }
+    listed(alloc, form, terms, name, found)
+}
+
+/// What is shown of a fault, or the verdict on it.
 fn bad(
     alloc: Global,
     check: bool,
@@ -226,45 +362,35 @@ fn bad(
     name: &str,
     fault: Fault,
 ) -> Result<Shown, AllocError>
-    ensures { (issued : Bool) → IfOk result (λ s. IsShown check form issued name.now (Err fault) (parts_of s)) }
+    ensures { (terms : TermParts) → IfOk result (λ s. IsShown check form terms name.now (Err fault) (parts_of s)) }
 {
-    let said = fault.text(alloc)?;
-    let status = fault.status();
     if check {
-        let signature = signature_in(alloc, fault)?;
-        let output = verdict(alloc, form, signature, name, said.as_bytes())?;
-        let faults = Vec::new(alloc);
-        return Ok(Shown {
-            output,
-            faults,
-            status,
-        });
+        return checked_fault(alloc, form, name, fault);
     }
-    let mut faults = Vec::from_slice(alloc, b"rpkicert: ")?;
-    push_line(&mut faults, name, said.as_bytes())?;
+    let faults = fault_line(alloc, name, Some(fault))?;
     let output = Vec::new(alloc);
     Ok(Shown {
         output,
         faults,
-        status,
+        status: fault.status(),
     })
 }
 
-/// What is shown of what was found of a file, whose issuer was checked, or not.
+/// What is shown of what was found of a file, whose objects are checked against these terms.
 ///
 /// Returns `AllocError` if allocation fails.
 pub fn show(
     alloc: Global,
     check: bool,
     form: Form,
-    issued: bool,
+    terms: &Terms<'_>,
     name: &str,
     finding: Result<Found, Fault>,
 ) -> Result<Shown, AllocError>
-    ensures { IfOk result (λ s. IsShown check form issued name.now (finding_of finding) (parts_of s)) }
+    ensures { IfOk result (λ s. IsShown check form (terms_of terms.now) name.now (finding_of finding) (parts_of s)) }
 {
     match finding {
-        Ok(found) => good(alloc, check, form, issued, name, &found),
+        Ok(found) => good(alloc, check, form, terms, name, &found),
         Err(fault) => bad(alloc, check, form, name, fault),
     }
 }

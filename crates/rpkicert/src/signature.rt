@@ -2,7 +2,7 @@
 
 ghost use Rattle.std.specs.Prelude.{◌≡◌, IfOk};
 ghost use Rattle.rpkicert.specs.Signature.{signature_text, good_text, of_certificate, signature_alone, signature_of};
-ghost use Rattle.rpkicert.specs.Signature.{checked_at, signature_in};
+ghost use Rattle.rpkicert.specs.Signature.{checked_at, signature_in, signature_found};
 
 use crate::fault::{Clause, Fault, is_bad_signature};
 use crate::signed::is_self_issued;
@@ -110,5 +110,22 @@ pub fn signature_in(alloc: Global, fault: Fault) -> Result<Signature, AllocError
             Ok(checked_at(clause, bad))
         }
         _ => Ok(Signature::Unchecked),
+    }
+}
+
+/// That of an object which doesn't hold, for this fault; or which holds, and is of the issuer, if one was asked for.
+///
+/// Returns `AllocError` if allocation fails.
+pub fn signature_found(
+    alloc: Global,
+    issued: bool,
+    object: &Object,
+    fault: Option<Fault>,
+) -> Result<Signature, AllocError>
+    ensures { IfOk result (λ s. s ≡ signature_found issued object.now fault) }
+{
+    match fault {
+        Some(fault) => signature_in(alloc, fault),
+        None => Ok(signature_of(issued, object)),
     }
 }

@@ -32,17 +32,18 @@ at most 4000000 octets, as DER; certificates and lists may be in the textual
 encoding of RFC 7468 (PEM) with other text around them, and of several each is
 printed as of a file of its own: FILE (1), FILE (2) .. - is standard input.
 
-An object is held to all that it says by itself, and of one that breaks a rule
-only that is printed: of a signed object the type and the digest of the content,
-the identifier and the signature of the signer (RFC 6488 3), the signer's
-certificate as that of an end entity, and the content within its resources (RFC
-9286 5.1, RFC 9582 5, ASPA 4); of a certificate that is its own issuer the
-signature. Signature: says what was checked.
+An object is held to all that it says by itself, and where it breaks a rule,
+that is told beside its fields: of a signed object the type and the digest of
+the content, the identifier and the signature of the signer (RFC 6488 3), the
+signer's certificate as that of an end entity, and the content within its
+resources (RFC 9286 5.1, RFC 9582 5, ASPA 4); of a certificate that is its own
+issuer the signature. Signature: says what was checked.
 
   --json       print an object of JSON a line
   --check      print a verdict a line and file: its name, and OK, OK, issuer not
-               checked, or what is wrong; with --json as an object of JSON, with
-               file, signature and verdict
+               checked, or what is wrong; of a profile each rule that is broken,
+               a line each; with --json as an object of JSON, with file,
+               signature, verdict and violations
   --profile P  hold each certificate, and that of the signer of each signed
                object, to the profile of a trust anchor (ta), a certification
                authority (ca), an end entity (ee), one without subject

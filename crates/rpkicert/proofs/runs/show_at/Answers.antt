@@ -1,6 +1,7 @@
 use Rattle.std.proofs.Common.{refl, ap}
 use Rattle.std.proofs.KnownBytes.{Appends-nil}
 use Rattle.std.specs.Prelude.{Ok, Err, option_map}
+use Rattle.rpkicert.specs.FindingView.{found_of}
 use Rattle.rpkicert.specs.RequestView.{asked_of}
 use Rattle.rpkicert.proofs.SettledLaws.{by-issuer, by-none, denied-by}
 use Rattle.rpkicert.proofs.runs.show_at.Goals as goal
@@ -12,7 +13,7 @@ returns-in-None g c = λ m.
 pub returns-in-Ok : goal.returns-in-Ok
 returns-in-Ok g c = λ m.
     by-issuer _ (asked_of c.args.request.now) c.in-Some.name.now _
-    (Ok (c.in-Ok.found.octets.items, c.in-Ok.found.object.value)) _ _ _ _ _ _ (ap (option_map _) c.in-Some.is) m
+    (Ok (found_of c.in-Ok.found)) _ _ _ _ _ _ (ap (option_map _) c.in-Some.is) m
     c.in-Ok.ensures refl c.show_issued.ensures
 
 pub returns-in-Err : goal.returns-in-Err

@@ -1,6 +1,5 @@
-use Rattle.std.proofs.Common.{◌∙◌}
 use Rattle.rpkicert.specs.TermsView.{terms_of}
-use Rattle.rpkicert.proofs.SeenLaws.{some-mapped, was-seen, not-seen}
+use Rattle.rpkicert.proofs.SeenLaws.{was-seen, not-seen}
 use Rattle.rpkicert.proofs.seen.seen.Goals as goal
 
 pub returns-in-Ok : goal.returns-in-Ok
@@ -10,5 +9,5 @@ returns-in-Ok g c =
 
 pub returns-in-Err : goal.returns-in-Err
 returns-in-Err g c =
-    not-seen _ c.args.check c.args.form (terms_of c.args.terms.now) c.is_some.result c.args.name.now c.in-Err.fault
-    c.show.result (c.is_some.ensures ∙ some-mapped _ c.args.terms.now.issuer) c.in-Err.ensures c.show.ensures
+    not-seen _ c.args.check c.args.form (terms_of c.args.terms.now) c.args.name.now c.in-Err.fault c.show.result
+    c.in-Err.ensures c.show.ensures

@@ -14,7 +14,5 @@ returns c =
         c.in_ok-told.ensures,
         c.as_slice-2.ensures.value,
         c.in_ok-own.ensures,
-        c.signature_of-signature.ensures,
-        c.as_ref-2.ensures,
       ) refl,
     )) c.render.ensures

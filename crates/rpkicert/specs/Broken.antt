@@ -1,0 +1,45 @@
+-- All of the rules of a profile that a certificate breaks.
+use Rattle.std.specs.Prelude.{◌≡◌, ◌≢◌, ◌⊎◌, Bool, List, [], ◌∷◌, ◌++◌, Option, Some, None}
+use Rattle.rpki_cert.specs.Cert.{TbsParts}
+use Rattle.rpki_cert.specs.Profile.{rules_of}
+use Rattle.rpki_cert.specs.Rule.{Obeys}
+use Rattle.rpki_cert.specs.RuleError.{IsRuleError}
+use Rattle.rpki_cert.specs.declared.profile.rule.CertRule.{CertRule}
+use Rattle.rpki_fields.specs.Object.{cert_of}
+use Rattle.rpki_fields.specs.declared.object.Object.{Object}
+use Rattle.rpkicert.specs.declared.profile.Inspection.{Inspection}
+use Rattle.rpkicert.specs.declared.violation.Violation.{Violation}
+use Rattle.rpkicert.specs.Profiled.{own_inspection}
+
+-- the certificate breaks this rule, with this error
+pub record IsBroken (strict : Bool) (t : TbsParts) (rule : CertRule) (v : Violation) : Type 0 where
+  pub same : v.rule ≡ rule
+  pub broken : Obeys strict t rule → ⊥
+  pub error : IsRuleError t rule v.error
+
+-- These are the rules that the certificate breaks of those, in their order, each once: it obeys all others.
+abbrev pub AreBroken : (strict : Bool) → TbsParts → List CertRule → List Violation → Type 0
+AreBroken strict t [] [] = Unit {0}
+AreBroken strict t [] (v ∷ vs) = ⊥
+AreBroken strict t (rule ∷ rules) [] = Obeys strict t rule × AreBroken strict t rules []
+AreBroken strict t (rule ∷ rules) (v ∷ vs) =
+    (Obeys strict t rule × AreBroken strict t rules (v ∷ vs))
+    ⊎ (IsBroken strict t rule v × AreBroken strict t rules vs)
+
+-- a rule more: it is obeyed, or added to those that are broken
+pub data AddsBroken (strict : Bool) (t : TbsParts) (rule : CertRule) (old new : List Violation) : Type 0 where
+  Obeyed : Obeys strict t rule → new ≡ old → AddsBroken strict t rule old new
+  Broken : (v : Violation) → IsBroken strict t rule v → new ≡ old ++ (v ∷ []) → AddsBroken strict t rule old new
+
+-- those of a profile, where one is asked for, and there is a certificate
+abbrev pub AreBrokenBy : Option Inspection → Option TbsParts → List Violation → Type 0
+AreBrokenBy None cert vs = vs ≡ []
+AreBrokenBy (Some inspection) None vs = vs ≡ []
+AreBrokenBy (Some inspection) (Some t) vs = AreBroken inspection.strict t (rules_of inspection.profile) vs
+
+-- the same of the certificate of an object: of the profile that is asked for; where it breaks no rule of that, of the
+-- profile of a signer
+abbrev pub AreViolations : Option Inspection → Object → List Violation → Type 0
+AreViolations asked x vs =
+    (AreBrokenBy asked (cert_of x) vs × (vs ≢ []))
+    ⊎ (AreBrokenBy asked (cert_of x) [] × AreBrokenBy (own_inspection asked x) (cert_of x) vs)
