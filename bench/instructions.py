@@ -1,8 +1,9 @@
 #!/usr/bin/env python3
 """Counts the instructions of one call of the C library, and of plain C with the same checks, and the branches that
 would be mispredicted, by callgrind and its predictor: the same on a busy machine as on an idle one. The calls are those
-that bench/linked.c makes on a certificate and its parts, and on certificates that differ. Each line has instructions,
-how many times those of plain C they are, mispredicted branches, and how many times those of plain C they are.
+that bench/linked.c makes on a certificate and its parts, and on certificates that differ; and, beside libcrypto in
+place of plain C, those of bench/verified.c. Each line has instructions, how many times those of plain C they are,
+mispredicted branches, and how many times those of plain C they are.
 
 usage: bench/instructions.py            (after bindings/archive; needs valgrind)"""
 import os
@@ -15,7 +16,7 @@ sys.dont_write_bytecode = True
 sys.path.append(os.path.join(os.path.dirname(os.path.abspath(__file__)), "..", "tests", "python"))
 
 from certificates import write
-from linked import CERTIFICATE, built, found_beside
+from linked import CERTIFICATE, REPOSITORY, built, built_verified, found_beside
 
 CALLS = [
     ("walk: plain C", ["rpki_walk", "rpki_index, capacity 0", "rpki_signed_data"]),
@@ -27,18 +28,19 @@ CALLS = [
     ("extension: plain C", ["rpki_extension"]),
     ("rsync URI: plain C", ["rpki_rsync_parse"]),
     ("each certificate: plain C", ["each: rpki_certificate_checked", "each: three calls"]),
+    ("each: mbedtls_x509_crt_parse_der", ["each: rpki_certificate", "each: rpki_certificate_checked"]),
     ("mbedtls_x509_crt_parse_der", ["rpki_certificate", "rpki_certificate_extensions", "both, and rpki_walk"]),
 ]
+VERIFIED = [(f"{name} by libcrypto{how}", [name + how]) for name in ("certificate", "list", "manifest", "route origin")
+            for how in ("", ", verified")]
 FEW, MANY = 10, 110
 BATCH = 100
 
 
-def counted(program, name, count):
+def counted(command, name, count):
     """The instructions and the mispredicted branches of a run that makes so many of these calls."""
-    batch = os.path.join(os.path.dirname(program), "certificates")
-    words = ["valgrind", "--tool=callgrind", "--callgrind-out-file=/dev/null", "--branch-sim=yes", program]
-    words += [CERTIFICATE, batch, "--calls", name, str(count)]
-    ran = subprocess.run(words, capture_output=True, text=True)
+    words = ["valgrind", "--tool=callgrind", "--callgrind-out-file=/dev/null", "--branch-sim=yes", *command]
+    ran = subprocess.run([*words, name, str(count)], capture_output=True, text=True)
     # instructions; conditional branches, and those mispredicted; indirect ones, and those mispredicted
     found = re.search(r"Collected : (\d+) \d+ (\d+) \d+ (\d+)", ran.stderr)
     if ran.returncode != 0 or not found:
@@ -47,9 +49,9 @@ def counted(program, name, count):
     return instructions, conditional + indirect
 
 
-def a_call(program, name):
+def a_call(command, name):
     """The instructions and the mispredicted branches of one call, where it can be made here."""
-    few, many = (counted(program, name, count) for count in (FEW, MANY))
+    few, many = (counted(command, name, count) for count in (FEW, MANY))
     if few is None or many is None:
         return None
     return [(more - less) / (MANY - FEW) for less, more in zip(few, many)]
@@ -61,17 +63,24 @@ def shown(name, took, least):
     return f"{name:<34}{took[0]:>12.0f}{times[0]:>10.2f}{took[1]:>12.1f}{times[1]:>10.2f}"
 
 
+def show(command, calls):
+    """A line of each call, under one of what it is compared with."""
+    for plain, beside in calls:
+        least = a_call(command, plain)
+        if least is None:
+            continue
+        print(shown(plain, least, least))
+        for name in beside:
+            print(shown(name, a_call(command, name), least), flush=True)
+
+
 def main():
     with tempfile.TemporaryDirectory() as folder:
-        program = built(folder, found_beside(folder))
-        write(BATCH, os.path.join(folder, "certificates"))
-        for plain, calls in CALLS:
-            least = a_call(program, plain)
-            if least is None:
-                continue
-            print(shown(plain, least, least))
-            for name in calls:
-                print(shown(name, a_call(program, name), least), flush=True)
+        libraries, batch = found_beside(folder), os.path.join(folder, "certificates")
+        write(BATCH, batch)
+        show([built(folder, libraries), CERTIFICATE, batch, "--calls"], CALLS)
+        if "libcrypto" in libraries:
+            show([built_verified(folder), REPOSITORY], VERIFIED)
 
 
 if __name__ == "__main__":

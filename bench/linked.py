@@ -1,9 +1,10 @@
 #!/usr/bin/env python3
 """Times the calls of the C library in one process (bench/linked.c; bench/resources.c those on resources, bench/texts.c
 serial numbers and base 64 as texts) beside plain C with the same checks (bench/plain.c, bench/plain_certificate.c) and,
-where their headers are there, libcrypto and mbedtls (Debian's libssl-dev, libmbedtls-dev); and walks and signed data
-from Rust (bench/peers) beside the crates bcder and asn1, where Debian's packages of them (librust-bcder-dev,
-librust-asn1-dev) are there. Needs a C compiler.
+where their headers are there, libcrypto and mbedtls (Debian's libssl-dev, libmbedtls-dev); what is decoded and verified
+beside the former (bench/verified.c); and walks and signed data from Rust (bench/peers) beside the crates bcder and
+asn1, where Debian's packages of them (librust-bcder-dev, librust-asn1-dev) are there. Before it times anything it asks
+whether plain C answers as the library does (bench/agree.py). Needs a C compiler.
 
 usage: bench/linked.py            (after bindings/archive)"""
 import base64
@@ -18,6 +19,7 @@ import time
 sys.dont_write_bytecode = True
 sys.path.append(os.path.join(os.path.dirname(os.path.abspath(__file__)), "..", "tests", "python"))
 
+from agree import agree
 from certificates import write
 from der import bits, sequence
 from makers.x509 import SHA256_WITH_RSA
@@ -27,6 +29,7 @@ ARCHIVE = os.path.join(TOP, "bindings", "out", "librpki.a")
 COMPILER = [os.environ.get("CC", "cc"), "-std=c99", "-O2", "-Wall", "-Wextra", f"-I{TOP}/include"]
 CERTIFICATE = os.path.join(TOP, "examples", "certificate.der")
 SOURCES = [os.path.join(TOP, "bench", name) for name in ("linked.c", "plain.c", "plain_certificate.c")]
+REPOSITORY = os.path.join(TOP, "examples", "repository", "rpki.example", "repo")
 BATCH = 4000
 ROOTS = "/etc/ssl/certs/ca-certificates.crt"
 REGISTRY = "/usr/share/cargo/registry"
@@ -92,6 +95,14 @@ def built(folder, libraries):
     return program
 
 
+def built_verified(folder):
+    """bench/verified.c, which needs libcrypto."""
+    program = os.path.join(folder, "verified")
+    source = os.path.join(TOP, "bench", "verified.c")
+    subprocess.run([*COMPILER, source, ARCHIVE, "-lcrypto", "-o", program], check=True)
+    return program
+
+
 def found_beside(folder):
     """The libraries that are there."""
     return [name for name, (_, text, words) in BESIDE.items() if links(folder, text, words)]
@@ -100,6 +111,8 @@ def found_beside(folder):
 def main():
     if not os.path.exists(ARCHIVE):
         sys.exit("make the archive first: bindings/archive")
+    if not agree(ARCHIVE, 200_000):
+        sys.exit("plain C has other checks than the library")
     with tempfile.TemporaryDirectory() as folder:
         found = found_beside(folder)
         program = built(folder, found)
@@ -116,6 +129,8 @@ def main():
             program = os.path.join(folder, name)
             subprocess.run([*COMPILER, os.path.join(TOP, "bench", f"{name}.c"), ARCHIVE, "-o", program], check=True)
             subprocess.run([program], check=True)
+        if "libcrypto" in found:
+            subprocess.run([built_verified(folder), REPOSITORY], check=True)
         if peers:
             subprocess.run([os.path.join(folder, "target", "release", "peers"), CERTIFICATE], check=True)
 

@@ -3,13 +3,21 @@
  * open values as pointers, headers of two octets first, a table of kinds of identifier octets, lengths of one or two
  * octets inline.
  */
-#include "plain.h"
-
 #include <stdlib.h>
 #include <string.h>
 
+#include "plain_parts.h"
+
 #define likely(x) __builtin_expect(!!(x), 1)
 #define unlikely(x) __builtin_expect(!!(x), 0)
+
+/* By 16 in a row; octets from 128 on are of no class. */
+const uint8_t plain_classes[256] = {
+    16, 16, 16, 16, 16, 16, 16, 16, 16, 16, 16, 16, 16, 16, 16, 16, 16, 16, 16, 16, 16, 16, 16, 16, 16, 16,
+    16, 16, 16, 16, 16, 16, 17, 18, 16, 16, 18, 18, 18, 19, 19, 19, 18, 19, 19, 23, 19, 19, 23, 23, 23, 23,
+    23, 23, 23, 23, 23, 23, 19, 18, 16, 19, 16, 17, 16, 23, 23, 23, 23, 23, 23, 23, 23, 23, 23, 23, 23, 23,
+    23, 23, 23, 23, 23, 23, 23, 23, 23, 23, 23, 23, 23, 16, 16, 16, 16, 22, 16, 31, 31, 31, 31, 31, 31, 31,
+    31, 31, 31, 31, 31, 31, 31, 31, 31, 31, 31, 31, 31, 31, 31, 31, 31, 31, 31, 16, 16, 16, 18, 16};
 
 /* ---- Headers ---- */
 
@@ -157,43 +165,19 @@ size_t plain_index(const uint8_t *octets, size_t size, struct rpki_entry *entrie
 
 /* ---- Small values ---- */
 
-/* Whether a value with this identifier octet begins what is left; its contents are then *at to *past. */
-static inline bool enter(const uint8_t **at, const uint8_t *end, uint8_t first, const uint8_t **past) {
-    size_t length, n = 2;
-    uint32_t number;
-    if (unlikely(end - *at < 2) || (*at)[0] != first) return false;
-    length = (*at)[1];
-    if (unlikely(length >= 0x80)) {
-        n = slow_header(*at, (size_t)(end - *at), &length, &number);
-        if (!n) return false;
-    }
-    *at += n;
-    if (unlikely(length > (size_t)(end - *at))) return false;
-    *past = *at + length;
-    return true;
-}
-
-/* Whether these are the contents of an object identifier. */
-static inline bool is_identifier(const uint8_t *at, const uint8_t *past) {
-    bool begins = true;
-    if (at == past || past[-1] >= 0x80) return false;
-    for (; at < past; at++) {
-        if (begins && *at == 0x80) return false;
-        begins = *at < 0x80;
-    }
-    return true;
-}
-
 bool plain_serial(const uint8_t *octets, size_t size, uint8_t out[20]) {
-    const uint8_t *at = octets, *past;
+    struct part number;
     size_t length;
-    if (!enter(&at, octets + size, 0x02, &past) || past != octets + size || at == past) return false;
-    if (at[0] >= 0x80 || (past - at > 1 && at[0] == 0 && at[1] < 0x80)) return false;
-    if (at[0] == 0 && past - at > 1) at++;
-    length = (size_t)(past - at);
-    if (length > 20 || (length == 20 && at[0] >= 0x80)) return false;
-    memset(out, 0, 20 - length);
-    memcpy(out + 20 - length, at, length);
+    if (!only((struct part){octets, octets + size}, 0x02, &number) || number.at == number.past) return false;
+    if (number.at[0] >= 0x80) return false;
+    if (number.at[0] == 0 && size_of(number) > 1) {
+        if (number.at[1] < 0x80) return false;
+        number.at++;
+    }
+    length = size_of(number);
+    if (length > 20 || (length == 20 && number.at[0] >= 0x80)) return false;
+    memset(out, 0, 20);
+    memcpy(out + 20 - length, number.at, length);
     return true;
 }
 
@@ -204,36 +188,34 @@ static inline bool two_digits(const uint8_t *at, uint32_t *out) {
 }
 
 bool plain_time(const uint8_t *octets, size_t size, struct rpki_moment *out) {
-    static const uint8_t days[] = {31, 28, 31, 30, 31, 30, 31, 31, 30, 31, 30, 31};
-    const uint8_t *at = octets, *past;
-    uint32_t high = 0, low;
-    int64_t year, shifted, era, of_era, day;
+    static const uint8_t days[] = {0, 31, 28, 31, 30, 31, 30, 31, 31, 30, 31, 30, 31};
+    static const uint16_t before[] = {0, 0, 31, 59, 90, 120, 151, 181, 212, 243, 273, 304, 334};
+    const struct part all = {octets, octets + size};
+    struct part text;
+    uint32_t high, low, year;
+    int64_t day;
     bool leap;
-    if (enter(&at, octets + size, 0x17, &past)) {
-        if (past - at != 13 || !two_digits(at, &low)) return false;
+    if (only(all, 0x17, &text)) {
+        if (size_of(text) != 13 || !two_digits(text.at, &low)) return false;
         high = low < 50 ? 20 : 19;
-    } else if (enter(&at, octets + size, 0x18, &past)) {
-        if (past - at != 15 || !two_digits(at, &high) || !two_digits(at + 2, &low)) return false;
-        at += 2;
     } else {
-        return false;
+        if (!only(all, 0x18, &text) || size_of(text) != 15) return false;
+        if (!two_digits(text.at, &high) || !two_digits(text.at + 2, &low)) return false;
+        text.at += 2;
     }
-    if (past != octets + size || at[12] != 'Z') return false;
-    if (!two_digits(at + 2, &out->month) || !two_digits(at + 4, &out->day) || !two_digits(at + 6, &out->hour) ||
-        !two_digits(at + 8, &out->minute) || !two_digits(at + 10, &out->second)) {
+    if (!two_digits(text.at + 2, &out->month) || !two_digits(text.at + 4, &out->day) || text.at[12] != 'Z')
         return false;
-    }
+    if (!two_digits(text.at + 6, &out->hour) || !two_digits(text.at + 8, &out->minute)) return false;
+    if (!two_digits(text.at + 10, &out->second)) return false;
     year = high * 100 + low;
     leap = year % 4 == 0 && (year % 100 != 0 || year % 400 == 0);
     if (out->month - 1 > 11 || out->hour > 23 || out->minute > 59 || out->second > 59) return false;
-    if (out->day == 0 || out->day > days[out->month - 1] + (uint32_t)(leap && out->month == 2)) return false;
+    if (out->day == 0 || out->day > days[out->month] + (uint32_t)(leap && out->month == 2)) return false;
     out->year = (int32_t)year;
-    shifted = year - (out->month <= 2);
-    era = (shifted >= 0 ? shifted : shifted - 399) / 400;
-    of_era = shifted - era * 400;
-    day = (153 * (out->month + (out->month > 2 ? -3 : 9)) + 2) / 5 + out->day - 1;
-    day = era * 146097 + of_era * 365 + of_era / 4 - of_era / 100 + day - 719468;
-    out->seconds = day * 86400 + out->hour * 3600 + out->minute * 60 + out->second;
+    /* The days from the year 0 on, in which leap years are those before; 719,528 of them are before 1970. */
+    day = year * 365 + (year + 3) / 4 - (year + 99) / 100 + (year + 399) / 400;
+    day += before[out->month] + (leap && out->month > 2) + out->day - 1;
+    out->seconds = (day - 719528) * 86400 + out->hour * 3600 + out->minute * 60 + out->second;
     return true;
 }
 
@@ -241,122 +223,140 @@ static const uint8_t rsa[] = {0x2A, 0x86, 0x48, 0x86, 0xF7, 0x0D, 0x01, 0x01, 0x
 static const uint8_t elliptic[] = {0x2A, 0x86, 0x48, 0xCE, 0x3D, 0x02, 0x01};
 static const uint8_t curve[] = {0x06, 0x08, 0x2A, 0x86, 0x48, 0xCE, 0x3D, 0x03, 0x01, 0x07};
 
-#define IS(at, past, octets) ((size_t)((past) - (at)) == sizeof(octets) && memcmp(at, octets, sizeof(octets)) == 0)
-
 bool plain_key(const uint8_t *octets, size_t size, struct rpki_key_parts *out) {
     static const uint8_t null[] = {0x05, 0x00};
-    const uint8_t *at = octets, *past, *format_end, *name_end, *bits, *bits_end;
-    if (!enter(&at, octets + size, 0x30, &past) || past != octets + size) return false;
-    if (!enter(&at, past, 0x30, &format_end) || !enter(&at, format_end, 0x06, &name_end)) return false;
-    if (IS(at, name_end, rsa)) {
-        if (name_end != format_end && !IS(name_end, format_end, null)) return false;
+    struct part key, format, id, bits;
+    if (!only((struct part){octets, octets + size}, 0x30, &key)) return false;
+    if (!take(&key, 0x30, &format) || !take(&format, 0x06, &id)) return false;
+    if (is(id, rsa, sizeof rsa)) {
+        if (format.at != format.past && !is(format, null, sizeof null)) return false;
         out->format = RPKI_RSA;
     } else {
-        if (!IS(at, name_end, elliptic) || !IS(name_end, format_end, curve)) return false;
+        if (!is(id, elliptic, sizeof elliptic) || !is(format, curve, sizeof curve)) return false;
         out->format = RPKI_ECDSA_P256;
     }
-    bits = format_end;
-    if (!enter(&bits, past, 0x03, &bits_end) || bits_end != past || bits == bits_end) return false;
-    out->unused = *bits++;
-    if (bits == bits_end ? out->unused != 0 : out->unused > 7 || (bits_end[-1] & ((1u << out->unused) - 1)) != 0) {
-        return false;
+    if (!only(key, 0x03, &bits) || bits.at == bits.past) return false;
+    out->unused = *bits.at++;
+    if (out->unused != 0) {
+        if (bits.at == bits.past || out->unused > 7 || (bits.past[-1] & ((1u << out->unused) - 1)) != 0) return false;
     }
-    out->bits.data = bits;
-    out->bits.size = (size_t)(bits_end - bits);
+    out->bits = span_of(bits.at, bits.past);
     return true;
 }
 
 bool plain_extension(const uint8_t *octets, size_t size, struct rpki_extension_parts *out) {
-    const uint8_t *at = octets, *past, *name_end, *flag, *flag_end, *value_end;
-    if (!enter(&at, octets + size, 0x30, &past) || past != octets + size) return false;
-    if (!enter(&at, past, 0x06, &name_end) || !is_identifier(at, name_end)) return false;
-    out->id.data = at;
-    out->id.size = (size_t)(name_end - at);
+    struct part all, id, flag, value;
+    if (!only((struct part){octets, octets + size}, 0x30, &all)) return false;
+    if (!take(&all, 0x06, &id) || !is_identifier(id)) return false;
+    out->id = span_of(id.at, id.past);
     out->critical = false;
-    flag = name_end;
-    if (flag < past && *flag == 0x01) {
-        if (!enter(&flag, past, 0x01, &flag_end) || flag_end - flag != 1 || (*flag != 0 && *flag != 0xFF)) return false;
-        out->critical = *flag != 0;
-        flag = flag_end;
+    if (all.at < all.past && *all.at == 0x01) {
+        if (!take(&all, 0x01, &flag) || size_of(flag) != 1 || (*flag.at != 0 && *flag.at != 0xFF)) return false;
+        out->critical = *flag.at != 0;
     }
-    if (!enter(&flag, past, 0x04, &value_end) || value_end != past) return false;
-    out->octets.data = flag;
-    out->octets.size = (size_t)(value_end - flag);
+    if (!only(all, 0x04, &value)) return false;
+    out->octets = span_of(value.at, value.past);
     return true;
 }
 
-/* Whether an octet is of a PrintableString. */
-static inline bool is_printable(uint8_t octet) {
-    static const uint32_t of[] = {0, 0xA7FFFB81, 0x07FFFFFE, 0x07FFFFFE}; /* SPACE ' ( ) + , - . / 0-9 : = ? */
-    return octet < 128 && (of[octet >> 5] >> (octet & 31) & 1);
-}
+/* ---- Names ---- */
 
-bool plain_name(const uint8_t *octets, size_t size) {
-    const uint8_t *at = octets, *past;
+/* A strict name, whose strings have so many characters. */
+static inline bool is_strict(const uint8_t *octets, size_t size, size_t least, size_t most) {
+    struct part name, set, pair, id, text;
     unsigned found = 0;
-    if (!enter(&at, octets + size, 0x30, &past) || past != octets + size || at == past) return false;
-    while (at < past) {
-        const uint8_t *set_end;
-        if (!enter(&at, past, 0x31, &set_end) || at == set_end) return false;
-        while (at < set_end) {
-            const uint8_t *pair_end, *name_end, *text, *text_end;
+    if (!only((struct part){octets, octets + size}, 0x30, &name) || name.at == name.past) return false;
+    while (name.at < name.past) {
+        if (!take(&name, 0x31, &set) || set.at == set.past) return false;
+        while (set.at < set.past) {
             unsigned which;
-            if (!enter(&at, set_end, 0x30, &pair_end) || !enter(&at, pair_end, 0x06, &name_end)) return false;
-            if (name_end - at != 3 || at[0] != 0x55 || at[1] != 4) return false;
-            if (at[2] != 3 && at[2] != 5 && at[2] != 10) return false;
-            which = 1u << at[2];
-            if (found & which) return false;
+            if (!take(&set, 0x30, &pair) || !take(&pair, 0x06, &id) || !only(pair, 0x13, &text)) return false;
+            if (size_of(id) != 3 || id.at[0] != 0x55 || id.at[1] != 4) return false;
+            if (id.at[2] != 3 && id.at[2] != 5 && id.at[2] != 10) return false;
+            which = 1u << id.at[2];
+            if (found & which || size_of(text) < least || size_of(text) > most || !all_of(text, PRINTABLE))
+                return false;
             found |= which;
-            text = name_end;
-            if (!enter(&text, pair_end, 0x13, &text_end) || text_end != pair_end) return false;
-            for (; text < text_end; text++) {
-                if (!is_printable(*text)) return false;
-            }
-            at = pair_end;
         }
     }
     return found >> 3 & 1;
 }
 
-/* Whether an octet is a character of a URI: `!`, `$` to `;`, `=`, `A` to `Z`, `_`, `a` to `z`, `~`. */
-static inline bool is_of_uri(uint8_t octet) {
-    static const uint32_t of[] = {0, 0x2FFFFFF2, 0x87FFFFFE, 0x47FFFFFE};
-    return octet < 128 && (of[octet >> 5] >> (octet & 31) & 1);
+bool plain_name(const uint8_t *octets, size_t size) { return is_strict(octets, size, 0, SIZE_MAX); }
+
+bool plain_sized_name(const uint8_t *octets, size_t size) { return is_strict(octets, size, 1, 64); }
+
+/* A value, with all that is nested in it, and nothing else; short ones of octets first. */
+static inline bool is_value(struct part in) {
+    size_t size = size_of(in), taken;
+    if (size >= 2 && kind[in.at[0]] == 0 && in.at[1] < 0x80) return size == 2u + in.at[1];
+    return plain_walk(in.at, size, &taken) > 0 && taken == size;
 }
 
-/* Where the piece that begins here ends: at a slash, or at the end. Whether it may stand in a URI. */
-static inline bool piece(const uint8_t **at, const uint8_t *past, bool may_be_empty) {
-    const uint8_t *start = *at;
-    size_t size;
-    while (*at < past && **at != '/') {
-        if (!is_of_uri(*(*at)++)) return false;
+bool plain_any_name(const uint8_t *octets, size_t size) {
+    struct part name, set, pair, id;
+    if (!only((struct part){octets, octets + size}, 0x30, &name) || name.at == name.past) return false;
+    while (name.at < name.past) {
+        if (!take(&name, 0x31, &set) || set.at == set.past) return false;
+        while (set.at < set.past) {
+            if (!take(&set, 0x30, &pair) || !take(&pair, 0x06, &id)) return false;
+            if (!is_identifier(id) || !is_value(pair)) return false;
+        }
     }
-    size = (size_t)(*at - start);
-    if (size == 0) return may_be_empty;
-    return size < 256 && !(start[0] == '.' && (size == 1 || (size == 2 && start[1] == '.')));
+    return true;
+}
+
+/* ---- URIs ---- */
+
+/* Eight octets, the first in the lowest bits. */
+static inline uint64_t eight(const uint8_t *at) {
+    return at[0] | (uint64_t)at[1] << 8 | (uint64_t)at[2] << 16 | (uint64_t)at[3] << 24 | (uint64_t)at[4] << 32 |
+           (uint64_t)at[5] << 40 | (uint64_t)at[6] << 48 | (uint64_t)at[7] << 56;
+}
+
+/* The high bits of those of eight octets, each below 128, that are slashes. */
+static inline uint64_t slashes(uint64_t octets) {
+    return ~((octets ^ 0x2F2F2F2F2F2F2F2Fu) + 0x7F7F7F7F7F7F7F7Fu) & 0x8080808080808080u;
+}
+
+/* Whether what is between two slashes may stand there. */
+static inline bool is_segment(const uint8_t *at, const uint8_t *past) {
+    size_t size = (size_t)(past - at);
+    return size - 1 < 255 && !(at[0] == '.' && (size == 1 || (size == 2 && at[1] == '.')));
+}
+
+/* The eight octets that a text begins with, the letters among them small. */
+static bool begins(const uint8_t *text, const char *scheme) {
+    return (eight(text) | 0x0000002020202020u) == eight((const uint8_t *)scheme);
 }
 
 bool plain_rsync(const uint8_t *text, size_t size, struct rpki_rsync_parts *out) {
-    static const uint8_t scheme[] = {'r', 's', 'y', 'n', 'c'};
-    const uint8_t *at = text + 8, *past = text + size, *start;
-    size_t place;
-    if (size < 8 || size - 8 >= 3072 || memcmp(text + 5, "://", 3) != 0) return false;
-    for (place = 0; place < 5; place++) {
-        if ((text[place] | 0x20) != scheme[place]) return false;
+    const uint8_t *start = text + 8, *past = text + size, *at = start, *slash;
+    size_t pieces = 0;
+    if (size < 8 || size - 8 >= 3072 || !begins(text, "rsync://")) return false;
+    if (!all_of((struct part){at, past}, OF_URI)) return false;
+    for (; at < past; at += 8) {
+        size_t left = (size_t)(past - at);
+        uint64_t found = slashes(left >= 8 ? eight(at) : eight(past - 8) >> 8 * (8 - left));
+        for (; found != 0; found &= found - 1, pieces++) {
+            slash = at + __builtin_ctzll(found) / 8;
+            if (!is_segment(start, slash)) return false;
+            if (pieces == 0) {
+                out->authority = (struct rpki_place){8, (size_t)(slash - start)};
+            } else if (pieces == 1) {
+                out->module_name = (struct rpki_place){(size_t)(start - text), (size_t)(slash - start)};
+                out->path = (struct rpki_place){(size_t)(slash + 1 - text), (size_t)(past - slash - 1)};
+            }
+            start = slash + 1;
+        }
     }
-    start = at;
-    if (!piece(&at, past, false) || at == past) return false;
-    out->authority.start = (size_t)(start - text);
-    out->authority.length = (size_t)(at - start);
-    start = ++at;
-    if (!piece(&at, past, false) || at == past) return false;
-    out->module_name.start = (size_t)(start - text);
-    out->module_name.length = (size_t)(at - start);
-    out->path.start = (size_t)(at + 1 - text);
-    out->path.length = size - out->path.start;
-    while (at < past) {
-        at++;
-        if (!piece(&at, past, at == past)) return false;
-    }
-    return true;
+    return pieces >= 2 && (start == past || is_segment(start, past));
+}
+
+bool plain_https(const uint8_t *text, size_t size) {
+    const uint8_t *slash;
+    if (size < 8 || !begins(text, "https://")) return false;
+    if (!all_of((struct part){text + 8, text + size}, OF_URI)) return false;
+    slash = memchr(text + 8, '/', size - 8);
+    return (slash ? (size_t)(slash - text) : size) - 8 < 256;
 }

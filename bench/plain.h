@@ -21,8 +21,10 @@ bool plain_time(const uint8_t *octets, size_t size, struct rpki_moment *out);
 bool plain_key(const uint8_t *octets, size_t size, struct rpki_key_parts *out);
 bool plain_extension(const uint8_t *octets, size_t size, struct rpki_extension_parts *out);
 
-/* A name that is strict as the profile of the RPKI wants it. */
+/* A name that is strict as the profile of the RPKI wants it; one whose strings have 1 to 64 characters too; and any. */
 bool plain_name(const uint8_t *octets, size_t size);
+bool plain_sized_name(const uint8_t *octets, size_t size);
+bool plain_any_name(const uint8_t *octets, size_t size);
 
 /* A certificate of an authority, strict, as rpki_certificate_checked reads it in that profile (plain_certificate.c). */
 bool plain_certificate(const uint8_t *octets, size_t size, struct rpki_certificate_parts *parts,
@@ -44,5 +46,8 @@ bool plain_provider(struct rpki_span *rest, uint32_t *out);
 
 /* An rsync URI: its parts, with the checks of rpki_rsync_parse and no word of which of them fails. */
 bool plain_rsync(const uint8_t *text, size_t size, struct rpki_rsync_parts *out);
+
+/* An https URI, with the checks of rpki_https_parse. */
+bool plain_https(const uint8_t *text, size_t size);
 
 #endif

@@ -4,44 +4,55 @@
  */
 #include "plain_parts.h"
 
-/* An INTEGER below 2^32. */
-static bool take_number(struct part *in, uint32_t *out) {
-    struct part number;
-    if (!take(in, 0x02, &number) || number.at == number.past || *number.at >= 0x80) return false;
-    if (size_of(number) > 1 && number.at[0] == 0 && number.at[1] < 0x80) return false;
-    if (size_of(number) > 5 || (size_of(number) == 5 && *number.at != 0)) return false;
-    for (*out = 0; number.at < number.past; number.at++) *out = *out << 8 | *number.at;
+/* An INTEGER below 2^32, whose header has two octets always. */
+static inline bool take_number(struct part *in, uint32_t *out) {
+    const uint8_t *at = in->at;
+    size_t left = size_of(*in), size;
+    if (left < 3 || at[0] != 0x02) return false;
+    size = at[1];
+    if (size - 1 > 4 || size > left - 2) return false;
+    at += 2;
+    if (*at == 0 ? size > 1 && at[1] < 0x80 : *at >= 0x80 || size == 5) return false;
+    in->at = at + size;
+    if (left >= 10) {
+        *out = (uint32_t)(number_at(at) >> (64 - 8 * size));
+    } else {
+        for (*out = 0; at < in->at; at++) *out = *out << 8 | *at;
+    }
     return true;
 }
 
 /* ---- Manifests ---- */
 
-static bool is_name(struct part name) {
-    static const uint8_t classes[256] = {
-        ['-'] = 1, ['_'] = 1, ['0'] = 1, ['1'] = 1, ['2'] = 1, ['3'] = 1, ['4'] = 1, ['5'] = 1, ['6'] = 1, ['7'] = 1,
-        ['8'] = 1, ['9'] = 1, ['A'] = 1, ['B'] = 1, ['C'] = 1, ['D'] = 1, ['E'] = 1, ['F'] = 1, ['G'] = 1, ['H'] = 1,
-        ['I'] = 1, ['J'] = 1, ['K'] = 1, ['L'] = 1, ['M'] = 1, ['N'] = 1, ['O'] = 1, ['P'] = 1, ['Q'] = 1, ['R'] = 1,
-        ['S'] = 1, ['T'] = 1, ['U'] = 1, ['V'] = 1, ['W'] = 1, ['X'] = 1, ['Y'] = 1, ['Z'] = 1, ['a'] = 3, ['b'] = 3,
-        ['c'] = 3, ['d'] = 3, ['e'] = 3, ['f'] = 3, ['g'] = 3, ['h'] = 3, ['i'] = 3, ['j'] = 3, ['k'] = 3, ['l'] = 3,
-        ['m'] = 3, ['n'] = 3, ['o'] = 3, ['p'] = 3, ['q'] = 3, ['r'] = 3, ['s'] = 3, ['t'] = 3, ['u'] = 3, ['v'] = 3,
-        ['w'] = 3, ['x'] = 3, ['y'] = 3, ['z'] = 3};
-    const uint8_t *end;
-    if (size_of(name) < 5) return false;
-    end = name.past - 4;
-    if (end[0] != '.' || (classes[end[1]] & classes[end[2]] & classes[end[3]]) != 3) return false;
-    while (name.at < end) {
-        if (!classes[*name.at++]) return false;
+static inline bool is_name(struct part name) {
+    const uint8_t *end = name.past - 4;
+    if (size_of(name) < 5 || *end != '.') return false;
+    if (!(plain_classes[end[1]] & plain_classes[end[2]] & plain_classes[end[3]] & LOWER)) return false;
+    return all_of((struct part){name.at, end}, OF_FILE);
+}
+
+/* A file: a short one, whose headers have two octets each, at once. */
+static inline bool take_file(struct part *in, struct part *name, const uint8_t **digest) {
+    struct part file, bits;
+    const uint8_t *at = in->at;
+    size_t left = size_of(*in);
+    if (left >= 44 && at[0] == 0x30 && at[1] < 0x80 && at[2] == 0x16 && at[3] + 37u == at[1] && left - 2 >= at[1]) {
+        *name = (struct part){at + 4, at + 4 + at[3]};
+        *digest = name->past + 3;
+        in->at = *digest + 32;
+        return name->past[0] == 0x03 && name->past[1] == 33 && name->past[2] == 0 && is_name(*name);
     }
-    return true;
+    if (!take(in, 0x30, &file) || !take(&file, 0x16, name) || !is_name(*name) || !only(file, 0x03, &bits)) return false;
+    *digest = bits.at + 1;
+    return size_of(bits) == 33 && *bits.at == 0;
 }
 
 bool plain_file(struct rpki_span *rest, struct rpki_manifest_file_parts *out) {
-    struct part all = {rest->data, rest->data + rest->size}, file, name, bits;
-    if (!take(&all, 0x30, &file) || !take(&file, 0x16, &name) || !is_name(name) || !only(file, 0x03, &bits))
-        return false;
-    if (size_of(bits) != 33 || *bits.at != 0) return false;
+    struct part all = {rest->data, rest->data + rest->size}, name;
+    const uint8_t *digest;
+    if (!take_file(&all, &name, &digest)) return false;
     out->name = span_of(name.at, name.past);
-    memcpy(out->digest, bits.at + 1, 32);
+    memcpy(out->digest, digest, 32);
     *rest = span_of(all.at, all.past);
     return true;
 }
@@ -54,10 +65,9 @@ static bool take_generalized(struct part *in, struct rpki_moment *out) {
 
 bool plain_manifest(const uint8_t *octets, size_t size, struct rpki_manifest_parts *out) {
     static const uint8_t digest[] = {0x60, 0x86, 0x48, 0x01, 0x65, 0x03, 0x04, 0x02, 0x01};
-    struct part all = {octets, octets + size}, fields, number, id, list;
-    struct rpki_manifest_file_parts file;
-    struct rpki_span rest;
-    const uint8_t *start;
+    struct part all = {octets, octets + size}, fields, number, id, list, name;
+    const uint8_t *start, *found;
+    size_t count;
     if (!only(all, 0x30, &fields)) return false;
     start = fields.at;
     if (!take(&fields, 0x02, &number) || !plain_serial(start, (size_t)(fields.at - start), out->manifest_number)) {
@@ -65,44 +75,73 @@ bool plain_manifest(const uint8_t *octets, size_t size, struct rpki_manifest_par
     }
     if (!take_generalized(&fields, &out->this_update) || !take_generalized(&fields, &out->next_update)) return false;
     if (!take(&fields, 0x06, &id) || !is(id, digest, sizeof digest) || !only(fields, 0x30, &list)) return false;
-    rest = out->files = span_of(list.at, list.past);
-    for (out->count = 0; rest.size > 0; out->count++) {
-        if (!plain_file(&rest, &file)) return false;
+    out->files = span_of(list.at, list.past);
+    for (count = 0; list.at < list.past; count++) {
+        if (!take_file(&list, &name, &found)) return false;
     }
+    out->count = count;
     return out->this_update.seconds < out->next_update.seconds;
 }
 
 /* ---- Route origins ---- */
 
+/* A prefix, all of whose headers have two octets always. */
+struct prefix {
+    const uint8_t *octets;
+    size_t size; /* of the octets */
+    unsigned length, most;
+    bool has_most;
+};
+
+static inline bool take_prefix(struct part *in, unsigned bits, struct prefix *out) {
+    const uint8_t *at = in->at;
+    size_t left = size_of(*in), size, more;
+    unsigned unused;
+    if (left < 5 || at[0] != 0x30 || at[1] > left - 2 || at[2] != 0x03) return false;
+    size = at[3];
+    if (size - 1 > 16 || size + 2 > at[1]) return false;
+    more = at[1] - size - 2;
+    unused = at[4];
+    out->octets = at + 5;
+    out->size = size - 1;
+    /* Where there are no octets the last one is the number of unused bits. */
+    if (unused > 0 && (unused > 7 || size == 1 || (at[3 + size] & ((1u << unused) - 1)) != 0)) return false;
+    out->length = out->most = (unsigned)(size - 1) * 8 - unused;
+    if (out->length > bits) return false;
+    at += 4 + size;
+    in->at = at + more;
+    out->has_most = more > 0;
+    if (more == 0) return true;
+    if (more < 3 || at[0] != 0x02 || at[1] != more - 2) return false;
+    /* Up to 127 in one octet, 128 in two. */
+    out->most = at[2];
+    if (more == 4 && at[2] == 0) out->most = at[3] == 0x80 ? 128 : 0;
+    return (more == 3 ? out->most < 128 : more == 4 && out->most == 128 && at[2] == 0) && out->most >= out->length &&
+           out->most <= bits;
+}
+
 bool plain_address(struct rpki_span *rest, uint8_t family, struct rpki_roa_address_parts *out) {
-    struct part all = {rest->data, rest->data + rest->size}, address, bits;
-    unsigned most = family == RPKI_IPV4 ? 32 : 128, unused, count;
-    uint32_t number;
-    if (!take(&all, 0x30, &address) || !take(&address, 0x03, &bits) || bits.at == bits.past) return false;
-    unused = *bits.at++;
-    if (unused > 7 || size_of(bits) > 16 || (unused > 0 && bits.at == bits.past)) return false;
-    if (unused > 0 && (bits.past[-1] & ((1u << unused) - 1)) != 0) return false;
-    count = (unsigned)size_of(bits) * 8 - unused;
-    if (count > most) return false;
+    struct part all = {rest->data, rest->data + rest->size};
+    struct prefix prefix;
+    if (!take_prefix(&all, family == RPKI_IPV4 ? 32 : 128, &prefix)) return false;
     memset(out->address, 0, sizeof out->address);
-    memcpy(out->address, bits.at, size_of(bits));
-    out->length = out->max_length = (uint8_t)count;
-    out->has_max_length = address.at < address.past;
-    if (out->has_max_length) {
-        if (!take_number(&address, &number) || address.at != address.past || number < count || number > most)
-            return false;
-        out->max_length = (uint8_t)number;
-    }
+    memcpy(out->address, prefix.octets, prefix.size);
+    out->length = (uint8_t)prefix.length;
+    out->max_length = (uint8_t)prefix.most;
+    out->has_max_length = prefix.has_most;
     *rest = span_of(all.at, all.past);
     return true;
 }
 
-static bool are_addresses(struct rpki_span rest, uint8_t family, size_t *count) {
-    struct rpki_roa_address_parts address;
-    if (rest.size == 0) return false;
-    for (*count = 0; rest.size > 0; ++*count) {
-        if (!plain_address(&rest, family, &address)) return false;
+static inline bool are_prefixes(struct part list, unsigned bits, struct rpki_span *out, size_t *count) {
+    struct prefix prefix;
+    size_t found;
+    *out = span_of(list.at, list.past);
+    if (list.at == list.past) return false;
+    for (found = 0; list.at < list.past; found++) {
+        if (!take_prefix(&list, bits, &prefix)) return false;
     }
+    *count = found;
     return true;
 }
 
@@ -116,11 +155,9 @@ bool plain_roa(const uint8_t *octets, size_t size, struct rpki_roa_parts *out) {
         if (!take(&blocks, 0x30, &block) || !take(&block, 0x04, &family) || !only(block, 0x30, &list)) return false;
         if (size_of(family) != 2 || family.at[0] != 0) return false;
         if (family.at[1] == 1 && out->v4_count == 0) {
-            out->v4 = span_of(list.at, list.past);
-            if (!are_addresses(out->v4, RPKI_IPV4, &out->v4_count)) return false;
+            if (!are_prefixes(list, 32, &out->v4, &out->v4_count)) return false;
         } else if (family.at[1] == 2 && out->v6_count == 0) {
-            out->v6 = span_of(list.at, list.past);
-            if (!are_addresses(out->v6, RPKI_IPV6, &out->v6_count)) return false;
+            if (!are_prefixes(list, 128, &out->v6, &out->v6_count)) return false;
         } else {
             return false;
         }
@@ -140,14 +177,16 @@ bool plain_provider(struct rpki_span *rest, uint32_t *out) {
 bool plain_aspa(const uint8_t *octets, size_t size, struct rpki_aspa_parts *out) {
     static const uint8_t one[] = {0x02, 0x01, 0x01};
     struct part all = {octets, octets + size}, fields, version, list;
-    uint32_t number, before = 0;
+    uint32_t number, before, customer;
+    size_t count;
     if (!only(all, 0x30, &fields) || !take(&fields, 0xA0, &version) || !is(version, one, 3)) return false;
-    if (!take_number(&fields, &out->customer) || !only(fields, 0x30, &list) || list.at == list.past) return false;
+    if (!take_number(&fields, &customer) || !only(fields, 0x30, &list)) return false;
+    out->customer = customer;
     out->providers = span_of(list.at, list.past);
-    for (out->count = 0; list.at < list.past; out->count++) {
-        if (!take_number(&list, &number) || number == out->customer) return false;
-        if (out->count > 0 && number <= before) return false;
-        before = number;
+    if (!take_number(&list, &before) || before == customer) return false;
+    for (count = 1; list.at < list.past; count++, before = number) {
+        if (!take_number(&list, &number) || number == customer || number <= before) return false;
     }
+    out->count = count;
     return true;
 }

@@ -4,9 +4,9 @@
  */
 #include "plain_parts.h"
 
-static const uint8_t ALGORITHM[] = {0x30, 0x0D, 0x06, 0x09, 0x2A, 0x86, 0x48, 0x86,
-                                    0xF7, 0x0D, 0x01, 0x01, 0x0B, 0x05, 0x00};
-static const uint8_t RSA[] = {0x30, 0x0D, 0x06, 0x09, 0x2A, 0x86, 0x48, 0x86, 0xF7, 0x0D, 0x01, 0x01, 0x01, 0x05, 0x00};
+static const uint8_t ALGORITHM[] = {0x06, 0x09, 0x2A, 0x86, 0x48, 0x86, 0xF7, 0x0D, 0x01, 0x01, 0x0B};
+static const uint8_t RSA[] = {0x06, 0x09, 0x2A, 0x86, 0x48, 0x86, 0xF7, 0x0D, 0x01, 0x01, 0x01};
+static const uint8_t DIGEST[] = {0x06, 0x09, 0x60, 0x86, 0x48, 0x01, 0x65, 0x03, 0x04, 0x02, 0x01};
 
 /* Whether the part begins with these octets; they are taken then. */
 static bool skip(struct part *in, const uint8_t *octets, size_t size) {
@@ -74,19 +74,20 @@ bool plain_list(const uint8_t *octets, size_t size, struct rpki_crl_parts *out) 
     static const uint8_t version[] = {0x02, 0x01, 0x01};
     struct part all = {octets, octets + size}, outer, fields, bits, list;
     const uint8_t *start;
+    bool has_parameters;
     if (!only(all, 0x30, &outer)) return false;
     start = outer.at;
     if (!take(&outer, 0x30, &fields)) return false;
     out->data = span_of(start, outer.at);
     start = outer.at;
-    if (!skip(&outer, ALGORITHM, sizeof ALGORITHM)) return false;
+    if (!take_algorithm(&outer, ALGORITHM, &out->has_parameters)) return false;
     out->algorithm = span_of(start, outer.at);
-    out->has_parameters = true;
     if (!only(outer, 0x03, &bits) || bits.at == bits.past || *bits.at != 0) return false;
     out->signature = span_of(bits.at + 1, bits.past);
-    if (!skip(&fields, version, 3) || !skip(&fields, ALGORITHM, sizeof ALGORITHM)) return false;
+    if (!skip(&fields, version, 3) || !take_algorithm(&fields, ALGORITHM, &has_parameters)) return false;
     start = fields.at;
-    if (!take(&fields, 0x30, &list) || !plain_name(start, (size_t)(fields.at - start))) return false;
+    if (has_parameters != out->has_parameters) return false;
+    if (!take(&fields, 0x30, &list) || !plain_any_name(start, (size_t)(fields.at - start))) return false;
     out->issuer = span_of(start, fields.at);
     if (!take_time(&fields, &out->this_update) || !take_time(&fields, &out->next_update)) return false;
     out->revoked_certs = span_of(fields.at, fields.at);
@@ -99,42 +100,63 @@ bool plain_list(const uint8_t *octets, size_t size, struct rpki_crl_parts *out) 
 
 /* ---- Signed objects ---- */
 
-/* The attributes of the four types, by the last octets of their identifiers; each has one value. */
+/* Seconds of 64 bits (RFC 6019 2). */
+static bool is_seconds(struct part set, uint64_t *out) {
+    struct part number;
+    if (!only(set, 0x02, &number) || number.at == number.past || *number.at >= 0x80) return false;
+    if (size_of(number) > 1 && *number.at == 0 && *++number.at < 0x80) return false;
+    if (size_of(number) > 8) return false;
+    for (*out = 0; number.at < number.past; number.at++) *out = *out << 8 | *number.at;
+    return true;
+}
+
+enum { CONTENT_TYPE = 1, MESSAGE_DIGEST = 2, SIGNING_TIME = 4, BINARY_TIME = 8 };
+
+static unsigned attribute_of(struct part id) {
+    static const uint8_t pkcs9[] = {0x2A, 0x86, 0x48, 0x86, 0xF7, 0x0D, 0x01, 0x09, 0x10, 0x02, 0x2E};
+    if (is(id, pkcs9, sizeof pkcs9)) return BINARY_TIME;
+    if (size_of(id) != 9 || memcmp(id.at, pkcs9, 8) != 0 || id.at[8] < 3 || id.at[8] > 5) return 0;
+    return CONTENT_TYPE << (id.at[8] - 3);
+}
+
+/* The attributes of the four types; each has one value. */
 static bool read_attributes(struct part list, struct part type, struct rpki_signed_object_parts *out) {
-    static const uint8_t pkcs9[] = {0x2A, 0x86, 0x48, 0x86, 0xF7, 0x0D, 0x01, 0x09};
-    bool seen[6] = {false};
+    unsigned seen = 0;
     while (list.at < list.past) {
         struct part one, id, set, value;
-        uint8_t which;
+        unsigned which;
         if (!take(&list, 0x30, &one) || !take(&one, 0x06, &id) || !only(one, 0x31, &set)) return false;
-        if (size_of(id) != 9 || memcmp(id.at, pkcs9, 8) != 0 || id.at[8] < 3 || id.at[8] > 5) return false;
-        which = id.at[8];
-        if (seen[which]) return false;
-        seen[which] = true;
-        if (which == 3) {
-            if (!only(set, 0x06, &value)) return false;
+        which = attribute_of(id);
+        if (which == 0 || (seen & which)) return false;
+        seen |= which;
+        if (which == CONTENT_TYPE) {
+            if (!only(set, 0x06, &value) || !is_identifier(value)) return false;
             out->is_type_signed = is(value, type.at, size_of(type));
-        } else if (which == 4) {
+        } else if (which == MESSAGE_DIGEST) {
             if (!only(set, 0x04, &value) || size_of(value) != 32) return false;
             memcpy(out->message_digest, value.at, 32);
-        } else if (!take_time(&set, &out->signing_time) || set.at != set.past) {
+        } else if (which == BINARY_TIME) {
+            if (!is_seconds(set, &out->binary_signing_time)) return false;
+        } else if (!plain_time(set.at, size_of(set), &out->signing_time)) {
             return false;
         }
     }
-    out->has_signing_time = seen[5];
-    return seen[3] && seen[4];
+    out->has_signing_time = seen & SIGNING_TIME;
+    out->has_binary_signing_time = seen & BINARY_TIME;
+    return (seen & CONTENT_TYPE) && (seen & MESSAGE_DIGEST);
 }
 
 bool plain_object(const uint8_t *octets, size_t size, struct rpki_signed_object_parts *out) {
     static const uint8_t type[] = {0x06, 0x09, 0x2A, 0x86, 0x48, 0x86, 0xF7, 0x0D, 0x01, 0x07, 0x02};
     static const uint8_t three[] = {0x02, 0x01, 0x03};
-    static const uint8_t digest[] = {0x30, 0x0B, 0x06, 0x09, 0x60, 0x86, 0x48, 0x01, 0x65, 0x03, 0x04, 0x02, 0x01};
     struct part all = {octets, octets + size}, outer, data, set, content, id, wrapped, found, signers, signer,
                 attributes;
     const uint8_t *start;
+    bool has_null;
     if (!only(all, 0x30, &outer) || !skip(&outer, type, sizeof type) || !only(outer, 0xA0, &data)) return false;
     if (!only(data, 0x30, &data) || !skip(&data, three, 3) || !take(&data, 0x31, &set)) return false;
-    if (!is(set, digest, sizeof digest) || !take(&data, 0x30, &content) || !take(&content, 0x06, &id)) return false;
+    if (!take_algorithm(&set, DIGEST, &has_null) || set.at != set.past) return false;
+    if (!take(&data, 0x30, &content) || !take(&content, 0x06, &id) || !is_identifier(id)) return false;
     if (!only(content, 0xA0, &wrapped) || !only(wrapped, 0x04, &found)) return false;
     out->content_type = span_of(id.at, id.past);
     out->content = span_of(found.at, found.past);
@@ -143,13 +165,15 @@ bool plain_object(const uint8_t *octets, size_t size, struct rpki_signed_object_
     if (!only(found, 0x30, &found) || !only(data, 0x31, &signers) || !only(signers, 0x30, &signer)) return false;
     if (!skip(&signer, three, 3) || !take(&signer, 0x80, &found) || size_of(found) != 20) return false;
     memcpy(out->signer_identifier, found.at, 20);
-    if (!skip(&signer, digest, sizeof digest)) return false;
+    if (!take_algorithm(&signer, DIGEST, &has_null)) return false;
     start = signer.at;
     if (!take(&signer, 0xA0, &attributes)) return false;
     out->signed_attributes = span_of(start, signer.at);
     if (!read_attributes(attributes, id, out)) return false;
-    if (!skip(&signer, RSA, sizeof RSA) && !skip(&signer, ALGORITHM, sizeof ALGORITHM)) return false;
-    out->has_parameters = true;
+    if (!take_algorithm(&signer, RSA, &out->has_parameters) &&
+        !take_algorithm(&signer, ALGORITHM, &out->has_parameters)) {
+        return false;
+    }
     if (!only(signer, 0x04, &found)) return false;
     out->signature = span_of(found.at, found.past);
     return true;
