@@ -8,13 +8,13 @@ from programs import TOP, ran
 
 with open(os.path.join(TOP, "include", "rpki.h"), encoding="utf-8") as header:
     VERSION = ".".join(re.findall(r"^#define RPKI_VERSION_[A-Z]+ (\d+)$", header.read(), re.M))
-SYNOPSIS = b"usage: rpkicert [--json] [--check] [--profile ta|ca|ee|detached|router [--lax]]"
-USAGE = SYNOPSIS + b" [--issuer FILE] [--at MOMENT] FILE..\n"
+SYNOPSIS = b"usage: rpkicert [--json] [--check] [--profile NAME [--lax]] [--issuer FILE]"
+USAGE = SYNOPSIS + b" [--at MOMENT] FILE..\n"
 # Words that ask for nothing, and what is wrong with them first, from the left; worked by hand.
 FILE, NO_FILE = object(), "no file"
 UNKNOWN, NO_VALUE, VALUE = "unknown option: {}", "{} takes a value", "{} takes no value"
 TWICE, LAX = "{} is given twice", "--lax is for --profile"
-PROFILE = "--profile takes ta, ca, ee, detached or router, not {}"
+PROFILE = "--profile takes auto, ta, ca, ee, detached or router, not {}"
 WRONG = [
     ([], NO_FILE), (["--json"], NO_FILE), (["--check"], NO_FILE), (["--profile", "ca"], NO_FILE), (["--"], NO_FILE),
     (["--issuer", "a", "--at=b"], NO_FILE), (["--profile", "ca", "--lax", "--"], NO_FILE),
@@ -23,7 +23,9 @@ WRONG = [
     (["--issuer", "-", "--at"], NO_VALUE.format("--at")), (["--profile", "-x", FILE], NO_VALUE.format("--profile")),
     (["--profile", "root", FILE], PROFILE.format("root")), (["--check", "--profile", "CA", FILE], PROFILE.format("CA")),
     (["--check", "--profile=", FILE], PROFILE.format("")), (["--profile=a=b", FILE], PROFILE.format("a=b")),
-    (["--profile", "-", FILE], PROFILE.format("-")), (["--profile", "root", "--other"], PROFILE.format("root")),
+    (["--profile", "-", FILE], PROFILE.format("-")), (["--profile", "Auto", FILE], PROFILE.format("Auto")),
+    (["--profile=automatic", FILE], PROFILE.format("automatic")),
+    (["--profile", "root", "--other"], PROFILE.format("root")),
     (["--other", FILE], UNKNOWN.format("--other")), ([FILE, "--other"], UNKNOWN.format("--other")),
     (["-x"], UNKNOWN.format("-x")), (["-hx"], UNKNOWN.format("-hx")), (["-h=x"], UNKNOWN.format("-h=x")),
     (["--hel"], UNKNOWN.format("--hel")), (["--jsonl", FILE], UNKNOWN.format("--jsonl")),

@@ -4,15 +4,17 @@ each (RFC 6487 7.2, RFC 5280 6.3.3); manifests within and without their updates 
 that are none."""
 import json
 import os
+import subprocess
 from datetime import datetime, timedelta, timezone
 
 import repository
 from arguments import USAGE
 from fields import OK, UNASKED
 from makers import authority, objects, payloads, signing
-from openssl import openssl, said_of, text_of
+from openssl import certify, openssl, said_of, text_of
 from programs import ran
 
+NAMED = repository.NAMED
 BAD, NAME, KEY = "bad signature", "issuer name mismatch", "authority key identifier mismatch"
 OF_CERTIFICATE, OF_LIST, OF_MANIFEST = "RFC 6487 7.2: ", "RFC 5280 6.3.3: ", "RFC 9286 6.3: "
 
@@ -30,12 +32,25 @@ def fault(path, issuer, kind="x509", clause=OF_CERTIFICATE):
     if extension(path, "Authority Key Identifier", kind) != extension(issuer, "Subject Key Identifier"):
         return clause + BAD
     if said_of(path, "-issuer", kind=kind) != said_of(issuer, "-subject"):
-        return clause + NAME
+        return valued(clause + NAME, said_of(path, "-issuer", *NAMED, kind=kind), said_of(issuer, "-subject", *NAMED))
     return OK
+
+
+def valued(said, found, expected):
+    """What is said of two values that disagree."""
+    return f"{said}; found {found}; expected {expected}"
 
 
 def line(path, said):
     return f"{path}: {said}\n".encode()
+
+
+def twin(folder):
+    """An authority of the key of `ca`, under another name, with characters that are escaped (RFC 4514 2.4)."""
+    path = os.path.join(folder, "renamed.der")
+    openssl("req", "-x509", "-new", "-config", os.path.join(folder, "ca.cnf"), "-extensions", "extensions", "-outform",
+            "DER", "-key", os.path.join(folder, "ca.key"), "-subj", "/CN=a,b\\+c/serialNumber=01", "-out", path)
+    return path
 
 
 def issued(program, folder):
@@ -69,6 +84,13 @@ def issued(program, folder):
         status, output, faults = ran(program, "--json", "--check", "--issuer", paths[issuer] + ".der", path)
         yield f"a verdict as JSON, {issuer}", (status, json.loads(output), faults), (
             0 if issuer == "ta" else 1, {"file": path, **told}, b"")
+    ee, renamed = paths["ee"] + ".der", twin(folder)
+    escaped = ["-nameopt", "esc_2253,sep_comma_plus_space,sname"]
+    names = [said_of(one, "-subject", *escaped) for one in (paths["ca"] + ".der", renamed)]
+    status, output, faults = ran(program, "--json", "--check", "--issuer", renamed, ee)
+    yield "names as JSON", (status, json.loads(output, object_pairs_hook=list), faults), (1, [
+        ("file", ee), ("signature", "good"), ("verdict", OF_CERTIFICATE + NAME), ("found", names[0]),
+        ("expected", names[1])], b"")
     status, output, faults = ran(program, "--json", "--at", at(period(path)[0]), path)
     yield "a member without an issuer", (status, json.loads(output)["signature"], faults), (0, "not checked", b"")
     seen = ran(program, "--issuer", paths["ca"] + ".der", path)
@@ -77,7 +99,14 @@ def issued(program, folder):
     seen = ran(program, "--check", "--profile", "ee", "--issuer", paths["ca"] + ".der", path)
     yield "the profile is first", (seen[0], seen[1].startswith(f"{path}: violates".encode())), (1, True)
     seen = ran(program, "--check", "--issuer", paths["ca"] + ".der", "--at", "1999-12-31T00:00:00Z", path)
-    yield "the moment is before the issuer", seen, (1, line(path, EARLY), b"")
+    early = valued(EARLY, "1999-12-31 00:00:00Z", iso(period(path)[0]))
+    yield "the moment is before the issuer", seen, (1, line(path, early), b"")
+    seen = ran(program, "--at", "1999-12-31T00:00:00Z", path)
+    yield "a moment, shown", seen, (1, ran(program, path).output, b"rpkicert: " + line(path, early))
+    status, output, faults = ran(program, "--json", "--check", "--at", "1999-12-31T00:00:00Z", path)
+    yield "a moment as JSON", (status, json.loads(output, object_pairs_hook=list), faults), (1, [
+        ("file", path), ("signature", "not checked"), ("verdict", EARLY), ("found", "1999-12-31 00:00:00Z"),
+        ("expected", iso(period(path)[0]))], b"")
     many = [paths[name] + ".der" for name in ("ee", "ca", "router")]
     wanted = line(many[0], OK) + line(many[1], OF_CERTIFICATE + BAD) + line(many[2], OK)
     yield "several", ran(program, "--check", "--issuer", paths["ca"] + ".der", *many), (1, wanted, b"")
@@ -126,8 +155,9 @@ def broken(program, folder):
         openssl("req", "-x509", "-new", "-config", config, "-extensions", "extensions", "-outform", "DER", *words,
                 "-out", path)
         certificate = os.path.join(folder, "ca.der")
+        told = OF_CERTIFICATE + said if said == BAD else valued(OF_CERTIFICATE + said, "CN=anchor", "CN=Anchor")
         yield f"an issuer of {name}", ran(program, "--check", "--issuer", path, certificate), (
-            1, line(certificate, OF_CERTIFICATE + said), b"")
+            1, line(certificate, told), b"")
 
 
 def published(program, folder):
@@ -145,8 +175,8 @@ def published(program, folder):
     first, last = "2026-01-01T00:00:00Z", "2036-01-01T00:00:00Z"
     before, after = "2025-12-31T23:59:59Z", "2036-01-01T00:00:01Z"
     for path, cert in rows:
-        early = OF_CERTIFICATE + "certificate is not yet valid" if cert else OF_LIST + "issued later"
-        late = OF_CERTIFICATE + "certificate has expired" if cert else OF_LIST + "stale"
+        early = valued(EARLY if cert else OF_LIST + "issued later", "2025-12-31 23:59:59Z", repository.PERIOD[0])
+        late = valued(LATE if cert else OF_LIST + "stale", "2036-01-01 00:00:01Z", repository.PERIOD[1])
         for moment, said in [(before, early), (first, UNASKED), (last, UNASKED), (after, late)]:
             seen = ran(program, "--check", "--at", moment, path)
             yield f"{os.path.basename(path)} at {moment}", seen, (0 if said == UNASKED else 1, line(path, said), b"")
@@ -158,7 +188,12 @@ def published(program, folder):
         file.write((authority.COMMON + authority.AUTHORITY).format(name="ca"))
     openssl("req", "-x509", "-new", "-newkey", "rsa:2048", "-nodes", "-keyout", os.path.join(folder, "other.key"),
             "-config", config, "-extensions", "extensions", "-subj", "/CN=ca", "-outform", "DER", "-out", other)
+    renamed = os.path.join(folder, "renamed.cer")
+    openssl("req", "-x509", "-new", "-key", os.path.join(place, "work/ca.key"), "-config", config, "-extensions",
+            "extensions", "-subj", "/CN=Ca", "-outform", "DER", "-out", renamed)
     path = rows[1][0]
+    yield "a list of another name", ran(program, "--check", "--issuer", renamed, path), (
+        1, line(path, valued(OF_LIST + NAME, said_of(path, "-issuer", *NAMED, kind="crl"), "CN=Ca")), b"")
     yield "a list of another key", ran(program, "--check", "--issuer", other, path), (
         1, line(path, fault(path, other, "crl", OF_LIST)), b"")
     yield "the key is another", fault(path, other, "crl", OF_LIST), OF_LIST + BAD
@@ -168,6 +203,11 @@ def period(path):
     """The period of a certificate, by openssl."""
     texts = [said_of(path, word, "-dateopt", "iso_8601") for word in ("-startdate", "-enddate")]
     return [datetime.strptime(text, "%Y-%m-%d %H:%M:%SZ").replace(tzinfo=timezone.utc) for text in texts]
+
+
+def iso(moment):
+    """A moment as fields have it."""
+    return moment.strftime("%Y-%m-%d %H:%M:%SZ")
 
 
 def at(moment, zone="Z"):
@@ -183,15 +223,25 @@ def moments(program, folder):
     """Both ends of the period of a certificate, a second before and after, and other spellings of a moment."""
     path = os.path.join(folder, "ca.der")
     first, last = period(path)
-    rows = [(at(first - SECOND), EARLY), (at(first), "OK"), (at(last), "OK"), (at(last + SECOND), LATE),
-            (at(first + timedelta(hours=2), "+02:00"), "OK"),
-            (at(first + timedelta(hours=2) - SECOND, "+02:00"), EARLY), (at(last - timedelta(hours=5), "-05:00"), "OK"),
-            (at(last - timedelta(hours=5) + SECOND, "-05:00"), LATE), (at(first - SECOND, ".999999999Z"), EARLY),
-            (at(last, ".000000001Z"), LATE), (at(last, ".0Z"), "OK"), ("0000-01-01T00:00:00Z", EARLY),
-            ("0000-01-01T00:00:00.000000001Z", EARLY), ("-000001-12-31T23:59:59-00:01", EARLY),
-            ("9999-12-30T21:59:59Z", LATE), ("9999-12-30T22:00:00Z", LATE), ("9999-12-30T22:00:00.999999999Z", LATE),
-            ("9999-12-30T23:00:00+01:00", LATE), ("9999-12-31T23:59:59Z", LATE)]
-    for moment, said in rows:
+    hours = timedelta(hours=1)
+    rows = [(at(first - SECOND), EARLY, iso(first - SECOND)), (at(first), "OK"), (at(last), "OK"),
+            (at(last + SECOND), LATE, iso(last + SECOND)), (at(first + 2 * hours, "+02:00"), "OK"),
+            (at(first + 2 * hours - SECOND, "+02:00"), EARLY, iso(first - SECOND)),
+            (at(last - 5 * hours, "-05:00"), "OK"),
+            (at(last - 5 * hours + SECOND, "-05:00"), LATE, iso(last + SECOND)),
+            (at(first - SECOND, ".999999999Z"), EARLY, iso(first - SECOND)),
+            (at(last, ".000000001Z"), LATE, iso(last)), (at(last, ".0Z"), "OK"),
+            ("0000-01-01T00:00:00Z", EARLY, "0000-01-01 00:00:00Z"),
+            ("0000-01-01T00:00:00.000000001Z", EARLY, "0000-01-01 00:00:00Z"),
+            ("-000001-12-31T23:59:59-00:01", EARLY, "0000-01-01 00:00:59Z"),
+            ("9999-12-30T21:59:59Z", LATE, "9999-12-30 21:59:59Z"),
+            ("9999-12-30T22:00:00Z", LATE, "9999-12-30 22:00:00Z"),
+            ("9999-12-30T22:00:00.999999999Z", LATE, "9999-12-30 22:00:00Z"),
+            ("9999-12-30T23:00:00+01:00", LATE, "9999-12-30 22:00:00Z"),
+            ("9999-12-31T23:59:59Z", LATE, "9999-12-31 23:59:59Z")]
+    for moment, said, *found in rows:
+        if found:
+            said = valued(said, found[0], iso(first if said == EARLY else last))
         # A word that begins with a hyphen is no value of its own.
         apart = [] if moment[0] == "-" else [("--at", moment)]
         for words in *apart, (f"--at={moment}",):
@@ -210,12 +260,60 @@ def moments(program, folder):
                  "-000001-12-31T23:59:59Z", "9999-12-30T22:00:01Z", "9999-12-30T21:00:01-01:00",
                  "9999-12-31T23:59:58Z", "9999-12-31T23:59:59.0Z", "9999-12-31T23:59:59z",
                  "9999-12-31T23:59:59+00:00", "+009999-12-31T23:59:59Z", "9999-12-31T23:59:60Z",
-                 "9999-12-31T23:59:59-01:00", "1767225600", "now", "20260101000000Z"]:
+                 "9999-12-31T23:59:59-01:00", "1767225600", "20260101000000Z", "tomorrow", "NOW", "now ", " now",
+                 "nowadays", "no", "now\n"]:
         joined = [[path, f"--at={word}"]] if word else []
         apart = [] if word[:1] == "-" else [["--at", word, path], ["--check", "--at", word, "--issuer", "lost", path]]
         for order in joined + apart:
-            told = b"rpkicert: " + line(word, "no moment") + USAGE
-            yield f"no moment {order}", ran(program, *order), (2, b"", told)
+            yield f"no moment {order}", ran(program, *order), (2, b"", no_moment(word))
+
+
+def no_moment(word):
+    """What is said of a word that is no moment."""
+    word = word.replace("\n", "\\0A")
+    return f"rpkicert: --at {word}: not a moment such as 2026-11-28T12:00:00Z, nor now\n".encode() + USAGE
+
+
+def now(program, folder):
+    """The moment of the clock: certificates that openssl says have expired or not, and manifests of which this clock
+    says whether they are of an hour before, of now or of an hour later."""
+    anchor, path, old = (os.path.join(folder, name) for name in ("ta.der", "ca.der", "old.der"))
+    certify(os.path.join(folder, "ca"), os.path.join(folder, "ta"), "3", "-outform", "DER", "-out", old, days="-1")
+    for name, text in (path, "will not expire"), (old, "will expire"):
+        with open(name, "rb") as file:
+            said = subprocess.run(["openssl", "x509", "-inform", "DER", "-noout", "-checkend", "0"], stdin=file,
+                                  capture_output=True, check=False).stdout.decode()
+        holds = "not" in text
+        yield f"openssl says that it {text}", text in said.lower(), True
+        for words in ["--at", "now"], ["--at=now"], ["--issuer", anchor, "--at", "now"]:
+            good = OK if "--issuer" in words else UNASKED
+            yield f"{name} {words}", of_now(program, *words, name), (
+                0 if holds else 1, line(name, good if holds else valued(LATE, "now", iso(period(name)[1]))), b"")
+        # The one that has expired begins after its end, which is a day before.
+        yield f"{name} at a written moment", ran(program, "--check", "--at", at(period(name)[1]), name), (
+            0 if holds else 1,
+            line(name, UNASKED if holds else valued(EARLY, iso(period(name)[1]), iso(period(name)[0]))), b"")
+    moment = datetime.now(timezone.utc).replace(microsecond=0)
+    for hours, said, end in [((-1, 1), UNASKED, None), ((1, 2), OF_MANIFEST + "issued later", 0),
+                             ((-2, -1), OF_MANIFEST + "stale", 1)]:
+        ends = [moment + timedelta(hours=number) for number in hours]
+        first, last = (each.strftime("%Y%m%d%H%M%SZ") for each in ends)
+        octets = signing.object_of(folder, objects.MANIFEST, payloads.manifest([], this=first, until=last))
+        seen = of_now(program, "--at", "now", "-", octets=octets)
+        told = said if end is None else valued(said, "now", iso(ends[end]))
+        yield f"a manifest of {hours} hours", seen, (0 if said == UNASKED else 1, line("-", told), b"")
+
+
+def of_now(program, *words, octets=b""):
+    """What is seen of a check, with the word `now` in place of the moment that was found, if that is one during the
+    check by this clock."""
+    before = datetime.now(timezone.utc).replace(microsecond=0)
+    seen = ran(program, "--check", *words, octets=octets)
+    after = datetime.now(timezone.utc)
+    for number in range(int((after - before).total_seconds()) + 1):
+        moment = iso(before + timedelta(seconds=number))
+        seen = seen._replace(output=seen.output.replace(f"; found {moment};".encode(), b"; found now;"))
+    return seen
 
 
 def updates(program, folder):
@@ -227,10 +325,12 @@ def updates(program, folder):
     spelled = [moment.strftime("%Y%m%d%H%M%SZ") for moment in (middle, until)]
     content = payloads.manifest([], this=spelled[0], until=spelled[1])
     octets = signing.object_of(folder, objects.MANIFEST, content)
-    for moment, said in [(first - SECOND, EARLY), (first, OF_MANIFEST + "issued later"),
-                         (middle - SECOND, OF_MANIFEST + "issued later"), (middle, UNASKED), (until, UNASKED),
-                         (until + SECOND, OF_MANIFEST + "stale"), (last + SECOND, LATE)]:
+    for moment, said, *end in [(first - SECOND, EARLY, first), (first, OF_MANIFEST + "issued later", middle),
+                               (middle - SECOND, OF_MANIFEST + "issued later", middle), (middle, UNASKED),
+                               (until, UNASKED), (until + SECOND, OF_MANIFEST + "stale", until),
+                               (last + SECOND, LATE, last)]:
         seen = ran(program, "--check", "--at", at(moment), "-", octets=octets)
+        said = valued(said, iso(moment), iso(*end)) if end else said
         yield f"a manifest at {moment}", seen, (0 if said == UNASKED else 1, line("-", said), b"")
 
 
@@ -253,4 +353,4 @@ def none(program, folder):
         yield f"usage {words}", (ran(program, *words)[0], ran(program, *words)[1]), (2, b"")
 
 
-TABLES = [issued, broken, published, moments, updates, none]
+TABLES = [issued, broken, published, moments, now, updates, none]

@@ -2,15 +2,17 @@
 providers, a certificate and a revocation list that openssl signs, each octet is changed, and the verdict says which
 part is wrong; the right issuer, and another key of the same name; payloads within the resources of the signer and
 outside of them; a checklist."""
+import hashlib
 import json
 import os
 
 import kinds
 import repository
+from der import set_of
 from fields import OK, UNASKED
-from issuers import BAD, OF_CERTIFICATE, OF_LIST, line
+from issuers import BAD, EARLY, OF_CERTIFICATE, OF_LIST, iso, line, period, valued
 from lax import head, places_in
-from makers import authority, objects, payloads, signing
+from makers import authority, objects, payloads, records, signing
 from openssl import openssl
 from programs import octets_of, ran, write
 
@@ -65,8 +67,8 @@ UNREAD = {"content": "in the content: |in the content's |in the manifest's |in t
 
 
 def is_of(part, said):
-    """Whether this may be said of a change in the part."""
-    if said in SAID[part]:
+    """Whether this may be said of a change in the part, before two values that disagree."""
+    if said.split("; found ")[0] in SAID[part]:
         return True
     if said.startswith("not a "):
         told = said.split(": ", 1)[1]
@@ -214,20 +216,35 @@ def within(program, folder):
 
 def order(program, folder):
     """Which of several faults is told: first the profile, the moment, the object, its resources, then the issuer."""
-    outside = signing.Signer(folder, signing.ADDRESSES + "IPv4:11.0.0.0/8\n").object_of(objects.ROA, ORIGIN)
+    signer = signing.Signer(folder, signing.ADDRESSES + "IPv4:11.0.0.0/8\n")
+    outside = signer.object_of(objects.ROA, ORIGIN)
     issuer = os.path.join(folder, "ta.der")
-    edited = outside.replace(ORIGIN, payloads.roa(2, payloads.family(4, [("10.0.0.0/8", 24)])))
+    content = payloads.roa(2, payloads.family(4, [("10.0.0.0/8", 24)]))
+    edited = outside.replace(ORIGIN, content)
+    digests = [hashlib.sha256(each).hexdigest().upper() for each in (content, ORIGIN)]
+    mismatch = valued(OF_OBJECT + "message digest mismatch", *digests)
     rows = [("of resources and issuer", outside, ["--issuer", issuer], OF_ORIGIN + "prefix outside of the resources"),
-            ("of the content and resources", edited, [], OF_OBJECT + "message digest mismatch"),
+            ("of the content and resources", edited, [], mismatch),
             ("of the moment and the content", edited, ["--at", "1999-01-01T00:00:00Z"],
-             OF_CERTIFICATE + "certificate is not yet valid")]
+             valued(EARLY, "1999-01-01 00:00:00Z", iso(period(signer.path)[0])))]
     for text, octets, words, said in rows:
         yield text, ran(program, "--check", *words, "-", octets=octets), (1, line("-", said), b"")
+    status, output, faults = ran(program, "--check", "--json", "-", octets=edited)
+    yield "digests as JSON", (status, json.loads(output), faults), (1, {
+        "file": "-", "signature": "not checked", "verdict": OF_OBJECT + "message digest mismatch", "found": digests[0],
+        "expected": digests[1]}, b"")
     seen = ran(program, "--check", "--profile", "ca", "--at", "1999-01-01T00:00:00Z", "-", octets=edited)
     yield "of the profile and the moment", (seen[0], seen[1].startswith(b"-: violates the profile: ")), (1, True)
     status, output, faults = ran(program, "-", octets=edited)
     yield "a fault, shown", (status, output.startswith(b"File: -\n"), b"\nASID: 2\n" in output, faults), (
-        1, True, True, b"rpkicert: " + line("-", OF_OBJECT + "message digest mismatch"))
+        1, True, True, b"rpkicert: " + line("-", mismatch))
+    signer = signing.Signer(folder, V4)
+    members = [objects.of_type(objects.MANIFEST), objects.of_digest(hashlib.sha256(ORIGIN).digest())]
+    other = objects.signed_object(objects.ROA, ORIGIN, signer.certificate, signer.identifier, members,
+                                  signer.key.sign(set_of(*members)))
+    types = [f"1.2.840.113549.1.9.16.1.{last}" for last in (24, 26)]  # RFC 9582 3, RFC 9286 4.1
+    yield "another type", ran(program, "--check", "-", octets=other), (
+        1, line("-", valued(OF_OBJECT + "content type mismatch", *types)), b"")
 
 
 def checklists(program, folder):
@@ -237,7 +254,8 @@ def checklists(program, folder):
             ("a checklist in a place", objects.CHECKLIST, signing.PLACE, 1),
             ("another content", other, signing.PLACE, None), ("another content without a place", other, "", 1)]
     for text, kind, place, wrong in rows:
-        octets = signing.Signer(folder, lines, place).object_of(kind, b"content")
+        content = records.checklist() if kind == objects.CHECKLIST else b"content"
+        octets = signing.Signer(folder, lines, place).object_of(kind, content)
         status, output, faults = ran(program, "--check", "-", octets=octets)
         good = output.startswith(b"-: violates the profile: RFC ") if wrong else output == line("-", UNASKED)
         yield text, (status, good, faults), (1 if wrong else 0, True, b"")

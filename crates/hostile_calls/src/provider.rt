@@ -6,6 +6,7 @@ ghost use Rattle.sha2.specs.Sha256.{sha256};
 
 use rpki::crypto::Provider;
 use rpki_digests::Digests;
+use rpki_rsa::PreparingProvider;
 use sha2::{Digest, Sha256};
 
 /// Finds a signature good where it is the digest by SHA-256 of what is signed and of the key's bits after it: tests
@@ -53,4 +54,10 @@ impl Provider for Stamps {
     fn ecdsa_check(&self, bits: &[u8], message: &[u8], signature: &[u8]) -> bool {
         is_stamp(bits, message, signature)
     }
+}
+
+impl PreparingProvider for Stamps {
+    type PreparedKey = ();
+
+    fn prepare_key(&self, _bits: &[u8]) {}
 }

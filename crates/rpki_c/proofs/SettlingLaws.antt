@@ -5,9 +5,9 @@ use Rattle.rpki_resources.specs.declared.block.Block.{Block}
 use Rattle.rpki_resources.specs.declared.choice.ResourcesChoice.{ResourcesChoice}
 use Rattle.rpki_resources.specs.declared.choice.ResourcesChoice.TheVariants.{Missing, Inherit, Blocks}
 use Rattle.rpki_resources.specs.declared.kind.ResourceKind.TheVariants.{AsNumbers}
-use Rattle.rpki_resources.specs.declared.settled.SettleError.{SettleError}
-use Rattle.rpki_resources.specs.declared.settled.SettleError.TheVariants.{Overclaim as Overclaims, Inherits}
-use Rattle.rpki_resources.specs.declared.settled.SettleError.TheVariants.{OutOfMemory}
+use Rattle.rpki_resources.specs.declared.settlement.SettleError.{SettleError}
+use Rattle.rpki_resources.specs.declared.settlement.SettleError.TheVariants.{Overclaim as Overclaims, Inherits}
+use Rattle.rpki_resources.specs.declared.settlement.SettleError.TheVariants.{OutOfMemory}
 use Rattle.rpki_resources.specs.Blocks.{IsAmong, AreCanonical}
 use Rattle.rpki_resources.specs.Encoded.{AreBlocksOf}
 use Rattle.rpki_cert.specs.declared.extension.policy.Overclaim.{Overclaim}

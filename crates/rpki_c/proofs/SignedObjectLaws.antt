@@ -4,8 +4,8 @@ use Rattle.std.specs.Prelude.{◌↔◌, IfSome, IsTrue}
 use Rattle.std.specs.Option.{is_some, unwrap_or}
 use Rattle.jiff.specs.Types.{DateTime}
 use Rattle.rpki_time.specs.TimeValue.{time}
-use Rattle.rpki_objects.specs.SignedAttributes.{Attribute, AttributeValues, AreSigned, IsAtMostOnce}
-use Rattle.rpki_objects.specs.SignedAttributes.{signing_time, values_of}
+use Rattle.rpki_attributes.specs.SignedAttributes.{Attribute, AttributeValues, AreSigned, IsAtMostOnce}
+use Rattle.rpki_attributes.specs.SignedAttributes.{signing_time, values_of}
 use Rattle.rpki_c.specs.declared.times.Moment.{Moment}
 use Rattle.rpki_c.specs.declared.signed_object.SignedObjectParts.{SignedObjectParts as Parts}
 use Rattle.rpki_c.specs.Time.{IsMoment}

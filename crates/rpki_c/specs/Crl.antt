@@ -3,9 +3,9 @@ use Rattle.std.specs.Prelude.{◌≡◌, ◌⊎◌, ◌≤◌, ◌<◌, ℕ, Boo
 use Rattle.rpki_der.specs.Prelude.{number_of}
 use Rattle.rpki_crl.specs.declared.crl_part.CrlPart.{CrlPart}
 use Rattle.rpki_crl.specs.declared.crl_part.CrlPart.TheVariants as P
-use Rattle.rpki_crl.specs.Crl.{CrlParts, Entry, entry, each_entry, crl, listed, is_revoked}
+use Rattle.rpki_crl.specs.Crl.{CrlParts as CrlValue, Entry, entry, each_entry, crl, listed, is_revoked}
 use Rattle.rpki_crl.specs.CrlView.{AreEntriesFault, IsCrlWrong}
-use Rattle.rpki_c.specs.declared.crl.RevocationList.{RevocationList}
+use Rattle.rpki_c.specs.declared.crl.CrlParts.{CrlParts}
 use Rattle.rpki_c.specs.declared.crl.RevokedCertificate.{RevokedCertificate}
 use Rattle.rpki_c.specs.declared.span.Span.{Span}
 use Rattle.rpki_c.specs.Span.{IsTakenOff}
@@ -30,8 +30,8 @@ crl_part_number P.NextUpdate = 121
 crl_part_number P.RevokedCerts = 122
 
 -- the octets are a revocation list, whose parts these are; `spelled` says which octets are which
-pub record HasCrl (s : List ℕ) (p : RevocationList) : Type 0 where
-  pub list : CrlParts
+pub record HasCrl (s : List ℕ) (p : CrlParts) : Type 0 where
+  pub list : CrlValue
   pub spelled : crl.spells list s
   pub signed : p.«data».octets.now ≡ list.signed.signed
   pub algorithm : p.algorithm.octets.now ≡ spelled.spelled.signed.spelled.text
@@ -46,7 +46,7 @@ pub record HasCrl (s : List ℕ) (p : RevocationList) : Type 0 where
 
 -- Status 0: the octets are a revocation list of these parts. Else the number of the malformed part, and nothing is
 -- written.
-abbrev pub IsCrlRead : List ℕ → ℕ → RevocationList → RevocationList → Type 0
+abbrev pub IsCrlRead : List ℕ → ℕ → CrlParts → CrlParts → Type 0
 IsCrlRead s = IsRead (HasCrl s) crl_part_number (IsCrlWrong s)
 
 -- Status 0: the octets are entries, and it was written whether one of them is of the certificate of this serial number.

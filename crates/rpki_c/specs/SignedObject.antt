@@ -4,7 +4,7 @@ use Rattle.jiff.specs.Types.{DateTime}
 use Rattle.rpki_cert.specs.View.{most_extensions}
 use Rattle.rpki_objects.specs.declared.object_part.ObjectPart.{ObjectPart}
 use Rattle.rpki_objects.specs.declared.object_part.ObjectPart.TheVariants as P
-use Rattle.rpki_objects.specs.SignedAttributes.{AttributeValues, message_of}
+use Rattle.rpki_attributes.specs.SignedAttributes.{AttributeValues, message_of}
 use Rattle.rpki_objects.specs.SignedObject.{SignerParts, signer_fields_of, signer_fields, ObjectParts, data_fields_of}
 use Rattle.rpki_objects.specs.SignedObject.{data_fields, object_fields_of, signed_object}
 use Rattle.rpki_objects.specs.SignedObjectView.{IsObjectWrong}

@@ -4,7 +4,7 @@ ghost use Rattle.std.specs.Prelude.{◌≡◌, ◌≤◌, ◌<◌, ◌+◌, ◌*
 ghost use Rattle.std.specs.Char.{digit_char};
 ghost use Rattle.std.specs.Net.Text as Text;
 
-use crate::line::Line;
+use crate::short_text::Line;
 use itoa::Buffer;
 use std::net::{IpAddr, Ipv6Addr};
 

@@ -43,7 +43,7 @@ pub extern "C" fn rpki_anchor_verify(octets: &[u8], key: &[u8]) -> u8
     let cert = &found.cert;
     verified(
         &cert.tbs.named.keyed.key,
-        cert.parts.data.octets,
+        cert.parts.signed.octets,
         cert.parts.signature.octets,
     )
 }

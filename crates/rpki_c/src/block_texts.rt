@@ -10,7 +10,7 @@ ghost use Rattle.rpki_c.specs.BlockText.{address_number, IsIpListed, IsIpText, I
 use crate::address_texts::{push_address, push_number};
 use crate::as_blocks::AsEntry;
 use crate::ip_blocks::IpEntry;
-use crate::line::Line;
+use crate::short_text::Line;
 use crate::status::CONTENT;
 use crate::stored::store;
 use rpki_resources::{AddressFamily, AsBlock, Asn, Block, IpBlock};

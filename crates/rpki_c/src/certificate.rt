@@ -72,7 +72,7 @@ pub(crate) fn parts_of<'a>(octets: &'a [u8], found: &CertView<'a>) -> Certificat
 {
     let named = &found.tbs.named;
     CertificateParts {
-        data: Span::of(found.parts.data.octets),
+        data: Span::of(found.parts.signed.octets),
         algorithm: Span::of(found.parts.algorithm.octets),
         signature: Span::of(found.parts.signature.octets),
         issuer: Span::of(named.issuer.octets),
@@ -86,7 +86,7 @@ pub(crate) fn parts_of<'a>(octets: &'a [u8], found: &CertView<'a>) -> Certificat
         serial_number: found.tbs.serial_number.into_array(),
         key_format: format_number(named.keyed.key.algorithm()),
         key_unused: named.keyed.key.unused(),
-        has_parameters: found.parts.kind.has_parameters(),
+        has_parameters: found.parts.signature_algorithm.has_parameters(),
     }
 }
 

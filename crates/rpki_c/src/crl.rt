@@ -1,7 +1,7 @@
 //! Revocation lists.
 
 ghost use Rattle.std.specs.Prelude.{◌≡◌};
-ghost use Rattle.rpki_crl.specs.Crl.{CrlParts};
+ghost use Rattle.rpki_crl.specs.Crl.{CrlParts as CrlValue};
 ghost use Rattle.rpki_crl.specs.CrlView.{IsCrlAt};
 ghost use Rattle.rpki_c.specs.Crl.{crl_part_number, HasCrl, IsCrlRead, IsCrlSearched, IsEntryTaken};
 
@@ -16,7 +16,7 @@ use rpki_time::Serial;
 /// The parts of a revocation list.
 #[repr(C)]
 #[derive(Clone, Copy)]
-pub struct RevocationList<'a> {
+pub struct CrlParts<'a> {
     /// What is signed, a SEQUENCE, with its header.
     pub data: Span<'a>,
     /// The algorithm identifier, with its header.
@@ -61,13 +61,13 @@ pub(crate) fn crl_part_number(part: CrlPart) -> u8
 }
 
 /// The parts of the revocation list that the octets are.
-fn list_of<'a>(octets: &'a [u8], found: &CrlView<'a>) -> RevocationList<'a>
-    requires { (x : CrlParts) × IsCrlAt octets.now found.now x }
+fn list_of<'a>(octets: &'a [u8], found: &CrlView<'a>) -> CrlParts<'a>
+    requires { (x : CrlValue) × IsCrlAt octets.now found.now x }
     ensures { HasCrl octets.now result }
 {
     let tbs = &found.tbs;
-    RevocationList {
-        data: Span::of(found.data.octets),
+    CrlParts {
+        data: Span::of(found.signed.octets),
         algorithm: Span::of(found.algorithm.octets),
         signature: Span::of(found.signature.octets),
         issuer: Span::of(tbs.issuer.octets),
@@ -76,7 +76,7 @@ fn list_of<'a>(octets: &'a [u8], found: &CrlView<'a>) -> RevocationList<'a>
         next_update: moment_of(tbs.next_update),
         crl_number: tbs.extensions.crl_number.into_array(),
         authority_key_identifier: <[u8; 20]>::from(tbs.extensions.authority_key_identifier),
-        has_parameters: found.kind.has_parameters(),
+        has_parameters: found.signature_algorithm.has_parameters(),
     }
 }
 
@@ -86,7 +86,7 @@ fn list_of<'a>(octets: &'a [u8], found: &CrlView<'a>) -> RevocationList<'a>
 /// leftmost; then of what is signed the leftmost; then that both algorithm identifiers are the same. Nothing is
 /// allocated.
 #[unsafe(no_mangle)]
-pub extern "C" fn rpki_crl<'a>(octets: &'a [u8], out: &mut RevocationList<'a>) -> u8
+pub extern "C" fn rpki_crl<'a>(octets: &'a [u8], out: &mut CrlParts<'a>) -> u8
     ensures { IsCrlRead octets.now result out.old out.new }
 {
     match CrlView::read(octets) {

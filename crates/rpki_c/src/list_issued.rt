@@ -54,7 +54,7 @@ fn list_verified(list: &CrlView<'_>, issuer: &CertView<'_>) -> u8
 {
     verified(
         &issuer.tbs.named.keyed.key,
-        list.data.octets,
+        list.signed.octets,
         list.signature.octets,
     )
 }

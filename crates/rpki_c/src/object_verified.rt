@@ -2,7 +2,7 @@
 
 ghost use Rattle.std.specs.Prelude.{◌≡◌, ℕ, Bool, List};
 ghost use Rattle.sha2.specs.Sha256.{sha256};
-ghost use Rattle.rpki_objects.specs.SignedAttributes.{message_of};
+ghost use Rattle.rpki_attributes.specs.SignedAttributes.{message_of};
 ghost use Rattle.rpki_objects.specs.SignedObject.{ObjectParts};
 ghost use Rattle.rpki_objects.specs.SignedObjectView.{IsObjectAt};
 ghost use Rattle.rpki_cert.specs.Cert.{CertParts};

@@ -32,7 +32,7 @@ pub extern "C" fn rpki_certificate_signed_by(octets: &[u8], issuer: &[u8]) -> u8
     let key = &found.issuer.tbs.named.keyed.key;
     verified(
         key,
-        subject.parts.data.octets,
+        subject.parts.signed.octets,
         subject.parts.signature.octets,
     )
 }

@@ -125,9 +125,9 @@ record_of n b i p s k xs =
 
 module _ (c : List ℕ) (v : Parts) (x : SignedParts Bool) (h : IsSignedContents SpellsRpkiAlgorithm x c)
     (p : ArePartsIn x c h v) where
-  pub data-stands : IsSectionOf c v.«data».octets.now v.«data».following
+  pub data-stands : IsSectionOf c v.signed.octets.now v.signed.following
   data-stands =
-      section-at c c x.signed (h.text ++ h.bits) v.«data» (ends-all c)
+      section-at c c x.signed (h.text ++ h.bits) v.signed (ends-all c)
       (h.parts ∙ append_assoc x.signed h.text h.bits) p.signed
 
   pub signature-stands : IsSectionOf c v.signature.octets.now v.signature.following

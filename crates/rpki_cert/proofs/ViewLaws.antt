@@ -40,8 +40,9 @@ IsTbsAt v t d = (h : SpellsTbs t d) × IsTbsIn t h.contents h.spelled v
 
 pub cert-read : (s c d : List ℕ) (v : CertView) → SpellsContents sequence true c s
     → (k : (x : SignedParts Bool) × (h : IsSignedContents SpellsRpkiAlgorithm x c) × ArePartsIn x c h v.parts)
-    → d ≡ v.parts.«data».octets.now → ((t : TbsParts) × (h : SpellsTbs t d) × IsTbsIn t h.contents h.spelled v.tbs)
-    → HasOne SpellsTbs d → v.tbs.signature ≡ v.parts.kind → ((x : CertParts) × IsCertAt s v x) × HasOne SpellsCert s
+    → d ≡ v.parts.signed.octets.now → ((t : TbsParts) × (h : SpellsTbs t d) × IsTbsIn t h.contents h.spelled v.tbs)
+    → HasOne SpellsTbs d → v.tbs.signature ≡ v.parts.signature_algorithm
+    → ((x : CertParts) × IsCertAt s v x) × HasOne SpellsCert s
 cert-read s c d v h k is l one same =
     let (x, spelled, stand) = k in
     let (t, tbs, there) = l in
@@ -67,7 +68,7 @@ cert-read s c d v h k is l one same =
 
 module _ (allocates : Bool) (c d : List ℕ) (v : Parts) (q : CertError)
     (k : (x : SignedParts Bool) × (h : IsSignedContents SpellsRpkiAlgorithm x c) × ArePartsIn x c h v)
-    (is : d ≡ v.«data».octets.now) where
+    (is : d ≡ v.signed.octets.now) where
   pub in-signed : IsTbsWrong allocates d q → AreContentsWrong allocates c q
   in-signed wrong =
       let (x, spelled, stand) = k in
@@ -75,7 +76,7 @@ module _ (allocates : Bool) (c d : List ℕ) (v : Parts) (q : CertError)
       (subst (λ (y : List ℕ). IsTbsWrong allocates y q) (is ∙ stand.signed.octets) wrong)
 
   pub differ : (u : TbsView) → (t : TbsParts) × (h : SpellsTbs t d) × IsTbsIn t h.contents h.spelled u
-      → (u.signature ≡ v.kind → ⊥) → q.part ≡ CertPart.SameAlgorithm
+      → (u.signature ≡ v.signature_algorithm → ⊥) → q.part ≡ CertPart.SameAlgorithm
       → IsContentWith (codes "signature algorithms differ") q.error → AreContentsWrong allocates c q
   differ u l other part text =
       let (x, spelled, stand) = k in

@@ -1,5 +1,5 @@
 -- Which error a check of a rule returns for a certificate that breaks it.
-use Rattle.std.specs.Prelude.{ℕ, Bool, true, false, List, Option, Result, MatchResult, Some}
+use Rattle.std.specs.Prelude.{ℕ, Bool, true, false, List, Option, Result, MatchResult, Some, All}
 use Rattle.rpki_der.specs.declared.error.DecodeError.{DecodeError}
 use Rattle.rpki_der.specs.Reading.{AnyFault}
 use Rattle.rpki.specs.declared.repository.error.ValidationError.{ValidationError}
@@ -7,6 +7,7 @@ use Rattle.rpki.specs.declared.repository.x509.name.rule.NameRule.{NameRule}
 use Rattle.rpki.specs.KeyIdentifier.{SpellsKeyIdentifier}
 use Rattle.rpki.specs.NameRule.{BreaksRpkiRule, BreaksRouterRule, rpki_text, router_text}
 use Rattle.rpki.specs.ExtensionValue.{ExtensionParts}
+use Rattle.rpki_cert.specs.declared.profile.in_order.Refusal.{Refusal}
 use Rattle.rpki_cert.specs.declared.profile.rule.CertRule.{CertRule}
 use Rattle.rpki_cert.specs.declared.profile.rule.CertRule.TheVariants.{SerialNumber, CriticalExtensions, Issuer}
 use Rattle.rpki_cert.specs.declared.profile.rule.CertRule.TheVariants.{IssuerSize, SubjectSize, RouterSerialNumber}
@@ -36,7 +37,7 @@ use Rattle.rpki_x509.specs.Authority.{SpellsAuthority}
 use Rattle.rpki_cert.specs.ExtensionContent.{SpellsPolicies}
 use Rattle.rpki_cert.specs.Access.{SpellsRsyncAccess, SpellsPoints, ca_issuers, ca_repository, rpki_manifest}
 use Rattle.rpki_cert.specs.Access.{signed_object}
-use Rattle.rpki_cert.specs.Rule.{IsFirstBroken, rule_text}
+use Rattle.rpki_cert.specs.Rule.{Obeys, IsFirstBroken, rule_text}
 use Rattle.rpki_x509.specs.Authority.{WholeFault, authority_content}
 use Rattle.rpki_cert.specs.ExtensionContent.{constraints_content, policies_content}
 use Rattle.rpki_cert.specs.ExtensionContent.{subject_content, usage_content}
@@ -141,6 +142,11 @@ IsRuleError t RouterNumbers = SaysRule RouterNumbers
 -- the rule is the first that is broken, and this its error
 abbrev pub BreaksWith : Bool → TbsParts → List CertRule → CertRule → ValidationError → Type 0
 BreaksWith strict t rules rule e = IsFirstBroken strict t rules rule × IsRuleError t rule e
+
+-- rules that are tested from the left: Ok where all are obeyed; else the one that is broken first, with its error
+abbrev pub TestsRules : Bool → TbsParts → List CertRule → Result (Unit {0}) Refusal → Type 0
+TestsRules strict t rules r =
+    MatchResult r (λ _. All (Obeys strict t) rules) (λ x. BreaksWith strict t rules x.rule x.error)
 
 -- the error is that of the rule that is broken first
 pub record IsFirstError (strict : Bool) (t : TbsParts) (rules : List CertRule) (e : ValidationError) : Type 0 where

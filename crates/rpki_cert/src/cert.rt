@@ -55,11 +55,11 @@ fn keep_cert<K: Keep>(
 {
     let parts = &view.parts;
     let octets = contents.rest();
-    let signed = parts.data.kept(keep, octets)?;
+    let signed = parts.signed.kept(keep, octets)?;
     let value = parts.signature.kept(keep, octets)?;
     let within = Shared::new(keep.allocator(), &signed);
     let tbs = TbsCert::keep(within, signed.as_slice(), &view.tbs)?;
-    let signed_data = SignedOctets::new(signed, Signature::new(parts.kind, value));
+    let signed_data = SignedOctets::new(signed, Signature::new(parts.signature_algorithm, value));
     Ok(Cert { signed_data, tbs })
 }
 

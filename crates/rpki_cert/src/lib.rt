@@ -15,10 +15,10 @@ mod tbs;
 
 pub use cert::Cert;
 pub use extension::access_description::{AccessDescription, point_names};
+pub use extension::accessors::is_identifier;
 pub use extension::general_name::take_name as take_general_name;
 pub use extension::key_usage::KeyUsage;
 pub use extension::kind::ExtensionKind;
-pub use extension::known::is_identifier;
 pub use extension::known_part::KnownPart;
 pub use extension::known_view::KnownView;
 pub use extension::list::find as find_extension;

@@ -1,6 +1,6 @@
 //! The profiles of certificates (RFC 6487 4, RFC 8209 3.1, RFC 9323 2).
 
-ghost use Rattle.std.specs.Prelude.{◌≡◌, List, ℕ, All, IfOk, IfErr, MatchResult};
+ghost use Rattle.std.specs.Prelude.{◌≡◌, List, ℕ, IfOk, IfErr};
 ghost use Rattle.rpki_cert.specs.declared.profile.Profile.TheVariants.{Ta, Ca, Ee, DetachedEe, Router};
 ghost use Rattle.rpki_cert.specs.Cert.{TbsParts, CertParts};
 ghost use Rattle.rpki_cert.specs.View.{IsCertAt};
@@ -8,17 +8,19 @@ ghost use Rattle.rpki_cert.specs.Inspected.{IsReadOf};
 ghost use Rattle.rpki_cert.specs.KnownView.{AreKnown};
 ghost use Rattle.rpki_cert.specs.Profile.{rules_of, HasProfile, TestsProfile, InspectsProfile, IsCheckError};
 ghost use Rattle.rpki_cert.specs.Rule.{Obeys};
-ghost use Rattle.rpki_cert.specs.RuleError.{BreaksWith, ChecksBy, IsRuleError};
+ghost use Rattle.rpki_cert.specs.RuleError.{ChecksBy, IsRuleError};
 
-pub mod below;
 pub mod checks;
+mod in_order;
 pub mod inspected;
 pub mod key_rule;
 pub mod name_values;
 pub mod rule;
+pub mod uri_prefix;
 
 use crate::extension::known_part::KnownPart;
 use crate::extension::known_view::KnownView;
+use crate::profile::in_order::Refusal;
 use crate::profile::inspected::Inspected;
 use crate::profile::rule::CertRule;
 use crate::read::view::CertView;
@@ -189,38 +191,12 @@ impl Profile {
     }
 }
 
-/// A rule that was not obeyed.
-#[derive(Clone, Copy)]
-pub(crate) struct Refusal {
-    /// The rule.
-    pub(crate) rule: CertRule,
-    /// The error.
-    pub(crate) error: ValidationError,
-}
-
 impl Inspected<'_> {
-    /// Whether the certificate obeys all of these rules, tested from the left.
-    fn inspect_rules(&self, strict: bool, rules: &[CertRule]) -> Result<(), Refusal>
-        ensures { (t : TbsParts) → IsReadOf t self.now → MatchResult result
-            (λ _. All (Obeys strict t) rules.now)
-            (λ x. BreaksWith strict t rules.now x.rule x.error) }
-    {
-        'rules: for rule in rules {
-            match self.inspect_rule(strict, *rule) {
-                Ok(()) => {}
-                Err(error) => {
-                    return Err(Refusal { rule: *rule, error });
-                }
-            }
-        }
-        Ok(())
-    }
-
     /// Tests the certificate by the profile; the error is that of the first rule that is broken.
     fn inspect(&self, profile: Profile, strict: bool) -> Result<(), ValidationError>
         ensures { (t : TbsParts) → IsReadOf t self.now → InspectsProfile profile strict t result }
     {
-        match self.inspect_rules(strict, profile.rules()) {
+        match self.obeys_profile(profile, strict) {
             Ok(()) => Ok(()),
             Err(Refusal { rule: _, error }) => Err(error),
         }
@@ -230,7 +206,7 @@ impl Inspected<'_> {
     fn test(&self, profile: Profile, strict: bool) -> Result<(), CertRule>
         ensures { (t : TbsParts) → IsReadOf t self.now → TestsProfile profile strict t result }
     {
-        match self.inspect_rules(strict, profile.rules()) {
+        match self.obeys_profile(profile, strict) {
             Ok(()) => Ok(()),
             Err(Refusal { rule, error: _ }) => Err(rule),
         }

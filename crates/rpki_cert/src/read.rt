@@ -2,8 +2,8 @@
 
 pub mod cert_error;
 pub mod cert_part;
+pub mod extension_list;
 pub mod fields;
-pub mod listed;
 pub mod part;
 pub mod version;
 pub mod view;

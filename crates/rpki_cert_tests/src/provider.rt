@@ -2,6 +2,7 @@
 
 use rpki::crypto::Provider;
 use rpki_digests::Digests;
+use rpki_rsa::PreparingProvider;
 
 /// Digests as they are; of each signature it says this.
 #[derive(Clone, Copy)]
@@ -38,4 +39,10 @@ impl Provider for Told {
     fn ecdsa_check(&self, _bits: &[u8], _message: &[u8], _signature: &[u8]) -> bool {
         self.answer
     }
+}
+
+impl PreparingProvider for Told {
+    type PreparedKey = ();
+
+    fn prepare_key(&self, _bits: &[u8]) {}
 }

@@ -14,7 +14,9 @@ use Rattle.rpki_der.proofs.FirstFaultLaws.{inside-no-memory, first-no-memory, en
 use Rattle.rpki_der.proofs.InsideLaws.{unless-memory}
 use Rattle.rpki_der.proofs.LeavesLaws.{leaf-no-memory, contents-no-memory}
 use Rattle.rpki_contents.specs.declared.file_view.FileView.{FileView}
-use Rattle.rpki_contents.specs.ListedFile.{ListedFile, IsName, file_name, IsFileHash, file_hash, file_parts, file}
+use Rattle.rpki_x509.specs.MessageDigest.{IsFileHash}
+use Rattle.rpki_x509.specs.MessageDigest.{file_hash}
+use Rattle.rpki_contents.specs.ListedFile.{ListedFile, IsName, file_name, file_parts, file}
 use Rattle.rpki_contents.specs.FilesInPlace.{AreFiles}
 use Rattle.rpki_contents.specs.ManifestView.{file_in, GivesFile}
 

@@ -1,6 +1,6 @@
 -- Which lemma file answers which question.
 --
--- A value of which something has to hold: SuchLaws. Whether names differ: NamesLaws. The files of a manifest in place,
+-- Whether names differ: NamesLaws. The files of a manifest in place,
 -- and room for their names: FilesLaws, RoomLaws. A manifest over its fields: ManifestLaws. A manifest read in place:
 -- ManifestViewLaws. Files that are written: WritingLaws; the manifest around them: ManifestWritingLaws.
 -- What is decoded of it: InPlaceManifestLaws, by OneReadingLaws.
@@ -34,6 +34,5 @@ pub mod RoaWritingLaws
 pub mod RoomLaws
 pub mod ShortFileLaws
 pub mod ShortLaws
-pub mod SuchLaws
 pub mod WithinLaws
 pub mod WritingLaws

@@ -20,7 +20,8 @@ use Rattle.rpki.specs.Digest.{SpellsDigestName, digest_name_octets}
 use Rattle.rpki_contents.specs.FileName.{is_file_name}
 use Rattle.rpki_contents.specs.ListedFile.{ListedFile, kept_file, kept_parts, AreDistinct}
 use Rattle.rpki_contents.specs.Manifest.{ManifestParts, fields, fields_of, each_file, AreInOrder}
-use Rattle.rpki_contents.specs.Encoded.{hash_contents, file_contents, file_octets, files_octets, CanWriteFile}
+use Rattle.rpki_x509.specs.MessageDigest.{hash_contents}
+use Rattle.rpki_contents.specs.Encoded.{file_contents, file_octets, files_octets, CanWriteFile}
 use Rattle.rpki_contents.specs.Encoded.{CanWriteFiles, AreNamed, front_octets, listing_octets, manifest_contents}
 use Rattle.rpki_contents.specs.Encoded.{CanWriteManifest, IsShortManifest, normal_manifest, IsManifestReadBack}
 use Rattle.rpki_contents.proofs.WritingLaws.{ia5-legal, bits-legal, few-contents}

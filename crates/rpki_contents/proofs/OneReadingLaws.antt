@@ -14,7 +14,9 @@ use Rattle.rpki_time.specs.TimeText.{ReadsAsGeneralized}
 use Rattle.rpki_time.specs.TimeValue.{generalized}
 use Rattle.rpki_time.proofs.TextLaws.{generalized-unique}
 use Rattle.rpki.specs.Oids.{sha256}
-use Rattle.rpki_contents.specs.ListedFile.{IsName, file_name, IsFileHash, file_hash, file_parts, file}
+use Rattle.rpki_x509.specs.MessageDigest.{IsFileHash}
+use Rattle.rpki_x509.specs.MessageDigest.{file_hash}
+use Rattle.rpki_contents.specs.ListedFile.{IsName, file_name, file_parts, file}
 use Rattle.rpki_contents.specs.ManifestView.{view_list, view_fields, view_manifest}
 
 -- octets begin with one value of G at most, which ends in one place

@@ -4,7 +4,8 @@ use Rattle.std.proofs.Common.{append-nil, arith}
 use Rattle.rpki_der.specs.Prelude.{bit_string, Spells, SpellsContents, AreBits, bits_of}
 use Rattle.rpki_contents.specs.FileName.{is_file_name}
 use Rattle.rpki_contents.specs.InPlace.{Follows}
-use Rattle.rpki_contents.specs.ListedFile.{ListedFile, file_hash, file_parts, file}
+use Rattle.rpki_x509.specs.MessageDigest.{file_hash}
+use Rattle.rpki_contents.specs.ListedFile.{ListedFile, file_parts, file}
 use Rattle.rpki_contents.specs.Short.{IsShort}
 use Rattle.rpki_contents.proofs.OneReadingLaws.{file-one}
 use Rattle.rpki_contents.proofs.ShortLaws.{short-sequence, short-bits, short-text}

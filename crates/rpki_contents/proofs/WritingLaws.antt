@@ -12,7 +12,8 @@ use Rattle.rpki_der.specs.Written.{AppendsAllBut, AppendsBeginning}
 use Rattle.rpki_der.proofs.WritingLaws.{beginning_then, beginning_more}
 use Rattle.rpki_der.proofs.EncodeLaws.{tlv_at_most}
 use Rattle.rpki_contents.specs.ListedFile.{ListedFile}
-use Rattle.rpki_contents.specs.Encoded.{hash_contents, file_contents, file_octets, files_octets, CanWriteFile}
+use Rattle.rpki_x509.specs.MessageDigest.{hash_contents}
+use Rattle.rpki_contents.specs.Encoded.{file_contents, file_octets, files_octets, CanWriteFile}
 use Rattle.rpki_contents.specs.Encoded.{CanWriteFiles}
 
 pub ia5-legal : IsTag ia5_string

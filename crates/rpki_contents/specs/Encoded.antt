@@ -6,13 +6,10 @@ use Rattle.rpki_time.specs.Serial.{serial_octets}
 use Rattle.rpki_time.specs.Time.{cut}
 use Rattle.rpki_time.specs.TimeValue.{generalized_octets}
 use Rattle.rpki.specs.Digest.{digest_name_octets}
+use Rattle.rpki_x509.specs.MessageDigest.{hash_contents}
 use Rattle.rpki_contents.specs.FileName.{is_file_name}
 use Rattle.rpki_contents.specs.ListedFile.{ListedFile}
 use Rattle.rpki_contents.specs.Manifest.{ManifestParts, parts_of, AreInOrder, manifest}
-
--- the contents of a digest: no bit is unused
-abbrev pub hash_contents : List ℕ → List ℕ
-hash_contents digest = 0 ∷ digest
 
 -- a file: its name and its digest
 abbrev pub file_contents : ListedFile → List ℕ

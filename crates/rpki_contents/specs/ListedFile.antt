@@ -1,8 +1,9 @@
 -- A file on a manifest: its name, and the digest of its octets (RFC 9286 4.2).
-use Rattle.std.specs.Prelude.{◌≡◌, ℕ, Bool, List, length, bytes_eq, IsTrue}
+use Rattle.std.specs.Prelude.{◌≡◌, ℕ, Bool, List, bytes_eq, IsTrue}
 use Rattle.std.specs.List.{IsDistinct}
-use Rattle.rpki_der.specs.Prelude.{ia5_string, sequence, Bits, Format, octets_under, bits_value, around, then, only}
+use Rattle.rpki_der.specs.Prelude.{ia5_string, sequence, Format, octets_under, around, then, only}
 use Rattle.rpki_der.specs.Prelude.{such, kept}
+use Rattle.rpki_x509.specs.MessageDigest.{file_hash}
 use Rattle.rpki_contents.specs.FileName.{is_file_name}
 
 -- ---- the name, an IA5String
@@ -16,16 +17,6 @@ file_name = such IsName (octets_under ia5_string)
 -- the same, of a name that is kept
 abbrev pub kept_name : Format (List ℕ)
 kept_name = such IsName (kept (octets_under ia5_string))
-
--- ---- the digest, a BIT STRING: thirty-two octets, of SHA-256, and no bit is unused
-
-pub record IsFileHash (hash : List ℕ) (bits : Bits) : Type 0 where
-  pub octets : hash ≡ bits.octets
-  pub used : bits.unused ≡ 0
-  pub size : length bits.octets ≡ 32
-
-abbrev pub file_hash : Format (List ℕ)
-file_hash = such IsFileHash bits_value
 
 -- ---- FileAndHash: a SEQUENCE of both
 

@@ -6,7 +6,7 @@ ghost use Rattle.rpki_parse.specs.Words.{Moves, kinds, parsed};
 ghost use Rattle.rpki_resources.specs.Address.{width};
 ghost use Rattle.rpki_contents.specs.RoaView.{count_at, fits, max_length_at, prefix_at, size_of};
 
-use crate::short::short;
+use crate::short_form::short;
 use rpki_der::{BitString, Constructed, DecodeError, Tag};
 use rpki_parse::{Step, finish, fold, has_tag, take_bits, take_sequence, take_u8};
 use rpki_resources::AddressFamily;

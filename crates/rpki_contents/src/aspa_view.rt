@@ -6,7 +6,7 @@ ghost use Rattle.rpki_parse.specs.Words.{Moves, kinds, parsed};
 ghost use Rattle.rpki_contents.specs.AspaView.{attestation, found_of, is_above, members, number_at, provider_at};
 ghost use Rattle.rpki_contents.specs.AspaView.{given_at, providers_at, version_at};
 
-use crate::short::short_number;
+use crate::short_form::short_number;
 use rpki_der::{Class, Constructed, DecodeError, Tag};
 use rpki_parse::{
     Step, at, finish, fold, skip_u8_if, take_constructed_if, take_sequence, take_u32,

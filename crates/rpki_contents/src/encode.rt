@@ -4,7 +4,8 @@ ghost use Rattle.std.specs.Prelude.{◌≡◌, ◌≤◌, ◌<◌, ◌<ℤ◌, �
 ghost use Rattle.rpki_der.specs.Prelude.{ia5_string, bit_string, tlv};
 ghost use Rattle.rpki_der.specs.Written.{Writes};
 ghost use Rattle.rpki_contents.specs.Encoded.{file_octets, files_octets, CanWriteFile, CanWriteFiles, manifest_octets};
-ghost use Rattle.rpki_contents.specs.Encoded.{hash_contents, front_octets, listing_octets, AreNamed, CanWriteManifest};
+ghost use Rattle.rpki_x509.specs.MessageDigest.{hash_contents};
+ghost use Rattle.rpki_contents.specs.Encoded.{front_octets, listing_octets, AreNamed, CanWriteManifest};
 ghost use Rattle.rpki_contents.specs.Encoded.{IsManifestReadBack, IsShortManifest};
 ghost use Rattle.rpki_contents.specs.FileName.{is_file_name};
 ghost use Rattle.rpki_contents.specs.Manifest.{AreInOrder};

@@ -6,9 +6,9 @@ ghost use Rattle.rpki_contents.specs.FileName.{is_file_name};
 ghost use Rattle.rpki_contents.specs.ListedFile.{kept_name, kept_parts, kept_file};
 
 use crate::file_name::is_file_name;
-use crate::message_digest::MessageDigest;
 use bytes::Bytes;
 use rpki::der::{Constructed, DecodeError, Keep, Tag};
+use rpki_x509::MessageDigest;
 use std::marker::Model;
 
 /// A file that a manifest lists: its name, and the digest of its octets (RFC 9286 4.2.1).

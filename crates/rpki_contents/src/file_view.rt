@@ -5,8 +5,8 @@ ghost use Rattle.rpki_contents.specs.ListedFile.{file_name, file_parts, file};
 ghost use Rattle.rpki_contents.specs.ManifestView.{file_in};
 
 use crate::file_name::is_file_name;
-use crate::message_digest::MessageDigest;
 use rpki::der::{Constructed, DecodeError, Tag};
+use rpki_x509::MessageDigest;
 
 /// A file that a manifest lists, whose name is borrowed.
 #[derive(Clone, Copy)]

@@ -8,7 +8,7 @@ ghost use Rattle.rpki_contents.specs.ListedFile.{file};
 
 use crate::file_name::is_file_name;
 use crate::file_view::FileView;
-use crate::short::short;
+use crate::short_form::short;
 use rpki::der::Constructed;
 
 /// What follows the file at the front, where its header and that of its name are two octets each.

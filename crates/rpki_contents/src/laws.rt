@@ -17,12 +17,12 @@ ghost use Rattle.rpki_contents.specs.RoaView.{FoundRoa, IsRoaOf, route_origin};
 use crate::aspa_view::AspaPart;
 use crate::manifest::ManifestContent;
 use crate::manifest_part::ManifestPart;
-use crate::message_digest::MessageDigest;
 use crate::roa_address::RoaIpAddress;
 use crate::roa_view::RoaPart;
 use crate::route_origin::{FriendlyRoaIpAddress, RouteOrigin};
 use bytes::Bytes;
 use rpki::der::DecodeError;
+use rpki_x509::MessageDigest;
 use std::alloc::Global;
 
 /// What [ManifestView::read](crate::ManifestView::read) reads is decoded exactly where no two of its files have the

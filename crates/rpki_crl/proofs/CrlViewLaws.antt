@@ -6,14 +6,14 @@ use Rattle.rpki_x509.specs.declared.signed_parts.Parts.{Parts}
 use Rattle.rpki_x509.specs.SignedParts.{ArePartsAt}
 use Rattle.rpki_crl.specs.declared.crl_part.CrlPart.{CrlPart}
 use Rattle.rpki_crl.specs.declared.crl_view.CrlView.{CrlView}
-use Rattle.rpki_crl.specs.declared.list_view.TbsListView.{TbsListView}
+use Rattle.rpki_crl.specs.declared.list_view.TbsCertListView.{TbsCertListView}
 use Rattle.rpki_crl.specs.Crl.{fields_of, tbs_cert_list, CrlParts, crl_parts}
 use Rattle.rpki_crl.specs.CrlView.{IsTbsWrong, IsCrlAt, IsCrlWrong, signed_in}
 use Rattle.rpki_crl.specs.CrlView.IsCrlWrong.{InSigned, Differ}
 use Rattle.rpki_crl.proofs.ListViewLaws.{IsTbsAt}
 
 pub list-read : (s c d : List ℕ) (v : CrlView) → SpellsContents sequence true c s → ArePartsAt c (signed_in v)
-    → d ≡ v.«data».octets.now → IsTbsAt d v.tbs → v.tbs.signature ≡ v.kind
+    → d ≡ v.signed.octets.now → IsTbsAt d v.tbs → v.tbs.signature ≡ v.signature_algorithm
     → (x : CrlParts) × IsCrlAt s v x
 list-read s c d v h k is l same =
     let (x, spelled, stand) = k in
@@ -37,13 +37,14 @@ list-read s c d v h k is l same =
 -- ---- what is wrong with it
 
 pub in-signed : (s c d : List ℕ) (v : Parts) (q : CrlPart) → SpellsContents sequence true c s → ArePartsAt c v
-    → d ≡ v.«data».octets.now → IsTbsWrong d q → IsCrlWrong s q
+    → d ≡ v.signed.octets.now → IsTbsWrong d q → IsCrlWrong s q
 in-signed s c d v q h k is wrong =
     let (x, spelled, stand) = k in
     InSigned c x h spelled stand.used (subst (λ (y : List ℕ). IsTbsWrong y q) (is ∙ stand.signed.octets) wrong)
 
-pub differ : (s c d : List ℕ) (v : Parts) (f : TbsListView) → SpellsContents sequence true c s → ArePartsAt c v
-    → d ≡ v.«data».octets.now → IsTbsAt d f → (f.signature ≡ v.kind → ⊥) → IsCrlWrong s CrlPart.SameAlgorithm
+pub differ : (s c d : List ℕ) (v : Parts) (f : TbsCertListView) → SpellsContents sequence true c s → ArePartsAt c v
+    → d ≡ v.signed.octets.now → IsTbsAt d f → (f.signature ≡ v.signature_algorithm → ⊥)
+    → IsCrlWrong s CrlPart.SameAlgorithm
 differ s c d v f h k is l other =
     let (x, spelled, stand) = k in
     let (t, tbs, there) = l in

@@ -18,7 +18,7 @@ use Rattle.rpki.specs.Name.{SpellsNameOctets}
 use Rattle.rpki_der.specs.declared.section.Section.{Section}
 use Rattle.rpki_der.specs.Section.{IsSection}
 use Rattle.rpki_crl.specs.declared.crl_part.CrlPart.{CrlPart}
-use Rattle.rpki_crl.specs.declared.list_view.TbsListView.{TbsListView}
+use Rattle.rpki_crl.specs.declared.list_view.TbsCertListView.{TbsCertListView}
 use Rattle.rpki_crl.specs.Crl.{Entry, entries, ListExtensions, extensions_of, extensions, ListParts, fields_of}
 use Rattle.rpki_crl.specs.Crl.{signature, fields, tbs_cert_list}
 use Rattle.rpki_crl.specs.CrlView.{TakesRevoked, IsListAt, entries_in_front, after_entries, AreFieldsWrong}
@@ -81,10 +81,10 @@ parts_of algorithm issuer this next revoked extensions = record {
 }
 
 -- these fields are all of s, and the sections are theirs
-abbrev pub IsFieldsAt : List ℕ → TbsListView → Type 0
+abbrev pub IsFieldsAt : List ℕ → TbsCertListView → Type 0
 IsFieldsAt s f = (t : ListParts) × (h : fields.spells (fields_of t) s) × IsListAt t s h f
 
-pub fields-read : (s v w x y z : List ℕ) (f : TbsListView) (i : List ℕ) → Accepts (this_number 1).spells s tt v
+pub fields-read : (s v w x y z : List ℕ) (f : TbsCertListView) (i : List ℕ) → Accepts (this_number 1).spells s tt v
     → Accepts signature.spells v f.signature w → Accepts SpellsNameOctets w i x → IsSection f.issuer i x
     → Accepts time.spells x f.this_update y → Accepts time.spells y f.next_update z
     → Listed z f.revoked_certs (extensions_of f.extensions) → IsFieldsAt s f
@@ -143,16 +143,16 @@ revoked-wrong s h = inr (h.0, AtPart h.1 refl)
 -- ---- TBSCertList
 
 -- all of s is a TBSCertList, and the sections are those of its fields
-abbrev pub IsTbsAt : List ℕ → TbsListView → Type 0
+abbrev pub IsTbsAt : List ℕ → TbsCertListView → Type 0
 IsTbsAt s f = (t : ListParts) × (h : tbs_cert_list.spells (fields_of t) s) × IsListAt t h.contents h.spelled f
 
 -- the reader of the fields, whose result is handed on
-pub tbs-handed : (s c : List ℕ) (x : Result TbsListView CrlPart) → SpellsContents sequence true c s
+pub tbs-handed : (s c : List ℕ) (x : Result TbsCertListView CrlPart) → SpellsContents sequence true c s
     → IfOk x (IsFieldsAt c) → IfOk x (IsTbsAt s)
 tbs-handed s c (Ok f) h k = (k.0, record { contents = c; value = h; spelled = k.1 }, k.2)
 tbs-handed s c (Err q) h k = k
 
-pub tbs-handed-wrong : (s c : List ℕ) (x : Result TbsListView CrlPart) → SpellsContents sequence true c s
+pub tbs-handed-wrong : (s c : List ℕ) (x : Result TbsCertListView CrlPart) → SpellsContents sequence true c s
     → IfErr x (λ q. AreFieldsWrong c q) → IfErr x (λ q. IsTbsWrong s q)
 tbs-handed-wrong s c (Ok f) h k = k
 tbs-handed-wrong s c (Err q) h k = InTbs c h k

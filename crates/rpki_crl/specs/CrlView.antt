@@ -19,7 +19,7 @@ use Rattle.rpki_x509.specs.SignedParts.{ArePartsIn, AreMalformed}
 use Rattle.rpki_crl.specs.declared.crl_part.CrlPart.{CrlPart}
 use Rattle.rpki_crl.specs.declared.crl_part.CrlPart.TheVariants as P
 use Rattle.rpki_crl.specs.declared.crl_view.CrlView.{CrlView}
-use Rattle.rpki_crl.specs.declared.list_view.TbsListView.{TbsListView}
+use Rattle.rpki_crl.specs.declared.list_view.TbsCertListView.{TbsCertListView}
 use Rattle.rpki_crl.specs.Crl.{Entry, entry, each_entry, entries, ListExtensions, AreExtensions, extensions_of}
 use Rattle.rpki_crl.specs.Crl.{extensions, ListParts, fields_of, signature, fields, tbs_cert_list, CrlParts, crl}
 use Rattle.rpki_crl.specs.Crl.{is_revoked}
@@ -91,7 +91,8 @@ abbrev pub after_revoked : (t : ListParts) (c : List ℕ) → fields.spells (fie
 after_revoked t c h = after_entries t.revoked t.extensions h.two.two.two.two.second h.two.two.two.two.two
 
 -- The sections are those of the fields; h says which octets spell which part, and so what follows each.
-pub record IsListAt (t : ListParts) (s : List ℕ) (h : fields.spells (fields_of t) s) (v : TbsListView) : Type 0 where
+pub record IsListAt (t : ListParts) (s : List ℕ) (h : fields.spells (fields_of t) s) (v : TbsCertListView)
+    : Type 0 where
   pub algorithm : v.signature ≡ t.algorithm
   pub issuer : IsSection v.issuer t.issuer h.two.two.second
   pub this_update : v.this_update ≡ t.this_update
@@ -126,7 +127,13 @@ pub data IsTbsWrong (d : List ℕ) (q : CrlPart) : Type 0 where
 
 -- the parts of signed data
 abbrev pub signed_in : CrlView → Parts
-signed_in v = record { «data» = v.«data»; kind = v.kind; algorithm = v.algorithm; signature = v.signature }
+signed_in v =
+    record {
+      signed = v.signed;
+      signature_algorithm = v.signature_algorithm;
+      algorithm = v.algorithm;
+      signature = v.signature;
+    }
 
 -- the list x is all of s, and the sections are those of its parts, as the grammar divides s
 pub record IsCrlAt (s : List ℕ) (v : CrlView) (x : CrlParts) : Type 0 where

@@ -6,7 +6,7 @@ ghost use Rattle.rpki_crl.specs.Crl.{CrlParts};
 ghost use Rattle.rpki_crl.specs.CrlView.{signed_part, IsCrlAt, IsCrlBehind, IsCrlWrong, IsWrongBehind};
 
 use crate::crl_part::CrlPart;
-use crate::list_view::{TbsListView, read_tbs};
+use crate::list_view::{TbsCertListView, read_tbs};
 use rpki::crypto::RpkiSignatureAlgorithm;
 use rpki::der::{Constructed, Section, Tag};
 use rpki_x509::{SignedPart, inside, is_same, is_value, read_parts, take_headed};
@@ -15,15 +15,15 @@ use rpki_x509::{SignedPart, inside, is_same, is_value, read_parts, take_headed};
 #[derive(Clone, Copy)]
 pub struct CrlView<'a> {
     /// The value that is signed.
-    pub data: Section<'a>,
+    pub signed: Section<'a>,
     /// The algorithm.
-    pub kind: RpkiSignatureAlgorithm,
+    pub signature_algorithm: RpkiSignatureAlgorithm,
     /// The octets of the algorithm identifier.
     pub algorithm: Section<'a>,
     /// The octets of the signature.
     pub signature: Section<'a>,
     /// What is signed; its sections are in the octets that are signed.
-    pub tbs: TbsListView<'a>,
+    pub tbs: TbsCertListView<'a>,
 }
 
 /// The part of a list that a part of signed data is.
@@ -50,12 +50,12 @@ fn read_behind<'a>(signed: &'a [u8], behind: Constructed<'a>) -> Result<CrlView<
         Ok(tbs) => tbs,
         Err(part) => return Err(part),
     };
-    if !is_same(tbs.signature, parts.kind) {
+    if !is_same(tbs.signature, parts.signature_algorithm) {
         return Err(CrlPart::SameAlgorithm);
     }
     Ok(CrlView {
-        data: parts.data,
-        kind: parts.kind,
+        signed: parts.signed,
+        signature_algorithm: parts.signature_algorithm,
         algorithm: parts.algorithm,
         signature: parts.signature,
         tbs,

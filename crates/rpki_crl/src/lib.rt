@@ -22,5 +22,5 @@ pub use crl_part::CrlPart;
 pub use crl_view::CrlView;
 pub use encode::{CrlExtensionsEncoder, TbsCertListEncoder};
 pub use entries::entries_contain;
-pub use list_view::TbsListView;
+pub use list_view::TbsCertListView;
 pub use tbs_cert_list::TbsCertList;

@@ -15,7 +15,7 @@ use rpki_x509::{inside, take_name};
 
 /// The fields of a TBSCertList.
 #[derive(Clone, Copy)]
-pub struct TbsListView<'a> {
+pub struct TbsCertListView<'a> {
     /// The algorithm that the signature is said to have.
     pub signature: RpkiSignatureAlgorithm,
     /// The issuer.
@@ -31,7 +31,7 @@ pub struct TbsListView<'a> {
 }
 
 /// The fields, which are the whole rest.
-fn read_fields<'a>(contents: Constructed<'a>) -> Result<TbsListView<'a>, CrlPart>
+fn read_fields<'a>(contents: Constructed<'a>) -> Result<TbsCertListView<'a>, CrlPart>
     ensures ok { IfOk result (λ v. (t : ListParts) × (h : fields.spells (fields_of t) (left contents.entry))
         × IsListAt t (left contents.entry) h v) }
     ensures err { IfErr result (λ q. AreFieldsWrong (left contents.entry) q) }
@@ -62,7 +62,7 @@ fn read_fields<'a>(contents: Constructed<'a>) -> Result<TbsListView<'a>, CrlPart
         None => return Err(CrlPart::RevokedCerts),
     };
     match read_extensions(rest) {
-        Some(extensions) => Ok(TbsListView {
+        Some(extensions) => Ok(TbsCertListView {
             signature,
             issuer,
             this_update,
@@ -75,7 +75,7 @@ fn read_fields<'a>(contents: Constructed<'a>) -> Result<TbsListView<'a>, CrlPart
 }
 
 /// The TBSCertList that these octets are; the sections are in them.
-pub(crate) fn read_tbs<'a>(signed: Constructed<'a>) -> Result<TbsListView<'a>, CrlPart>
+pub(crate) fn read_tbs<'a>(signed: Constructed<'a>) -> Result<TbsCertListView<'a>, CrlPart>
     ensures ok { IfOk result (λ v. (t : ListParts) × (h : tbs_cert_list.spells (fields_of t) (left signed.entry))
         × IsListAt t h.contents h.spelled v) }
     ensures err { IfErr result (λ q. IsTbsWrong (left signed.entry) q) }

@@ -87,15 +87,14 @@ impl<'a> Ia5String<'a> {
     }
 }
 
+/// The characters of a PrintableString (X.680 41.4), each a bit, counted from the lowest.
+const PRINTABLE: u128 = 0x07fffffe_07fffffe_a7fffb81_00000000;
+
 /// Whether the octet is a character of a PrintableString.
 fn is_printable(octet: u8) -> bool
     ensures { result ≡ is_printable octet }
 {
-    octet.is_ascii_alphanumeric()
-        || matches!(
-            octet,
-            b' ' | b'\'' | b'(' | b')' | b'+' | b',' | b'-' | b'.' | b'/' | b':' | b'=' | b'?'
-        )
+    octet < 128 && (PRINTABLE >> u32::from(octet)) & 1 == 1
 }
 
 /// Whether all of them are such characters.

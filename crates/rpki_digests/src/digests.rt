@@ -1,6 +1,7 @@
 //! Digests without signatures.
 
 use rpki::crypto::Provider;
+use rpki_rsa::PreparingProvider;
 use sha1::Sha1;
 use sha2::{Digest, Sha256};
 
@@ -35,4 +36,11 @@ impl Provider for Digests {
     fn ecdsa_check(&self, _bits: &[u8], _message: &[u8], _signature: &[u8]) -> bool {
         false
     }
+}
+
+/// It prepares nothing.
+impl PreparingProvider for Digests {
+    type PreparedKey = ();
+
+    fn prepare_key(&self, _bits: &[u8]) {}
 }

@@ -2,6 +2,7 @@
 
 use crate::digests::Digests;
 use rpki::crypto::Provider;
+use rpki_rsa::{Key, KeyError, PreparingProvider};
 
 /// A provider that computes digests by SHA-1 and SHA-256 (FIPS 180-4), and verifies signatures by RSA with PKCS #1 v1.5
 /// padding and SHA-256 (RFC 8017 8.2.2), by keys of 2,048 to 4,096 bits.
@@ -38,5 +39,31 @@ impl Provider for RsaProvider {
 
     fn ecdsa_check(&self, _bits: &[u8], _message: &[u8], _signature: &[u8]) -> bool {
         false
+    }
+}
+
+/// A prepared key is what [Key::from_bits] returns: by bits that are no key no signature is good.
+impl PreparingProvider for RsaProvider {
+    type PreparedKey = Result<Key, KeyError>;
+
+    ghost use Rattle.rpki_rsa.specs.Key.{IsKeyOf};
+
+    ghost is_prepared = { λ _ bits key. IsKeyOf bits key };
+
+    fn prepare_key(&self, bits: &[u8]) -> Result<Key, KeyError> {
+        Key::from_bits(bits)
+    }
+
+    fn rsa_check_by(
+        &self,
+        key: &Result<Key, KeyError>,
+        _bits: &[u8],
+        message: &[u8],
+        signature: &[u8],
+    ) -> bool {
+        match key {
+            Ok(key) => key.verifies(message, signature),
+            Err(_) => false,
+        }
     }
 }

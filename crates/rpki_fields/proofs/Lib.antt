@@ -4,7 +4,7 @@
 -- MemoryLaws. Certificates of any algorithms: OtherCertLaws, OtherPartsLaws, OtherSizeLaws. Lists whose items are in
 -- a relation: EachIsLaws; blocks of resources: ResourceItemLaws. That a certificate has one list of fields, an object
 -- one sheet, and octets one object: OneTextLaws, OtherTextLaws, OneSheetLaws, OneObjectLaws; what a reader of
--- certificates says: OtherObjectLaws.
+-- certificates says: OtherObjectLaws. Checklists, trust anchor keys and Ghostbusters records: RecordLaws.
 
 pub mod NameLaws
 pub mod IdentifierLaws
@@ -18,5 +18,6 @@ pub mod OtherSizeLaws
 pub mod OneTextLaws
 pub mod OtherTextLaws
 pub mod OtherObjectLaws
+pub mod RecordLaws
 pub mod OneSheetLaws
 pub mod OneObjectLaws

@@ -19,8 +19,10 @@ use Rattle.std.specs.Prelude.{codes, false, Option, Some, None}
 use Rattle.rpki_fields.specs.declared.object.Object.{Object}
 use Rattle.rpki_fields.specs.declared.object.Object.TheVariants.{Certificate, Crl, Manifest, Roa}
 use Rattle.rpki_fields.specs.declared.object.Object.TheVariants.{Aspa, SignedObject, OtherCertificate}
+use Rattle.rpki_fields.specs.declared.object.Object.TheVariants.{Checklist, TrustAnchorKey, Ghostbusters}
 use Rattle.rpki_fields.specs.AccessText.{AreDescribed, access_listing, issuer_shown, signer_shown, subject_shown}
 use Rattle.rpki_fields.specs.AccessText.{HasListing, HasSubjectAccess, HasAccess}
+use Rattle.rpki_fields.specs.CardText.{IsCardSheet}
 use Rattle.rpki_fields.specs.ContentText.{AreManifestFields, IsManifestSheet, IsOriginSheet, IsProviderSheet}
 use Rattle.rpki_fields.specs.ContentText.{IsOtherSheet}
 use Rattle.rpki_fields.specs.Field.{FieldParts}
@@ -30,7 +32,10 @@ use Rattle.rpki_fields.specs.Sheet.{SheetParts, plain_sheet, sheet_with}
 use Rattle.rpki_fields.specs.SignedText.{AreSignerKeys, AreSignerNames, AreSignerPlaces, AreSignedFields}
 use Rattle.rpki_fields.specs.SignedText.{SignedLabels, labels_of, manifest_labels}
 use Rattle.rpki_fields.specs.ValueText.{colon_digits}
+use Rattle.rpki_records.specs.Checklist.{checklist}
+use Rattle.rpki_fields.specs.RecordText.{IsAnchorKeysSheet, IsChecklistSheet, ShowsChecklist}
 use Rattle.rpki_fields.proofs.EachIsLaws.{one-each}
+use Rattle.rpki_fields.proofs.RecordLaws.{one-shown}
 use Rattle.rpki_fields.proofs.ResourceItemLaws.{one-resource-items}
 use Rattle.rpki_fields.proofs.OtherTextLaws.{one-other-fields}
 use Rattle.rpki_fields.proofs.OneTextLaws.{one-number, one-name-text, one-only, one-uri, one-fields}
@@ -106,6 +111,20 @@ one-other-sheet : (x : ObjectParts) (a b : SheetParts) → IsOtherSheet x a → 
 one-other-sheet x a b g h = let signed = one-signed-fields (labels_of (codes "signed_object")) x g.0 h.0 g.1 h.1 in
     (rw signed at g.2) ∙ sym h.2
 
+one-checklist-sheet : (x : ObjectParts) (a b : SheetParts) → IsChecklistSheet x a → IsChecklistSheet x b → a ≡ b
+one-checklist-sheet x a b g h =
+    let signed = one-signed-fields (labels_of (codes "rsc")) x g.0 h.0 g.1 h.1 in
+    one-shown h.0 (checklist x.content.content) a b
+    (subst (λ (w : List FieldParts). ShowsChecklist w (checklist x.content.content) a) signed g.2) h.2
+
+one-anchor-keys-sheet : (x : ObjectParts) (a b : SheetParts) → IsAnchorKeysSheet x a → IsAnchorKeysSheet x b → a ≡ b
+one-anchor-keys-sheet x a b g h = let signed = one-signed-fields (labels_of (codes "tak")) x g.0 h.0 g.1 h.1 in
+    (rw signed at g.2) ∙ sym h.2
+
+one-card-sheet : (x : ObjectParts) (a b : SheetParts) → IsCardSheet x a → IsCardSheet x b → a ≡ b
+one-card-sheet x a b g h = let signed = one-signed-fields (labels_of (codes "gbr")) x g.0 h.0 g.1 h.1 in
+    (rw signed at g.2) ∙ sym h.2
+
 -- ---- certificates
 
 one-cert-sheet : (octets : List ℕ) (t : TbsParts) (a b : SheetParts) → IsCertSheet octets t a → IsCertSheet octets t b
@@ -158,6 +177,12 @@ one-sheet octets (Roa r) a b g h =
     with-access signer_shown r.object.cert.tbs (IsOriginSheet r) (one-origin-sheet r) a b g h
 one-sheet octets (Aspa p) a b g h =
     with-access signer_shown p.object.cert.tbs (IsProviderSheet p) (one-provider-sheet p) a b g h
+one-sheet octets (Checklist o) a b g h =
+    with-access signer_shown o.cert.tbs (IsChecklistSheet o) (one-checklist-sheet o) a b g h
+one-sheet octets (TrustAnchorKey o) a b g h =
+    with-access signer_shown o.cert.tbs (IsAnchorKeysSheet o) (one-anchor-keys-sheet o) a b g h
+one-sheet octets (Ghostbusters o) a b g h =
+    with-access signer_shown o.cert.tbs (IsCardSheet o) (one-card-sheet o) a b g h
 one-sheet octets (SignedObject o) a b g h =
     with-access signer_shown o.cert.tbs (IsOtherSheet o) (one-other-sheet o) a b g h
 one-sheet octets (OtherCertificate c) a b g h = g.2

@@ -59,13 +59,13 @@ one-block-items o xs ys g h =
     one-each (IsBlockItem o.kind) (one-block-item o.kind) h.0 xs ys
     (subst (λ (bs : List Block). EachIs (IsBlockItem o.kind) bs xs) same g.2) h.2
 
-one-choice-items : (inherit : List ℕ) (v : ChoiceView) (xs ys : List (List FieldParts)) → AreChoiceItems inherit v xs
-    → AreChoiceItems inherit v ys → xs ≡ ys
+pub one-choice-items : (inherit : List ℕ) (v : ChoiceView) (xs ys : List (List FieldParts))
+    → AreChoiceItems inherit v xs → AreChoiceItems inherit v ys → xs ≡ ys
 one-choice-items inherit Missing xs ys g h = g ∙ sym h
 one-choice-items inherit Inherit xs ys g h = g ∙ sym h
 one-choice-items inherit (Blocks o) xs ys g h = one-block-items o xs ys g h
 
-one-family-items : (v : Option IpResourcesView) (xs ys : List (List FieldParts)) → AreFamilyItems v xs
+pub one-family-items : (v : Option IpResourcesView) (xs ys : List (List FieldParts)) → AreFamilyItems v xs
     → AreFamilyItems v ys → xs ≡ ys
 one-family-items None xs ys g h = g ∙ sym h
 one-family-items (Some x) xs ys g h =

@@ -16,11 +16,14 @@ pub mod OtherText
 pub mod ListText
 pub mod SignedText
 pub mod ContentText
-pub mod Kind
+pub mod ObjectType
 pub mod Object
 pub mod AccessText
-pub mod Place
-pub mod PlaceText
+pub mod Part
+pub mod PartText
 pub mod ObjectText
+pub mod Record
+pub mod RecordText
+pub mod CardText
 pub mod Rendering
 pub mod View

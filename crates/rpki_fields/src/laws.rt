@@ -2,16 +2,16 @@
 
 ghost use Rattle.std.specs.Prelude.{◌≡◌, ◌↔◌, ℕ, List, IsTrue};
 ghost use Rattle.rpki_fields.specs.AtMostOne.{AtMostOne};
-ghost use Rattle.rpki_fields.specs.Kind.{kind_of};
+ghost use Rattle.rpki_fields.specs.ObjectType.{kind_of};
 ghost use Rattle.rpki_fields.specs.Object.{IsOf};
 ghost use Rattle.rpki_fields.specs.ObjectText.{IsSheet};
 ghost use Rattle.rpki_fields.specs.declared.object.Object.{Object};
-ghost use Rattle.rpki_fields.specs.declared.kind.Kind.{Kind as ToldKind};
-ghost use Rattle.rpki_fields.specs.declared.place.Place.{Place as WrongPlace};
+ghost use Rattle.rpki_fields.specs.declared.object_type.ObjectType.{ObjectType as ToldKind};
+ghost use Rattle.rpki_fields.specs.declared.part.Part.{Part as MalformedPart};
 ghost use Rattle.rpki_fields.specs.declared.rendering.Form.{Form as AskedForm};
 
-use crate::kind::Kind;
-use crate::place::Place;
+use crate::object_type::ObjectType;
+use crate::part::Part;
 use crate::rendering::Form;
 
 /// Octets are one object at most, and an object has one sheet.
@@ -22,7 +22,7 @@ pub fn one_sheet()
 
 /// Kinds, forms and places are equal exactly where they are one.
 pub fn equal_kinds_are_one()
-    ensures kind { (p q : ToldKind) → IsTrue (⟦<Kind as PartialEq>⟧.eq p q) ↔ (p ≡ q) }
-    ensures place { (p q : WrongPlace) → IsTrue (⟦<Place as PartialEq>⟧.eq p q) ↔ (p ≡ q) }
+    ensures kind { (p q : ToldKind) → IsTrue (⟦<ObjectType as PartialEq>⟧.eq p q) ↔ (p ≡ q) }
+    ensures place { (p q : MalformedPart) → IsTrue (⟦<Part as PartialEq>⟧.eq p q) ↔ (p ≡ q) }
     ensures form { (p q : AskedForm) → IsTrue (⟦<Form as PartialEq>⟧.eq p q) ↔ (p ≡ q) }
 {}

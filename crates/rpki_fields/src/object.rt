@@ -5,22 +5,26 @@ ghost use Rattle.std.specs.Option.{option_map};
 ghost use Rattle.rpki_der.specs.Prelude.{left, CanShare, Reads, Decodes, IsWholeFault};
 ghost use Rattle.rpki_cert.specs.Cert.{SpellsCert};
 ghost use Rattle.rpki_cert.specs.CertFault.{IsCertFault};
-ghost use Rattle.rpki_fields.specs.declared.kind.Kind.TheVariants as K;
+ghost use Rattle.rpki_fields.specs.declared.object_type.ObjectType.TheVariants as K;
 ghost use Rattle.rpki_fields.specs.declared.object.Object.TheVariants as O;
 ghost use Rattle.rpki_fields.specs.Object.{IsOf, IsNone, IsUnspelled, cert_of, objection_to};
 ghost use Rattle.rpki_fields.specs.ObjectText.{IsCertSheet, IsSheet};
 
 use crate::access_text::{cert_access, signer_access};
+use crate::anchor_keys_text::anchor_keys_sheet;
+use crate::card_text::card_sheet;
 use crate::cert_text::fields;
-use crate::kind::Kind;
+use crate::checklist_text::checklist_sheet;
 use crate::list_text::list_sheet;
 use crate::manifest_text::manifest_sheet;
 use crate::memory::is_memory;
+use crate::object_type::ObjectType;
 use crate::origin_text::origin_sheet;
 use crate::other_cert::OtherCert;
 use crate::other_cert_text::{objection, other_fields};
 use crate::other_text::other_sheet;
 use crate::provider_text::provider_sheet;
+use crate::record::{check_anchor_keys, check_card, check_checklist};
 use crate::resource_items::resource_items;
 use crate::sheet::Sheet;
 use bytes::Bytes;
@@ -44,6 +48,12 @@ pub enum Object {
     Roa(Roa),
     /// An attestation of providers.
     Aspa(Aspa),
+    /// A signed checklist.
+    Checklist(SignedObject),
+    /// Trust anchor keys.
+    TrustAnchorKey(SignedObject),
+    /// A Ghostbusters record.
+    Ghostbusters(SignedObject),
     /// A signed object of any other content.
     SignedObject(SignedObject),
     /// A certificate of an algorithm that the RPKI doesn't use.
@@ -141,6 +151,45 @@ fn providers(alloc: Global, octets: Bytes) -> Result<Object, DecodeError>
     }
 }
 
+/// The signed checklist that the octets are.
+fn checklist(alloc: Global, octets: Bytes) -> Result<Object, DecodeError>
+    ensures { MatchResult result (IsOf K.Checklist octets) (IsNone K.Checklist octets) }
+{
+    match SignedObject::decode(alloc, octets, false) {
+        Ok(object) => match check_checklist(alloc, &object) {
+            Ok(()) => Ok(Object::Checklist(object)),
+            Err(e) => Err(e),
+        },
+        Err(e) => Err(e),
+    }
+}
+
+/// The trust anchor keys that the octets are.
+fn anchor_keys(alloc: Global, octets: Bytes) -> Result<Object, DecodeError>
+    ensures { MatchResult result (IsOf K.TrustAnchorKey octets) (IsNone K.TrustAnchorKey octets) }
+{
+    match SignedObject::decode(alloc, octets, false) {
+        Ok(object) => match check_anchor_keys(&object) {
+            Ok(()) => Ok(Object::TrustAnchorKey(object)),
+            Err(e) => Err(e),
+        },
+        Err(e) => Err(e),
+    }
+}
+
+/// The Ghostbusters record that the octets are.
+fn contact(alloc: Global, octets: Bytes) -> Result<Object, DecodeError>
+    ensures { MatchResult result (IsOf K.Ghostbusters octets) (IsNone K.Ghostbusters octets) }
+{
+    match SignedObject::decode(alloc, octets, false) {
+        Ok(object) => match check_card(&object) {
+            Ok(()) => Ok(Object::Ghostbusters(object)),
+            Err(e) => Err(e),
+        },
+        Err(e) => Err(e),
+    }
+}
+
 /// The signed object that the octets are.
 fn other_content(alloc: Global, octets: Bytes) -> Result<Object, DecodeError>
     ensures { MatchResult result (IsOf K.SignedObject octets) (IsNone K.SignedObject octets) }
@@ -192,6 +241,30 @@ fn aspa_sheet(alloc: Global, octets: &[u8], attestation: &Aspa) -> Result<Sheet,
     signer_access(alloc, sheet, attestation.object().cert().tbs())
 }
 
+/// The sheet of a signed checklist.
+fn digest_sheet(alloc: Global, octets: &[u8], object: &SignedObject) -> Result<Sheet, AllocError>
+    ensures { IfOk result (λ s. IsSheet octets.now (O.Checklist object.now) s) }
+{
+    let sheet = checklist_sheet(alloc, object)?;
+    signer_access(alloc, sheet, object.cert().tbs())
+}
+
+/// The sheet of trust anchor keys.
+fn key_sheet(alloc: Global, octets: &[u8], object: &SignedObject) -> Result<Sheet, AllocError>
+    ensures { IfOk result (λ s. IsSheet octets.now (O.TrustAnchorKey object.now) s) }
+{
+    let sheet = anchor_keys_sheet(alloc, object)?;
+    signer_access(alloc, sheet, object.cert().tbs())
+}
+
+/// The sheet of a Ghostbusters record.
+fn contact_sheet(alloc: Global, octets: &[u8], object: &SignedObject) -> Result<Sheet, AllocError>
+    ensures { IfOk result (λ s. IsSheet octets.now (O.Ghostbusters object.now) s) }
+{
+    let sheet = card_sheet(alloc, object)?;
+    signer_access(alloc, sheet, object.cert().tbs())
+}
+
 /// The sheet of a signed object of any other content.
 fn content_sheet(alloc: Global, octets: &[u8], object: &SignedObject) -> Result<Sheet, AllocError>
     ensures { IfOk result (λ s. IsSheet octets.now (O.SignedObject object.now) s) }
@@ -214,17 +287,22 @@ impl Object {
     /// the RPKI doesn't use.
     ///
     /// The errors are those of [Cert::decode], [Crl::decode], [Manifest::decode], [Roa::decode], [Aspa::decode] and
-    /// [SignedObject::decode].
-    pub fn decode(alloc: Global, kind: Kind, octets: Bytes) -> Result<Object, DecodeError>
+    /// [SignedObject::decode]; of a checklist, of trust anchor keys and of a Ghostbusters record then `Content` for
+    /// another type of content, and those of [Checklist::read](rpki_records::Checklist::read),
+    /// [TakView::read](rpki_records::TakView::read) and [Card::read](rpki_records::Card::read).
+    pub fn decode(alloc: Global, kind: ObjectType, octets: Bytes) -> Result<Object, DecodeError>
         ensures { MatchResult result (IsOf kind octets) (IsNone kind octets) }
     {
         match kind {
-            Kind::Certificate => certificate(alloc, octets),
-            Kind::Crl => revocation_list(alloc, octets),
-            Kind::Manifest => file_list(alloc, octets),
-            Kind::Roa => route_origins(alloc, octets),
-            Kind::Aspa => providers(alloc, octets),
-            Kind::SignedObject => other_content(alloc, octets),
+            ObjectType::Certificate => certificate(alloc, octets),
+            ObjectType::Crl => revocation_list(alloc, octets),
+            ObjectType::Manifest => file_list(alloc, octets),
+            ObjectType::Roa => route_origins(alloc, octets),
+            ObjectType::Aspa => providers(alloc, octets),
+            ObjectType::Checklist => checklist(alloc, octets),
+            ObjectType::TrustAnchorKey => anchor_keys(alloc, octets),
+            ObjectType::Ghostbusters => contact(alloc, octets),
+            ObjectType::SignedObject => other_content(alloc, octets),
         }
     }
 
@@ -239,6 +317,9 @@ impl Object {
             Object::Manifest(manifest) => Some(manifest.object().cert().tbs()),
             Object::Roa(origins) => Some(origins.object().cert().tbs()),
             Object::Aspa(attestation) => Some(attestation.object().cert().tbs()),
+            Object::Checklist(object) => Some(object.cert().tbs()),
+            Object::TrustAnchorKey(object) => Some(object.cert().tbs()),
+            Object::Ghostbusters(object) => Some(object.cert().tbs()),
             Object::SignedObject(object) => Some(object.cert().tbs()),
             Object::OtherCertificate(_) => None,
         }
@@ -282,6 +363,9 @@ impl Object {
             Object::Manifest(manifest) => file_sheet(alloc, octets, manifest),
             Object::Roa(origins) => route_sheet(alloc, octets, origins),
             Object::Aspa(attestation) => aspa_sheet(alloc, octets, attestation),
+            Object::Checklist(object) => digest_sheet(alloc, octets, object),
+            Object::TrustAnchorKey(object) => key_sheet(alloc, octets, object),
+            Object::Ghostbusters(object) => contact_sheet(alloc, octets, object),
             Object::SignedObject(object) => content_sheet(alloc, octets, object),
             Object::OtherCertificate(cert) => other_cert_sheet(alloc, octets, cert),
         }

@@ -128,7 +128,7 @@ fn json_text(alloc: Global, text: &[u8]) -> Result<String, AllocError>
 }
 
 /// Adds a text as a string of JSON, in quotation marks (RFC 8259 7). What is not UTF-8 is replaced.
-fn push_json(text: &mut Vec<u8>, value: &[u8]) -> Result<(), AllocError>
+pub fn push_text(text: &mut Vec<u8>, value: &[u8]) -> Result<(), AllocError>
     ensures { OnOk result (text.new.items ≡ text.old.items ++ json_text value.now) }
 {
     let json = json_text(*text.allocator(), value)?;
@@ -159,7 +159,7 @@ fn push_json_or(text: &mut Vec<u8>, json: &Option<Vec<u8>>, value: &[u8]) -> Res
 {
     match json {
         Some(json) => text.extend_from_slice(json.as_slice()),
-        None => push_json(text, value),
+        None => push_text(text, value),
     }
 }
 
@@ -175,7 +175,7 @@ fn push_member(text: &mut Vec<u8>, field: &Field) -> Result<(), AllocError>
     ensures { OnOk result (text.new.items ≡ text.old.items ++ member field.now) }
 {
     let name = member_name(*text.allocator(), field.label())?;
-    push_json(text, name.as_slice())?;
+    push_text(text, name.as_slice())?;
     text.push(b':')?;
     push_value(text, field)
 }
@@ -238,7 +238,7 @@ fn push_array(text: &mut Vec<u8>, label: &[u8], items: &[Item]) -> Result<(), Al
     let name = member_name(*text.allocator(), label)?;
     let items = next_items(*text.allocator(), items)?;
     text.extend_from_slice(b",")?;
-    push_json(text, name.as_slice())?;
+    push_text(text, name.as_slice())?;
     text.extend_from_slice(b":[")?;
     text.extend_from_slice(after(items.as_slice(), 1))?;
     text.extend_from_slice(b"]")

@@ -166,7 +166,7 @@ fn inherited(alloc: Global, label: &[u8]) -> Result<Vec<Item>, AllocError>
 }
 
 /// Resources of one kind, with the label of those of the issuer.
-fn choice_items(
+pub fn choice_items(
     alloc: Global,
     inherit: &[u8],
     choice: &ChoiceView<'_>,
@@ -181,7 +181,7 @@ fn choice_items(
 }
 
 /// The addresses of both families.
-fn family_items(alloc: Global, found: &IpResourcesView<'_>) -> Result<Vec<Item>, AllocError>
+pub fn family_items(alloc: Global, found: &IpResourcesView<'_>) -> Result<Vec<Item>, AllocError>
     ensures { IfOk result (λ items. AreFamilyItems (Some found.now) items.items) }
 {
     let mut items = choice_items(alloc, b"IP Inherit", &found.v4)?;

@@ -7,7 +7,7 @@ ghost use Rattle.rpki_fields.specs.SignedText.{signed_labels, AreSignedFields};
 use crate::extension_text::{authority_identifier, subject_identifier};
 use crate::field::{Field, push_field, push_field_if, push_time, push_time_if};
 use crate::name::name_text;
-use crate::place_text::{issuer, object as object_place};
+use crate::uri_text::{issuer, object as object_place};
 use crate::value::serial_text;
 use rpki_cert::TbsCert;
 use rpki_objects::SignedObject;

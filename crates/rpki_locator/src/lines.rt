@@ -17,7 +17,7 @@ fn without_return(line: &[u8]) -> &[u8]
     line
 }
 
-/// The lines of the text, each without its line break: a line feed, and a carriage return in front of it.
+/// The lines of the text, each without its line break: a line feed, and a carriage return before it.
 ///
 /// Returns `AllocError` if allocation fails.
 pub(crate) fn lines_of(alloc: Global, text: &[u8]) -> Result<Vec<&[u8]>, AllocError>

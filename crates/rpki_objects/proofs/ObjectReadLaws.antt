@@ -21,19 +21,19 @@ use Rattle.rpki.specs.KeyIdentifier.{IsKeyIdentifier}
 use Rattle.rpki.specs.Signature.{signature_of}
 use Rattle.rpki.proofs.DigestLaws.{digest-spelled, digest-set-spelled}
 use Rattle.rpki_cert.specs.Cert.{CertParts}
-use Rattle.rpki_objects.specs.SignedAttributes.{signed_attributes}
+use Rattle.rpki_attributes.specs.SignedAttributes.{signed_attributes}
 use Rattle.rpki_objects.specs.SignedObject.{zero_tag, kept_octets, explicit_content, content_fields, encapsulated}
 use Rattle.rpki_objects.specs.SignedObject.{content_fields_of, signer_identifier, signer_fields, signer_info}
 use Rattle.rpki_objects.specs.SignedObject.{signer_fields_of, certificate, certificates, signer_infos, data_fields}
 use Rattle.rpki_objects.specs.SignedObject.{signed_data, data_fields_of, signed_data_type, explicit_data, object_fields}
 use Rattle.rpki_objects.specs.SignedObject.{signed_object, object_fields_of, ObjectFields, ObjectParts}
-use Rattle.rpki_objects.specs.EncodedAttributes.{attributes_octets, normal_attributes, IsTimed}
+use Rattle.rpki_attributes.specs.EncodedAttributes.{attributes_octets, normal_attributes, IsTimed}
 use Rattle.rpki_objects.specs.EncodedObject.{BuiltObject, version_3, signer_contents, signer_octets, content_octets}
 use Rattle.rpki_objects.specs.EncodedObject.{data_contents, object_contents, object_octets, CanWriteObject}
 use Rattle.rpki_objects.specs.EncodedObject.{content_built, signer_built, normal_object, IsObjectReadBack}
 use Rattle.rpki_objects.specs.EncodedObject.{IsDecodedBack}
 use Rattle.rpki_x509.specs.TagLaws.{zero_legal, integer-legal}
-use Rattle.rpki_objects.proofs.AttributesReadLaws.{attributes-back}
+use Rattle.rpki_attributes.proofs.AttributesReadLaws.{attributes-back}
 use Rattle.rpki_objects.proofs.ObjectWritingLaws.{signer-few, signer-octets-few, content-few, content-inside-few}
 use Rattle.rpki_objects.proofs.ObjectWritingLaws.{data-few}
 use Rattle.rpki_objects.proofs.ObjectWritingLaws.{data-octets-few, object-few}

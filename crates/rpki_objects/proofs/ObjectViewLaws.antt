@@ -11,22 +11,23 @@ use Rattle.rpki.specs.AlgorithmFault.{cms, digest, digest_set}
 use Rattle.rpki_der.specs.Section.{IsSection}
 use Rattle.rpki_objects.specs.declared.object_part.ObjectPart.{ObjectPart}
 use Rattle.rpki_objects.specs.declared.content_view.ContentView.{ContentView}
-use Rattle.rpki_objects.specs.declared.signed_attrs_view.SignedAttrsView.{SignedAttrsView}
+use Rattle.rpki_attributes.specs.declared.signed_attrs_view.SignedAttrsView.{SignedAttrsView}
 use Rattle.rpki_objects.specs.declared.signer_view.SignerView.{SignerView}
 use Rattle.rpki_objects.specs.declared.signed_object_view.SignedObjectView.{SignedObjectView}
-use Rattle.rpki_objects.specs.SignedAttributes.{AttributeValues, AttributesParts, attributes_tag, each_attribute}
-use Rattle.rpki_objects.specs.SignedAttributes.{message_of, signed_attributes, values_known}
+use Rattle.rpki_attributes.specs.SignedAttributes.{AttributeValues, AttributesParts, attributes_tag, each_attribute}
+use Rattle.rpki_attributes.specs.SignedAttributes.{message_of, signed_attributes, values_known}
 use Rattle.rpki_objects.specs.SignedObject.{zero_tag, kept_octets, explicit_content, content_fields}
 use Rattle.rpki_objects.specs.SignedObject.{SignerParts, signer_fields_of, signer_identifier, signer_infos}
 use Rattle.rpki_objects.specs.SignedObject.{ObjectParts, signed_data_type}
-use Rattle.rpki_objects.specs.SignedObjectView.{TakesContent, TakesCertificate, AreTogether, TakesAttributes}
+use Rattle.rpki_attributes.specs.SignedAttributesView.{AreTogether, TakesAttributes}
+use Rattle.rpki_objects.specs.SignedObjectView.{TakesContent, TakesCertificate}
 use Rattle.rpki_objects.specs.SignedObjectView.{IsSignerAt}
 use Rattle.rpki_objects.specs.SignedObjectView.{IsSignerIn, IsDataIn, IsObjectAt, AreSignerFieldsWrong, AreSignersWrong}
 use Rattle.rpki_objects.specs.SignedObjectView.{IsFirstCertWrong, NoneFollows}
 use Rattle.rpki_objects.specs.SignedObjectView.WrongWithin.{Inside}
 use Rattle.rpki_objects.specs.SignedObjectView.IsFirstCertWrong.{NoSet, NoCert, BehindCert}
-use Rattle.rpki_objects.proofs.AttributesLaws.{parts_from}
-use Rattle.rpki_objects.proofs.InPlaceLaws.{front-of}
+use Rattle.rpki_attributes.proofs.AttributesLaws.{parts_from}
+use Rattle.rpki_x509.proofs.InPlaceLaws.{front-of}
 
 -- ---- the content
 
@@ -67,73 +68,6 @@ content-taken s c r t m o v a b k type after is last = (
     content = record { octets = is; following = last };
   },
 )
-
--- ---- the signed attributes
-
-module _ (strict : Bool) (s c r : List ℕ) (a : Accepts (SpellsContents attributes_tag true) s c r) where
-  record Contained (x : AttributesParts) (q front : List ℕ) : Type 0 where
-    together : AreTogether strict x.values c
-    rest : q ≡ r
-    message : x.message ≡ message_of front
-
-  contained : (x : AttributesParts) (q : List ℕ) (h : Spells (signed_attributes strict).spells s x q)
-      → Contained x q h.front
-  contained x q h =
-      let l = h.spelled.spelled.1 in
-      let e = a.only l.contents q (record { front = h.front; parts = h.parts; spelled = l.value }) in
-      record {
-        together = record {
-          attributes = h.spelled.value.1;
-          each = subst (each_attribute.spells h.spelled.value.1) e.0 l.spelled;
-          say = h.spelled.stands.values;
-        };
-        rest = e.1;
-        message = h.spelled.stands.message ∙ ap message_of h.spelled.spelled.0;
-      }
-
-  pub attributes-other : SpellsNothing (AreTogether strict) c → Refuses (signed_attributes strict).spells s
-  attributes-other none x q h = none x.values (contained x q h).together
-
-  same-front : (q : List ℕ) (h : List ℕ) → s ≡ h ++ q → q ≡ r → h ≡ a.spells.front
-  same-front q h parts e =
-      append_cancel_right h a.spells.front r (ap (λ (z : List ℕ). h ++ z) (sym e) ∙ sym parts ∙ a.spells.parts)
-
-  same-parts : (x : AttributesParts) (m : List ℕ) (v : AttributeValues) → x.message ≡ m → x.values ≡ v
-      → x ≡ parts_from m v
-  same-parts x m v e f =
-      ap (λ (y : List ℕ). parts_from y x.values) e ∙ ap (λ (w : AttributeValues). parts_from m w) f
-
-  pub attributes-taken : (v : SignedAttrsView) → IsSection v.octets a.spells.front r
-      → AreTogether strict (values_known v.values) c
-      × ((w : AttributeValues) → AreTogether strict w c → w ≡ values_known v.values)
-      → TakesAttributes strict s r (Some v)
-  attributes-taken v at k = (
-    parts_from (message_of a.spells.front) (values_known v.values),
-    record {
-      spells = record {
-        front = a.spells.front;
-        parts = a.spells.parts;
-        spelled = record {
-          value = (a.spells.front, k.0.attributes);
-          spelled = (refl, record { contents = c; value = a.spells.spelled; spelled = k.0.each });
-          stands = record { message = refl; values = k.0.say };
-        };
-      };
-      only = λ x q h.
-          let l = contained x q h in (
-            same-parts x (message_of a.spells.front) (values_known v.values)
-                (l.message ∙ ap message_of (same-front q h.front h.parts l.rest)) (k.1 x.values l.together),
-            l.rest,
-          );
-    },
-    record { section = at; message = ap message_of (sym at.octets); values = refl },
-  )
-
-pub attributes-outside : (strict : Bool) (s : List ℕ) → Refuses (SpellsContents attributes_tag true) s
-    → Refuses (signed_attributes strict).spells s
-attributes-outside strict s none x q h =
-    let l = h.spelled.spelled.1 in
-    none l.contents q (record { front = h.front; parts = h.parts; spelled = l.value })
 
 -- ---- the signer
 

@@ -12,11 +12,11 @@ use Rattle.rpki.specs.AlgorithmOctets.{algorithm_octets, identified_octets, para
 use Rattle.rpki.specs.AlgorithmOctetsLaws.{oid-legal, parameters-short, algorithm-spelled, algorithm-value}
 use Rattle.rpki.specs.Digest.{digest_octets, digest_set_octets}
 use Rattle.rpki_objects.specs.SignedObject.{zero_tag, signed_data_type}
-use Rattle.rpki_objects.specs.EncodedAttributes.{attributes_octets}
+use Rattle.rpki_attributes.specs.EncodedAttributes.{attributes_octets}
 use Rattle.rpki_objects.specs.EncodedObject.{BuiltObject, version_3, signer_contents, signer_octets, content_octets}
 use Rattle.rpki_objects.specs.EncodedObject.{data_contents, object_contents, object_octets, parts_size, CanWriteObject}
 use Rattle.rpki_x509.specs.TagLaws.{zero_legal, integer-legal}
-use Rattle.rpki_objects.proofs.AttributesWritingLaws.{attributes-few, attributes-value}
+use Rattle.rpki_attributes.proofs.AttributesWritingLaws.{attributes-few, attributes-value}
 
 -- ---- parts that are always the same
 

@@ -23,8 +23,8 @@ use Rattle.rpki_cert.specs.View.{most_extensions}
 use Rattle.rpki_objects.specs.declared.object_part.ObjectPart.{ObjectPart}
 use Rattle.rpki_objects.specs.declared.object_part.ObjectPart.TheVariants as P
 use Rattle.rpki_objects.specs.declared.signed_object_view.SignedObjectView.{SignedObjectView}
-use Rattle.rpki_objects.specs.SignedAttributes.{AttributesParts, signed_attributes, attribute}
-use Rattle.rpki_objects.specs.SignedAttributes.{attribute_parts, value_set}
+use Rattle.rpki_attributes.specs.SignedAttributes.{AttributesParts, signed_attributes, attribute}
+use Rattle.rpki_attributes.specs.SignedAttributes.{attribute_parts, value_set}
 use Rattle.rpki_objects.specs.SignedObject.{zero_tag, kept_octets, encapsulated, certificates, signer_identifier}
 use Rattle.rpki_objects.specs.SignedObject.{SignerFields, signer_fields, signer_info, signer_infos, data_fields}
 use Rattle.rpki_objects.specs.SignedObject.{signed_data, explicit_data, object_fields, signed_object, signed_data_type}
@@ -35,7 +35,7 @@ use Rattle.rpki_objects.specs.SignedObjectView.{IsObjectWrong}
 use Rattle.rpki_objects.specs.SignedObjectView.FirstWrong.{AtPart, Later}
 use Rattle.rpki_objects.specs.SignedObjectView.WrongWithin.{Outside, Inside}
 use Rattle.rpki_objects.specs.SignedObjectView.IsFirstCertWrong.{NoSet, NoCert, BehindCert}
-use Rattle.rpki_objects.proofs.InPlaceLaws.{refused, front-of}
+use Rattle.rpki_x509.proofs.InPlaceLaws.{refused, front-of}
 
 -- ---- readers that take no memory
 
@@ -62,16 +62,6 @@ pub identifier-refused : (s r : List ℕ) (e : DecodeError)
 identifier-refused s r e =
     refused signer_identifier.spells signer_identifier.fault s r e
     (λ k. leaf-no-memory zero_tag false IsKeyIdentifier s OutOfMemory k refl)
-
-pub attribute-refused : (s r : List ℕ) (e : DecodeError) → Refusal attribute.spells attribute.fault s r e
-    → Refuses attribute.spells s
-attribute-refused s r e =
-    refused attribute.spells attribute.fault s r e
-    (inside-no-memory sequence true attribute_parts.fault s
-    (λ c. first-no-memory any_oid.spells any_oid.fault (λ a. (only value_set).fault) c
-    (λ k. leaf-no-memory oid false IsOidOf c OutOfMemory k refl)
-    (λ a q. first-no-memory value_set.spells value_set.fault (λ v. IsEndFault) q
-    (λ k. contents-no-memory set true q OutOfMemory k refl) (λ v p. end-no-memory p))))
 
 digest-never : (s : List ℕ) → digest.fault s OutOfMemory → ⊥
 digest-never s =

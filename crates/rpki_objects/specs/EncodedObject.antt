@@ -9,9 +9,9 @@ use Rattle.rpki.specs.AlgorithmOctets.{algorithm_octets}
 use Rattle.rpki.specs.Digest.{digest_octets, digest_set_octets}
 use Rattle.rpki.specs.Signature.{signature_of}
 use Rattle.rpki_cert.specs.Cert.{CertParts}
-use Rattle.rpki_objects.specs.declared.encode.object.SignedObjectParts.{SignedObjectParts}
-use Rattle.rpki_objects.specs.SignedAttributes.{AttributeValues, values_known}
-use Rattle.rpki_objects.specs.EncodedAttributes.{attributes_octets, CanWriteAttributes, normal_attributes, IsTimed}
+use Rattle.rpki_objects.specs.declared.encode.SignedObjectParts.{SignedObjectParts}
+use Rattle.rpki_attributes.specs.SignedAttributes.{AttributeValues, values_known}
+use Rattle.rpki_attributes.specs.EncodedAttributes.{attributes_octets, CanWriteAttributes, normal_attributes, IsTimed}
 use Rattle.rpki_objects.specs.SignedObject.{zero_tag, ContentParts, SignerParts, ObjectParts, signed_data_type}
 use Rattle.rpki_objects.specs.SignedObject.{certificate, signed_object, object_fields_of}
 

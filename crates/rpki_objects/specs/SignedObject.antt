@@ -10,8 +10,8 @@ use Rattle.rpki_cert.specs.Cert.{CertParts, SpellsCert}
 use Rattle.rpki_cert.specs.CertFault.{IsCertFault}
 use Rattle.rpki_objects.specs.declared.encapsulated.EncapsulatedContent.{EncapsulatedContent}
 use Rattle.rpki_objects.specs.declared.signer_info.SignerInfo.{SignerInfo}
-use Rattle.rpki_objects.specs.declared.signed_data.ObjectData.{ObjectData}
-use Rattle.rpki_objects.specs.SignedAttributes.{AttributesParts, signed_attributes, attributes_of}
+use Rattle.rpki_objects.specs.declared.signed_data.SignedData.{SignedData}
+use Rattle.rpki_attributes.specs.SignedAttributes.{AttributesParts, signed_attributes, attributes_of}
 
 -- the explicit and implicit tags 0
 abbrev pub zero_tag : TagName
@@ -29,7 +29,7 @@ pub record ContentParts : Type 0 where
   pub content : List ℕ
 
 abbrev pub content_of : EncapsulatedContent → ContentParts
-content_of x = record { content_type = x.content_type.0; content = x.content }
+content_of x = record { content_type = x.econtent_type.0; content = x.econtent }
 
 abbrev pub content_fields_of : ContentParts → List ℕ × List ℕ
 content_fields_of x = (x.content_type, x.content)
@@ -83,7 +83,7 @@ pub record ObjectParts : Type 0 where
   pub cert : CertParts
   pub signer : SignerParts
 
-abbrev pub object_of : ObjectData → ObjectParts
+abbrev pub object_of : SignedData → ObjectParts
 object_of x = record { content = content_of x.content; cert = x.cert; signer = signer_of x.signer }
 
 abbrev pub DataFields : Type 0

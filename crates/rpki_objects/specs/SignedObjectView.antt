@@ -12,12 +12,11 @@ use Rattle.rpki_cert.specs.View.{IsCertAt, IsCertWrong, most_extensions}
 use Rattle.rpki_objects.specs.declared.object_part.ObjectPart.{ObjectPart}
 use Rattle.rpki_objects.specs.declared.object_part.ObjectPart.TheVariants as P
 use Rattle.rpki_objects.specs.declared.content_view.ContentView.{ContentView}
-use Rattle.rpki_objects.specs.declared.signed_attrs_view.SignedAttrsView.{SignedAttrsView}
+use Rattle.rpki_attributes.specs.SignedAttributesView.{AreAttributesAt}
 use Rattle.rpki_objects.specs.declared.signer_view.SignerView.{SignerView}
 use Rattle.rpki_objects.specs.declared.signed_object_view.SignedObjectView.{SignedObjectView}
 use Rattle.rpki_objects.specs.declared.signed_object_view.SignerCertView.{SignerCertView}
-use Rattle.rpki_objects.specs.SignedAttributes.{Attribute, AttributeValues, AttributesParts, AreSigned, each_attribute}
-use Rattle.rpki_objects.specs.SignedAttributes.{message_of, signed_attributes, values_known}
+use Rattle.rpki_attributes.specs.SignedAttributes.{signed_attributes}
 use Rattle.rpki_objects.specs.SignedObject.{zero_tag, kept_octets, ContentParts, content_fields_of, encapsulated}
 use Rattle.rpki_objects.specs.SignedObject.{SignerParts, signer_fields_of, signer_identifier, signer_fields}
 use Rattle.rpki_objects.specs.SignedObject.{signer_infos}
@@ -82,27 +81,6 @@ TakesCertificate s r (Ok v) =
     (c : List ℕ) × (x : CertParts) × Accepts (SpellsContents zero_tag true) s c r × IsCertAt c v.parts x
     × IsSection v.octets c r
 TakesCertificate s r (Err q) = IsFirstCertWrong NoneFollows s q
-
--- ---- the signed attributes
-
--- these octets are attributes, which say this together
-pub record AreTogether (strict : Bool) (v : AttributeValues) (c : List ℕ) : Type 0 where
-  pub attributes : List Attribute
-  pub each : each_attribute.spells attributes c
-  pub say : AreSigned strict attributes v
-
--- the attributes, whose octets are p, are in front of these octets; what is signed is made of their section
-pub record AreAttributesAt (x : AttributesParts) (p behind : List ℕ) (v : SignedAttrsView) : Type 0 where
-  pub section : IsSection v.octets p behind
-  pub message : x.message ≡ message_of v.octets.octets.now
-  pub values : values_known v.values ≡ x.values
-
--- a reader of the attributes found s and left r: Some is their section and what they say; None says that there are none
-abbrev pub TakesAttributes : Bool → List ℕ → List ℕ → Option SignedAttrsView → Type 0
-TakesAttributes strict s r (Some v) =
-    (x : AttributesParts) × (a : Accepts (signed_attributes strict).spells s x r)
-    × AreAttributesAt x a.spells.front r v
-TakesAttributes strict s r None = Refuses (signed_attributes strict).spells s
 
 -- ---- the signer
 

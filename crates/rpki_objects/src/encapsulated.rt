@@ -17,9 +17,9 @@ use rpki::der::{Class, Constructed, DecodeError, Keep, Oid, Tag};
 #[derive(Drop)]
 pub struct EncapsulatedContent {
     /// The type.
-    pub content_type: Oid<Bytes>,
+    pub econtent_type: Oid<Bytes>,
     /// The octets of the content.
-    pub content: Bytes,
+    pub econtent: Bytes,
 }
 
 /// The octets of an OCTET STRING.
@@ -71,8 +71,8 @@ impl EncapsulatedContent {
                 let content_type = contents.take_oid_bytes(keep)?;
                 let content = take_content(keep, contents)?;
                 Ok(EncapsulatedContent {
-                    content_type,
-                    content,
+                    econtent_type: content_type,
+                    econtent: content,
                 })
             },
         )

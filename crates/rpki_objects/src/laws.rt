@@ -2,8 +2,6 @@
 
 ghost use Rattle.std.specs.Prelude.{◌≡◌, ◌↔◌, IsTrue};
 ghost use Rattle.rpki_objects.specs.declared.object_part.ObjectPart.{ObjectPart as WrongObject};
-ghost use Rattle.rpki_objects.specs.SignedAttributes.{AttributeValues};
-ghost use Rattle.rpki_objects.specs.EncodedAttributes.{CanWriteAttributes, AreReadBack};
 ghost use Rattle.rpki_objects.specs.EncodedObject.{BuiltObject, CanWriteObject, IsObjectReadBack, IsDecodedBack};
 
 use crate::object_part::ObjectPart;
@@ -11,11 +9,6 @@ use crate::signed_object::SignedObject;
 use bytes::Bytes;
 use rpki::der::DecodeError;
 use std::alloc::Global;
-
-/// Signed attributes that are written are read as what they say, with the message that was signed.
-pub fn written_attributes_are_read()
-    ensures { (x : AttributeValues) → CanWriteAttributes x → AreReadBack x }
-{}
 
 /// A signed object that is written is read as its parts.
 pub fn written_objects_are_read()

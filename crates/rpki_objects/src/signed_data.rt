@@ -22,7 +22,7 @@ use rpki_cert::Cert;
 
 /// The content, the certificate of the signer, and the signer.
 #[derive(Drop)]
-pub(crate) struct ObjectData {
+pub(crate) struct SignedData {
     pub content: EncapsulatedContent,
     pub cert: Cert,
     pub signer: SignerInfo,
@@ -61,14 +61,14 @@ fn take_signers<K: Keep>(
     )
 }
 
-impl ObjectData {
+impl SignedData {
     /// A SEQUENCE of the version 3, a SET of SHA-256 alone, the content, the certificate and the signer, and nothing
     /// else.
     pub(crate) fn take_from<K: Keep>(
         keep: K,
         strict: bool,
         cons: &mut Constructed<'_>,
-    ) -> Result<ObjectData, DecodeError>
+    ) -> Result<SignedData, DecodeError>
         requires { K.holds keep (left cons.old) }
         ensures { Takes (λ x. data_fields_of (object_of x)) (signed_data strict) (left cons.old) (left cons.new)
             result }
@@ -85,7 +85,7 @@ impl ObjectData {
                 let content = EncapsulatedContent::take_from(keep, contents)?;
                 let cert = take_certificates(keep, contents)?;
                 let signer = take_signers(keep, strict, contents)?;
-                Ok(ObjectData {
+                Ok(SignedData {
                     content,
                     cert,
                     signer,

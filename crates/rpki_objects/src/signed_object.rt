@@ -12,14 +12,14 @@ ghost use Rattle.rpki_objects.specs.SignedObject.{object_of, data_fields_of, obj
 ghost use Rattle.rpki_objects.specs.SignedObject.{signed_object};
 ghost use Rattle.rpki_objects.specs.SignedObject.{explicit_data};
 
-use crate::signed_data::ObjectData;
+use crate::signed_data::SignedData;
 use bytes::Bytes;
 use rpki::crypto::{KeyIdentifier, RpkiSignature};
 use rpki::der::{Class, ConstOid, Constructed, DecodeError, Keep, Oid, Shared, Tag};
 use rpki::oid;
 use rpki::repository::x509::Time;
 use rpki_cert::Cert;
-use rpki_contents::MessageDigest;
+use rpki_x509::MessageDigest;
 use std::alloc::Global;
 use std::marker::Model;
 
@@ -27,7 +27,7 @@ use std::marker::Model;
 /// signature. Nothing of it is verified.
 #[derive(Drop)]
 pub struct SignedObject {
-    data: ObjectData,
+    data: SignedData,
 }
 
 impl Model for SignedObject {
@@ -43,7 +43,7 @@ fn take_data<K: Keep>(
     keep: K,
     strict: bool,
     cons: &mut Constructed<'_>,
-) -> Result<ObjectData, DecodeError>
+) -> Result<SignedData, DecodeError>
     requires { K.holds keep (left cons.old) }
     ensures { Takes (λ x. data_fields_of (object_of x)) (explicit_data strict) (left cons.old) (left cons.new) result }
 {
@@ -52,7 +52,7 @@ fn take_data<K: Keep>(
         keep,
         |contents, keep|
             requires { K.holds keep (left contents.old) }
-        { ObjectData::take_from(keep, strict, contents) },
+        { SignedData::take_from(keep, strict, contents) },
     )
 }
 
@@ -106,7 +106,7 @@ impl SignedObject {
     pub fn content_type(&self) -> &Oid<Bytes>
         ensures { result.now.0 ≡ self.now.content.content_type }
     {
-        &self.data.content.content_type
+        &self.data.content.econtent_type
     }
 
     /// Whether the content has this type.
@@ -120,7 +120,7 @@ impl SignedObject {
     pub fn content(&self) -> &Bytes
         ensures { result.now ≡ self.now.content.content }
     {
-        &self.data.content.content
+        &self.data.content.econtent
     }
 
     /// The certificate of the signer.

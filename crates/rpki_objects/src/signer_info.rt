@@ -15,11 +15,11 @@ ghost use Rattle.rpki_objects.specs.SignedObject.{signer_identifier, signer_of, 
 ghost use Rattle.rpki_objects.specs.SignedObject.{signer_info};
 
 use crate::encapsulated::take_kept_octets;
-use crate::signed_attrs::SignedAttrs;
 use rpki::crypto::{
     DigestAlgorithm, KeyIdentifier, RpkiSignature, RpkiSignatureAlgorithm, Signature,
 };
 use rpki::der::{Class, Constructed, DecodeError, Keep, Tag};
+use rpki_attributes::SignedAttrs;
 
 /// A signer: the identifier of its key, the signed attributes, and the signature.
 #[derive(Drop)]

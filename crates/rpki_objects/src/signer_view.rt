@@ -6,10 +6,10 @@ ghost use Rattle.rpki_objects.specs.SignedObjectView.{IsSignerIn, AreSignersAt, 
 
 use crate::content_view::read_octets;
 use crate::object_part::ObjectPart;
-use crate::signed_attrs_view::SignedAttrsView;
 use crate::signer_info::take_identifier;
 use rpki::crypto::{DigestAlgorithm, KeyIdentifier, RpkiSignatureAlgorithm};
 use rpki::der::{Constructed, Section, Tag};
+use rpki_attributes::SignedAttrsView;
 use rpki_x509::inside;
 
 /// A signer.

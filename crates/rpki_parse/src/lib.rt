@@ -1,5 +1,5 @@
-//! Readers of DER in place, whose contract is an equation: what a reader returns and leaves is a function of the octets
-//! in front of it.
+//! Readers of DER in place, whose contract is an equation: what a reader returns and leaves is a function of the
+//! remaining octets.
 //!
 //! A reader takes a [Constructed](rpki_der::Constructed), and moves it past what it reads; an error leaves it where it
 //! was. Readers that are made of these are proved by search, since their function is made of the same parts.

@@ -22,8 +22,8 @@ use Rattle.rpki_resources.specs.IpRead.{IsPrefixText}
 use Rattle.rpki_payloads.specs.declared.exceptions_text.ExceptionsError.{ExceptionsError}
 use Rattle.rpki_payloads.specs.declared.exceptions_text.ExceptionsError.TheVariants as E
 use Rattle.rpki_payloads.specs.declared.exceptions_text.Member.{Member}
-use Rattle.rpki_payloads.specs.declared.listed.ListError.{ListError}
-use Rattle.rpki_payloads.specs.declared.listed.ListError.TheVariants as L
+use Rattle.rpki_payloads.specs.declared.payload_list.ListError.{ListError}
+use Rattle.rpki_payloads.specs.declared.payload_list.ListError.TheVariants as L
 use Rattle.rpki_payloads.specs.declared.vrp.Vrp.{Vrp}
 use Rattle.rpki_payloads.specs.Exceptions.{AreEach, Finds, IsFirstOther}
 use Rattle.rpki_payloads.specs.ExceptionsText.{IsArrayFault, IsElementFault, member_name}

@@ -14,8 +14,8 @@ use Rattle.csv.specs.declared.error.ErrorKind.TheVariants as kind
 use Rattle.csv.specs.declared.parser.State.{State}
 use Rattle.csv.specs.declared.parser.State.TheVariants.{StartRecord}
 use Rattle.csv.specs.declared.reader.Reader.{Reader}
-use Rattle.rpki_payloads.specs.declared.listed.ListError.{ListError}
-use Rattle.rpki_payloads.specs.declared.listed.ListError.TheVariants as E
+use Rattle.rpki_payloads.specs.declared.payload_list.ListError.{ListError}
+use Rattle.rpki_payloads.specs.declared.payload_list.ListError.TheVariants as E
 use Rattle.rpki_payloads.specs.declared.vrp.Vrp.{Vrp}
 use Rattle.rpki_payloads.specs.Exceptions.{AreEach}
 use Rattle.rpki_payloads.specs.Listed.{AddsRow, AreRows, IsCsvFault, IsReadFault, IsRow, IsRowFault}

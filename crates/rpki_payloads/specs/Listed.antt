@@ -22,8 +22,8 @@ use Rattle.rpki_resources.specs.declared.as_text.Asn.{Asn}
 use Rattle.rpki_resources.specs.declared.ip_text.Prefix.{Prefix}
 use Rattle.rpki_resources.specs.AsRead.{IsAsnText}
 use Rattle.rpki_resources.specs.IpRead.{IsPrefixText}
-use Rattle.rpki_payloads.specs.declared.listed.ListError.{ListError}
-use Rattle.rpki_payloads.specs.declared.listed.ListError.TheVariants as E
+use Rattle.rpki_payloads.specs.declared.payload_list.ListError.{ListError}
+use Rattle.rpki_payloads.specs.declared.payload_list.ListError.TheVariants as E
 use Rattle.rpki_payloads.specs.declared.vrp.Vrp.{Vrp}
 use Rattle.rpki_payloads.specs.ExceptionsText.{AreListed, IsMember, IsNumberIn, IsPrefixIn, IsVrpWith}
 use Rattle.rpki_payloads.specs.Exceptions.{AreEach, IsFirstOther}

@@ -129,7 +129,7 @@ fn after_comma(text: &[u8]) -> &[u8]
     }
 }
 
-/// Adds a member, whose name is in quotation marks after what comes in front of it: an array of objects, each of which
+/// Adds a member, whose name is in quotation marks after what comes before it: an array of objects, each of which
 /// is after a comma here.
 fn push_array(text: &mut Vec<u8>, name: &[u8], objects: &[u8]) -> Result<(), AllocError>
     ensures { OnOk result (text.new.items ≡ text.old.items ++ json_array name.now objects.now) }

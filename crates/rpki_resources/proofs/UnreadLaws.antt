@@ -28,10 +28,10 @@ use Rattle.rpki_resources.specs.declared.choice_view.ChoiceView.TheVariants.{Mis
 use Rattle.rpki_resources.specs.declared.ip_view.IpResourcesView.{IpResourcesView}
 use Rattle.rpki_resources.specs.declared.resources.IpResources.{IpResources}
 use Rattle.rpki_resources.specs.declared.resources.AsResources.{AsResources}
-use Rattle.rpki_resources.specs.declared.unread.Unread.{Unread}
-use Rattle.rpki_resources.specs.declared.unread.Unread.TheVariants.{Missing as NothingFound, Inherit as InheritFound}
-use Rattle.rpki_resources.specs.declared.unread.Unread.TheVariants.{Listed}
-use Rattle.rpki_resources.specs.declared.unread.UnreadIp.{UnreadIp}
+use Rattle.rpki_resources.specs.declared.frames.Unread.{Unread}
+use Rattle.rpki_resources.specs.declared.frames.Unread.TheVariants.{Missing as NothingFound, Inherit as InheritFound}
+use Rattle.rpki_resources.specs.declared.frames.Unread.TheVariants.{Listed}
+use Rattle.rpki_resources.specs.declared.frames.UnreadIp.{UnreadIp}
 use Rattle.rpki_der.specs.Format.{SpellsFor}
 use Rattle.rpki_resources.specs.Listed.{AreBlocks}
 use Rattle.rpki_resources.specs.InPlace.{Octets, octets_of, Holds, IsListed}

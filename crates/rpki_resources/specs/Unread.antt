@@ -11,10 +11,10 @@ use Rattle.rpki_resources.specs.declared.choice.ResourcesChoice.{ResourcesChoice
 use Rattle.rpki_resources.specs.declared.choice.ResourcesChoice.TheVariants.{Missing, Inherit, Blocks}
 use Rattle.rpki_resources.specs.declared.choice_view.ChoiceView.{ChoiceView}
 use Rattle.rpki_resources.specs.declared.resources.IpResources.{IpResources}
-use Rattle.rpki_resources.specs.declared.unread.Unread.{Unread}
-use Rattle.rpki_resources.specs.declared.unread.Unread.TheVariants.{Missing as NothingFound, Inherit as InheritFound}
-use Rattle.rpki_resources.specs.declared.unread.Unread.TheVariants.{Listed}
-use Rattle.rpki_resources.specs.declared.unread.UnreadIp.{UnreadIp}
+use Rattle.rpki_resources.specs.declared.frames.Unread.{Unread}
+use Rattle.rpki_resources.specs.declared.frames.Unread.TheVariants.{Missing as NothingFound, Inherit as InheritFound}
+use Rattle.rpki_resources.specs.declared.frames.Unread.TheVariants.{Listed}
+use Rattle.rpki_resources.specs.declared.frames.UnreadIp.{UnreadIp}
 use Rattle.rpki_resources.specs.Listed.{AreBlocks}
 use Rattle.rpki_resources.specs.Extension.{SpellsChoice, family_parts, SpellsNamed, AreFamilies}
 use Rattle.rpki_resources.specs.Kept.{IsChoiceOf, AreIpResourcesOf}

@@ -10,10 +10,10 @@ ghost use Rattle.rpki_resources.specs.Compared.{BothFollow, NotBothFollow, ArePa
 ghost use Rattle.rpki_resources.specs.Compared.{HasNoIpAnswer, AreAsWithin, HasNoAsAnswer};
 
 use crate::block::Block;
+use crate::block_list::take_next;
 use crate::family::AddressFamily;
+use crate::frames::{Unread, find_as, find_ip};
 use crate::kind::ResourceKind;
-use crate::listed::take_next;
-use crate::unread::{Unread, find_as, find_ip};
 use rpki_der::Constructed;
 
 /// Whether all of the octets are blocks that may be after this number, or there are none.

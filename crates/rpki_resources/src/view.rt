@@ -6,8 +6,8 @@ ghost use Rattle.rpki_resources.specs.declared.block.Block.{Block};
 ghost use Rattle.rpki_resources.specs.InPlace.{Counts, Holds, blocks, IsLeft, Gives};
 
 use crate::block::Block;
+use crate::block_list::take_next;
 use crate::kind::ResourceKind;
-use crate::listed::take_next;
 use rpki_der::{Constructed, DecodeError};
 use std::marker::Model;
 

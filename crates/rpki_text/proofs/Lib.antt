@@ -6,7 +6,7 @@
 -- `join`, `parent`, `relative_to`: JoinLaws, JoinedLaws, ParentLaws, ParentEndLaws, BelowLaws.
 -- That `join` is undone: BackLaws, RelativeLaws, MeaningLaws.
 -- Equality and laws; https: EqualLaws, EqBytesLaws, ModuleLaws, LawLaws, HttpsPartLaws, HttpsLaws, HttpsParentEndLaws.
--- Digits: HexLaws, Base64Laws.
+-- Digits: HexLaws, Base64Laws, WhiteSpaceLaws.
 
 pub mod SegmentLaws
 pub mod OrdinaryLaws
@@ -28,6 +28,7 @@ pub mod EqBytesLaws
 pub mod HttpsPartLaws
 pub mod HexLaws
 pub mod Base64Laws
+pub mod WhiteSpaceLaws
 pub mod HttpsLaws
 pub mod HttpsParentEndLaws
 pub mod CaseLaws

@@ -1,5 +1,5 @@
 -- Octets as base 64 text (RFC 4648 sections 4 and 5), in the flavours of the engines of `base64`.
-use Rattle.std.specs.Prelude.{◌≡◌, ℕ, not, List, Option, Some, None, codes, filter, slice_index, if◌then◌else◌}
+use Rattle.std.specs.Prelude.{◌≡◌, ℕ, Bool, not, List, Option, Some, None, codes, filter, slice_index, if◌then◌else◌}
 use Rattle.std.specs.declared.result.Result.{Result}
 use Rattle.std.specs.declared.result.Result.TheVariants.{Err}
 use Rattle.std.specs.Char.{is_ascii_whitespace}
@@ -16,9 +16,13 @@ use Rattle.rpki_text.specs.declared.util.base_64.Base64Error.TheVariants.{Refuse
 use Rattle.rpki_text.specs.declared.util.base_64.SlurmDisplay.{SlurmDisplay}
 use Rattle.rpki_text.specs.declared.util.base_64.XmlDecodeError.{XmlDecodeError}
 
--- the text without space, tab, line feed, form feed and carriage return
+-- no space, tab, line feed, form feed or carriage return
+abbrev pub is_no_white_space : ℕ → Bool
+is_no_white_space b = not (is_ascii_whitespace b)
+
+-- the text without these
 abbrev pub without_white_space : List ℕ → List ℕ
-without_white_space text = filter (λ b. not (is_ascii_whitespace b)) text
+without_white_space text = filter is_no_white_space text
 
 -- what a text stands for: offsets of errors count in the text without white space
 abbrev pub xml_decode_of : List ℕ → Result (List ℕ) DecodeError

@@ -15,9 +15,9 @@ use Rattle.rpki_resources.specs.declared.resources.AsResources.{AsResources}
 use Rattle.rpki_resources.specs.declared.choice_view.ChoiceView.{ChoiceView}
 use Rattle.rpki_resources.specs.declared.ip_view.IpResourcesView.{IpResourcesView}
 use Rattle.rpki_resources.specs.Blocks.{IsSubset}
-use Rattle.rpki_resources.specs.declared.settled.SettleError.{SettleError}
-use Rattle.rpki_resources.specs.declared.settled.SettleError.TheVariants.{Overclaim as Overclaims, Inherits}
-use Rattle.rpki_resources.specs.declared.settled.SettleError.TheVariants.{OutOfMemory}
+use Rattle.rpki_resources.specs.declared.settlement.SettleError.{SettleError}
+use Rattle.rpki_resources.specs.declared.settlement.SettleError.TheVariants.{Overclaim as Overclaims, Inherits}
+use Rattle.rpki_resources.specs.declared.settlement.SettleError.TheVariants.{OutOfMemory}
 use Rattle.rpki_resources.specs.Settled.{IsWithin, IsSettled, IsAnchored}
 use Rattle.std.specs.Prelude.{◌↔◌, Result, Ok, Err, IfErr}
 use Rattle.std.proofs.lemmas.Bool.{false≢true}

@@ -17,9 +17,9 @@ use crate::object_resources::{verify_no_addresses, verify_numbers, verify_own_nu
 use crate::resource::claim::settle_anchor;
 use crate::resource::set::ResourceSet;
 use crate::verify::unverified;
-use rpki::crypto::Provider;
 use rpki::repository::error::ValidationError;
 use rpki_objects::Aspa;
+use rpki_rsa::PreparingProvider;
 use std::alloc::Global;
 
 /// The rule that the customer is one of the numbers (draft-ietf-sidrops-aspa-profile 4).
@@ -64,7 +64,7 @@ pub fn verify_own_aspa(aspa: &Aspa, alloc: Global) -> Result<(), ValidationError
     verify_within(aspa, &held)
 }
 
-impl<'a, 'p, P: Provider> CurrentCrl<'a, 'p, P> {
+impl<'a, 'p, P: PreparingProvider> CurrentCrl<'a, 'p, P> {
     /// Tests that the attestation is valid at the moment of the list: its object is, as [CurrentCrl::verify_object]
     /// says; and its certificate names numbers of autonomous systems, which are not its issuer's, and no addresses, and
     /// has the number of the customer (draft-ietf-sidrops-aspa-profile 4). Returns the resources that the path gives

@@ -15,14 +15,15 @@ ghost use Rattle.rpki_valid.specs.ErrorTexts.{list_issuer_text, list_authority_t
 ghost use Rattle.rpki_valid.specs.ErrorTexts.{stale_list_text};
 
 use crate::resource::set::ResourceSet;
+use crate::resource_cert::ResourceCert;
 use crate::staleness::Staleness;
-use crate::verified::ResourceCert;
 use crate::verify::{unverified, verify_period, verify_signature};
-use rpki::crypto::{KeyIdentifier, Provider};
+use rpki::crypto::KeyIdentifier;
 use rpki::repository::error::ValidationError;
 use rpki::repository::x509::{NameOctets, Time, Validity};
 use rpki_cert::{Cert, Profile};
 use rpki_crl::Crl;
+use rpki_rsa::PreparingProvider;
 use std::alloc::Global;
 use std::marker::Model;
 
@@ -30,14 +31,14 @@ use std::marker::Model;
 /// makes one, so that the list of another authority, one of the future, or one that is stale where that is refused, is
 /// never asked whether a certificate is revoked. What the authority has issued is verified by it.
 #[derive(Drop)]
-pub struct CurrentCrl<'a, 'p, P: Provider> {
+pub struct CurrentCrl<'a, 'p, P: PreparingProvider> {
     issuer: &'a ResourceCert<'p, P>,
     list: &'a Crl,
     staleness: Staleness,
     at: Time,
 }
 
-impl<'a, 'p, P: Provider> Model for CurrentCrl<'a, 'p, P> {
+impl<'a, 'p, P: PreparingProvider> Model for CurrentCrl<'a, 'p, P> {
     ghost use Rattle.rpki_valid.specs.CrlIssued.{InForce, in_force, IsIssuedBy};
     ghost use Rattle.rpki_valid.specs.Verified.{verified_by};
 
@@ -109,7 +110,7 @@ fn least_asked(one: Option<Staleness>, other: Option<Staleness>) -> Option<Stale
     }
 }
 
-impl<'p, P: Provider> ResourceCert<'p, P> {
+impl<'p, P: PreparingProvider> ResourceCert<'p, P> {
     /// Tests what [ResourceCert::crl] does.
     fn verify_list(&self, list: &Crl, staleness: Staleness, at: Time) -> Result<(), ValidationError>
         ensures { ChecksList staleness (verified_by P.rsa_of P.ecdsa_of P.sha1_of self.now) at list.now result }
@@ -118,10 +119,11 @@ impl<'p, P: Provider> ResourceCert<'p, P> {
         let authority = self.cert().tbs();
         let key = authority.subject_public_key_info();
         let signed = list.signed_data();
+        let provider = self.with_key();
         verify_signature(
             signed.data().as_slice(),
             signed.signature(),
-            self.provider(),
+            &provider,
             key,
             "RFC 5280 6.3.3: bad signature",
         )?;
@@ -161,7 +163,7 @@ impl<'p, P: Provider> ResourceCert<'p, P> {
     }
 }
 
-impl<'a, 'p, P: Provider> CurrentCrl<'a, 'p, P> {
+impl<'a, 'p, P: PreparingProvider> CurrentCrl<'a, 'p, P> {
     /// The authority.
     pub fn issuer(&self) -> &'a ResourceCert<'p, P>
         ensures value { result.now ≡ self.now.issuer }

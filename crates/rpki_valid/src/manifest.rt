@@ -23,6 +23,7 @@ use rpki::repository::error::ValidationError;
 use rpki::repository::x509::{Time, Validity, ValidityPeriodError};
 use rpki_contents::{FileAndHash, ManifestContent, MessageDigest};
 use rpki_objects::Manifest;
+use rpki_rsa::PreparingProvider;
 use std::alloc::Global;
 
 /// Whether these are the octets of the file: whether their digest, computed by the provider, is that of the manifest
@@ -86,7 +87,7 @@ fn verify_rules(manifest: &Manifest, at: Time) -> Result<(), ValidationError>
     verify_current(manifest, at)
 }
 
-impl<'a, 'p, P: Provider> CurrentCrl<'a, 'p, P> {
+impl<'a, 'p, P: PreparingProvider> CurrentCrl<'a, 'p, P> {
     /// Tests that the manifest holds at the moment of the list: its object is valid, as [CurrentCrl::verify_object]
     /// says; all resources that its certificate names are its issuer's (RFC 9286 5.1); and the moment is not before
     /// this update nor after the next (RFC 9286 6.3). Returns the resources that the path gives the certificate.

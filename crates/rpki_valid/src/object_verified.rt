@@ -13,7 +13,7 @@ ghost use Rattle.rpki_valid.specs.ErrorTexts.{content_type_text, digest_text, si
 
 use crate::current_crl::CurrentCrl;
 use crate::resource::set::ResourceSet;
-use crate::verified::ResourceCert;
+use crate::resource_cert::ResourceCert;
 use crate::verify::unverified;
 use rpki::crypto::Provider;
 use rpki::repository::error::ValidationError;
@@ -21,6 +21,7 @@ use rpki::repository::x509::Time;
 use rpki_cert::is_identifier;
 use rpki_contents::MessageDigest;
 use rpki_objects::SignedObject;
+use rpki_rsa::PreparingProvider;
 use std::alloc::Global;
 
 /// Whether the content has the type that is signed.
@@ -96,7 +97,7 @@ pub fn verify_object_signature<P: Provider>(
     verify_attributes(object, provider)
 }
 
-impl<'p, P: Provider> ResourceCert<'p, P> {
+impl<'p, P: PreparingProvider> ResourceCert<'p, P> {
     /// As [CurrentCrl::verify_object], at a moment, but without a list of the authority: the certificate of the object
     /// may be revoked.
     ///
@@ -118,7 +119,7 @@ impl<'p, P: Provider> ResourceCert<'p, P> {
     }
 }
 
-impl<'a, 'p, P: Provider> CurrentCrl<'a, 'p, P> {
+impl<'a, 'p, P: PreparingProvider> CurrentCrl<'a, 'p, P> {
     /// Tests that the object is valid at the moment of the list (RFC 6488 3): its signer has signed it, as
     /// [verify_object_signature] says, and the certificate is one of an end entity, which the authority has issued, and
     /// its list doesn't have, and all of whose path is valid. Returns the resources that the path gives the

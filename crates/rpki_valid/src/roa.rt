@@ -14,10 +14,10 @@ use crate::object_resources::{verify_addresses, verify_no_numbers, verify_own_ad
 use crate::resource::claim::settle_anchor;
 use crate::resource::set::ResourceSet;
 use crate::verify::unverified;
-use rpki::crypto::Provider;
 use rpki::der::DecodeError;
 use rpki::repository::error::ValidationError;
 use rpki_objects::Roa;
+use rpki_rsa::PreparingProvider;
 use std::alloc::Global;
 
 /// The rule that each prefix is among the resources (RFC 9582 5).
@@ -62,7 +62,7 @@ pub fn verify_own_roa(roa: &Roa, alloc: Global) -> Result<(), ValidationError>
     verify_within(roa, alloc, &held)
 }
 
-impl<'a, 'p, P: Provider> CurrentCrl<'a, 'p, P> {
+impl<'a, 'p, P: PreparingProvider> CurrentCrl<'a, 'p, P> {
     /// Tests that the attestation is valid at the moment of the list: its object is, as [CurrentCrl::verify_object]
     /// says; and its certificate names addresses, which are not its issuer's, and no numbers of autonomous systems, and
     /// has the addresses of each prefix (RFC 9582 5). Returns the resources that the path gives the certificate.

@@ -8,7 +8,7 @@ use rpki_objects::Strictness;
 pub struct Terms<'p> {
     /// The key of the trust anchor, which a locator names (RFC 8630 2).
     pub key: &'p PublicKey,
-    /// Which rules are asked strictly: of names, by each certificate's profile; of objects, by who reads them.
+    /// Which rules are asked strictly: of names, by each certificate's profile; of objects, by their readers' callers.
     pub strictness: Strictness,
     /// How many authorities there are at most below the trust anchor.
     pub deepest: u32,

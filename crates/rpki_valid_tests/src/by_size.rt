@@ -2,6 +2,7 @@
 
 use rpki::crypto::Provider;
 use rpki_digests::Digests;
+use rpki_rsa::PreparingProvider;
 
 /// Digests as they are; a signature of 256 octets is good, and no other.
 #[derive(Clone, Copy)]
@@ -35,4 +36,10 @@ impl Provider for BySize {
     fn ecdsa_check(&self, _bits: &[u8], _message: &[u8], signature: &[u8]) -> bool {
         signature.len() == 256
     }
+}
+
+impl PreparingProvider for BySize {
+    type PreparedKey = ();
+
+    fn prepare_key(&self, _bits: &[u8]) {}
 }

@@ -132,7 +132,7 @@ module _ {X : Type 0} (rsa ecdsa : X → Check) (sha1 sha256 : X → List ℕ �
     abbrev AddsRouters' : List Holder → List Holder → Type 0
     AddsRouters' = AddsRoutersHere rsa ecdsa sha1 sha256 c octets
 
-    abbrev Takes' : Next X → Next X → Type 0
+    abbrev Takes' : {Y : Type 0} → Next X Y → Next X Y → Type 0
     Takes' = TakesHere rsa ecdsa sha1 sha256 c octets
 
     abbrev Spelled : CertParts → Type 0
@@ -143,7 +143,7 @@ module _ {X : Type 0} (rsa ecdsa : X → Check) (sha1 sha256 : X → List ℕ �
     unread-routers K s xs h =
         stops-none Spelled K (AddsRouters' xs xs) s (λ none. adds-none _ xs (λ x k. none x.cert k.spells)) h
 
-    pub unread-below : (K : Reason → Type 0) (s : Stop) (next : Next X) → StopsAt Spelled K s
+    pub unread-below : {Y : Type 0} (K : Reason → Type 0) (s : Stop) (next : Next X Y) → StopsAt Spelled K s
         → UnlessMemory (Takes' next next) s
     unread-below K s next h =
         stops-none Spelled K (Takes' next next) s
@@ -181,7 +181,8 @@ module _ {X : Type 0} (rsa ecdsa : X → Check) (sha1 sha256 : X → List ℕ �
           → AddsRouters' xs xs
       other-routers not xs = adds-none _ xs (other Router not)
 
-      pub other-below : ((strict : Bool) → HasProfile Ca strict cert.tbs → ⊥) → (next : Next X) → Takes' next next
+      pub other-below : {Y : Type 0} → ((strict : Bool) → HasProfile Ca strict cert.tbs → ⊥) → (next : Next X Y)
+          → Takes' next next
       other-below not next may = taking-none _ _ _ (alike-none (IsCert Ca) (other Ca not))
 
       -- it isn't issued
@@ -191,7 +192,7 @@ module _ {X : Type 0} (rsa ecdsa : X → Check) (sha1 sha256 : X → List ℕ �
           stops-none (Issued Router) K (AddsRouters' xs xs) s
           (λ none. adds-none _ xs (λ x k. none x.resources (issued Router x k))) h
 
-      pub no-below : (s : Stop) (next : Next X) → IsNoAuthorityHere rsa ecdsa sha1 sha256 c cert s
+      pub no-below : {Y : Type 0} (s : Stop) (next : Next X Y) → IsNoAuthorityHere rsa ecdsa sha1 sha256 c cert s
           → UnlessMemory (Takes' next next) s
       no-below s next h =
           stops-none (λ (r : ResourceSet). MayIssue rsa ecdsa sha1 sha256 c × Issued Ca r) _ (Takes' next next) s
@@ -265,7 +266,8 @@ module _ {X : Type 0} (rsa ecdsa : X → Check) (sha1 sha256 : X → List ℕ �
       pub router-said : (x : Holder) → x.cert ≡ cert → IsSole (Issued Router) x.resources → IsCert Router x
       router-said x e h = (held Router x e h).holds
 
-      pub below-found : (a : Authority X) → a.cert ≡ cert → IsSole (Issued Ca) a.resources → (old new : Next X)
+      pub below-found : {Y : Type 0} (a : Authority X) → a.cert ≡ cert → IsSole (Issued Ca) a.resources
+          → (old new : Next X Y)
           → IsTaking (AreAlike (holder_of a)) (IsMet old.met) (IsMet new.met) (IsOf old.level.items)
           (IsOf new.level.items) → Takes' old new
       below-found a e h old new taking may =

@@ -50,7 +50,7 @@ pub record Found (X : Type 0) : Type 0 where
   pub level : List (Authority X)
   pub met : List Mark
 
-abbrev pub found : {X : Type 0} → Next X → Outcome → Found X
+abbrev pub found : {X Y : Type 0} → Next X Y → Outcome → Found X
 found next outcome = record {
   origins = values outcome.origins.items;
   providers = values outcome.providers.items;
@@ -119,7 +119,7 @@ module _ {X : Type 0} (rsa ecdsa : X → Check) (sha1 sha256 : X → List ℕ �
   abbrev pub AddsRoutersHere : List ℕ → List Holder → List Holder → Type 0
   AddsRoutersHere octets = Adds (λ x. IsCertHere Router x octets)
 
-  abbrev pub TakesHere : List ℕ → Next X → Next X → Type 0
+  abbrev pub TakesHere : {Y : Type 0} → List ℕ → Next X Y → Next X Y → Type 0
   TakesHere octets old new =
       MayIssue → Takes (λ x. IsCertHere Ca x octets) old.met new.met old.level.items new.level.items
 
@@ -172,7 +172,7 @@ module _ {X : Type 0} (rsa ecdsa : X → Check) (sha1 sha256 : X → List ℕ �
       Where known (λ published. IfOk r (λ _. Adds
       (SaysRouter published (basis_of rsa ecdsa sha1 sha256 issuer at) (holder_of issuer)) (values old) (values new)))
 
-  abbrev pub TakesBelow : {E : Type 0} → Next X → Next X → Result (Unit {0}) E → Type 0
+  abbrev pub TakesBelow : {E Y : Type 0} → Next X Y → Next X Y → Result (Unit {0}) E → Type 0
   TakesBelow old new r =
       Where known (λ published. IfOk r (λ _. issuer.depth < issuer.terms.deepest
       → Takes (IsBelow published (basis_of rsa ecdsa sha1 sha256 issuer at) (holder_of issuer)) old.met new.met

@@ -112,7 +112,7 @@ module _ {X : Type 0} (rsa ecdsa : X → Check) (sha1 sha256 : X → List ℕ �
       new))
 
   -- what is below them is taken, where more steps are permitted
-  abbrev pub TakesLevel : List (Authority X) → Next X → Next X → Type 0
+  abbrev pub TakesLevel : {Y : Type 0} → List (Authority X) → Next X Y → Next X Y → Type 0
   TakesLevel level old new = OfSisters at level (λ terms provider k.
       Where known (λ published. k < terms.deepest
       → IsTaking (Among (IsOf level) (IsAlikeBelow published (basis_by rsa ecdsa sha1 sha256 terms provider at)))
@@ -160,6 +160,6 @@ AddsSisters at level old new =
     → AreSisters terms provider at (k + 1) new)
 
 -- the authority is taken for the next level
-abbrev pub TakesOne : {X : Type 0} → Authority X → Next X → Next X → Type 0
+abbrev pub TakesOne : {X Y : Type 0} → Authority X → Next X Y → Next X Y → Type 0
 TakesOne a old new =
     IsTaking (AreAlike (holder_of a)) (IsMet old.met) (IsMet new.met) (IsOf old.level.items) (IsOf new.level.items)

@@ -9,15 +9,15 @@ use crate::reason::Reason;
 use crate::snapshot::Snapshot;
 use crate::stop::Stop;
 use bytes::Bytes;
-use rpki::crypto::Provider;
 use rpki::repository::x509::Time;
 use rpki_cert::Cert;
 use rpki_locator::AnchorUri;
+use rpki_rsa::PreparingProvider;
 use rpki_valid::{ResourceCert, Terms};
 use std::alloc::Global;
 
 /// The trust anchor that the octets are.
-fn anchor_in<'p, P: Provider>(
+fn anchor_in<'p, P: PreparingProvider>(
     alloc: Global,
     provider: &'p P,
     terms: Terms<'p>,
@@ -38,7 +38,7 @@ fn anchor_in<'p, P: Provider>(
 }
 
 /// The trust anchor that was fetched from the URI.
-fn anchor_at<'p, S: Snapshot, P: Provider>(
+fn anchor_at<'p, S: Snapshot, P: PreparingProvider>(
     alloc: Global,
     snapshot: &S,
     provider: &'p P,
@@ -65,7 +65,7 @@ fn anchor_at<'p, S: Snapshot, P: Provider>(
 /// is its own.
 ///
 /// The error is that of the last URI, or `MissingAnchor` where there is none; or `OutOfMemory` if allocation fails.
-pub fn anchor_of<'p, S: Snapshot, P: Provider>(
+pub fn anchor_of<'p, S: Snapshot, P: PreparingProvider>(
     alloc: Global,
     snapshot: &S,
     provider: &'p P,

@@ -17,9 +17,9 @@ ghost use Rattle.rpki_validation.specs.Steps.{IsAuthorityHere, IsNoAuthorityHere
 use crate::router::RouterCert;
 use crate::stop::Stop;
 use bytes::Bytes;
-use rpki::crypto::Provider;
 use rpki_cert::Cert;
 use rpki_objects::{Aspa, Roa};
+use rpki_rsa::PreparingProvider;
 use rpki_valid::{CurrentCrl, ResourceCert};
 use std::alloc::Global;
 
@@ -27,7 +27,7 @@ use std::alloc::Global;
 ///
 /// The errors are `Malformed` of those of [Roa::decode](rpki_objects::Roa::decode); `Invalid` of those of
 /// [CurrentCrl::process_roa](rpki_valid::CurrentCrl::process_roa); or `OutOfMemory` if allocation fails.
-pub fn origins_in<'a, 'p, P: Provider>(
+pub fn origins_in<'a, 'p, P: PreparingProvider>(
     alloc: Global,
     list: &CurrentCrl<'a, 'p, P>,
     octets: Bytes,
@@ -43,7 +43,7 @@ pub fn origins_in<'a, 'p, P: Provider>(
 ///
 /// The errors are `Malformed` of those of [Aspa::decode](rpki_objects::Aspa::decode); `Invalid` of those of
 /// [CurrentCrl::process_aspa](rpki_valid::CurrentCrl::process_aspa); or `OutOfMemory` if allocation fails.
-pub fn providers_in<'a, 'p, P: Provider>(
+pub fn providers_in<'a, 'p, P: PreparingProvider>(
     alloc: Global,
     list: &CurrentCrl<'a, 'p, P>,
     octets: Bytes,
@@ -85,7 +85,7 @@ pub fn is_authority(cert: &Cert) -> Result<bool, Stop>
 ///
 /// The errors are `Invalid` of those of [CurrentCrl::verify_ca](rpki_valid::CurrentCrl::verify_ca), of a path that is
 /// too long first; or `OutOfMemory` if allocation fails.
-pub fn authority_of<'a, 'p, P: Provider>(
+pub fn authority_of<'a, 'p, P: PreparingProvider>(
     alloc: Global,
     list: &CurrentCrl<'a, 'p, P>,
     cert: Cert,
@@ -109,7 +109,7 @@ pub fn authority_of<'a, 'p, P: Provider>(
 ///
 /// The errors are `Invalid` of those of [CurrentCrl::verify_router](rpki_valid::CurrentCrl::verify_router); or
 /// `OutOfMemory` if allocation fails.
-pub fn router_of<'a, 'p, P: Provider>(
+pub fn router_of<'a, 'p, P: PreparingProvider>(
     alloc: Global,
     list: &CurrentCrl<'a, 'p, P>,
     cert: Cert,

@@ -9,9 +9,10 @@ ghost use Rattle.rpki_validation.specs.Met.{HasMark, InsertsMarkOf, IsPlaceOf};
 use crate::publication::{manifest_place, repository_of};
 use crate::stop::Stop;
 use bytes::Bytes;
-use rpki::crypto::{Provider, PublicKeyFormat};
+use rpki::crypto::PublicKeyFormat;
 use rpki::uri::Rsync;
 use rpki_resources::Blocks;
+use rpki_rsa::PreparingProvider;
 use rpki_valid::{ResourceCert, ResourceSet};
 use std::alloc::{AllocError, Global};
 use std::collections::BTreeSet;
@@ -85,7 +86,7 @@ fn place_of(found: Result<Rsync, Stop>) -> Result<Option<Bytes>, AllocError>
 }
 
 /// The mark of the authority.
-fn mark_of<'p, P: Provider>(
+fn mark_of<'p, P: PreparingProvider>(
     alloc: Global,
     authority: &ResourceCert<'p, P>,
 ) -> Result<Mark, AllocError>
@@ -119,7 +120,7 @@ impl Met {
     /// Adds the mark of the authority; returns whether it was not among them.
     ///
     /// Returns `AllocError` if allocation fails.
-    pub(crate) fn insert<'p, P: Provider>(
+    pub(crate) fn insert<'p, P: PreparingProvider>(
         &mut self,
         alloc: Global,
         authority: &ResourceCert<'p, P>,

@@ -6,20 +6,20 @@ ghost use Rattle.rpki_valid.specs.Verified.{Authority, IsVerified, verified_by};
 ghost use Rattle.rpki_validation.specs.Validated.{TakesOne};
 
 use crate::met::Met;
-use rpki::crypto::Provider;
+use rpki_rsa::PreparingProvider;
 use rpki_valid::ResourceCert;
 use std::alloc::{AllocError, Global};
 
 /// The authorities of the next level, and all that were met.
 #[derive(Drop)]
-pub(crate) struct Next<'p, P: Provider> {
+pub(crate) struct Next<'p, P: PreparingProvider> {
     /// Those of the next level.
     pub(crate) level: Vec<ResourceCert<'p, P>>,
     /// All that were met.
     pub(crate) met: Met,
 }
 
-impl<'p, P: Provider> Next<'p, P> {
+impl<'p, P: PreparingProvider> Next<'p, P> {
     /// Adds the authority, if none was met that is alike: that has its name and key, its resources, and its places.
     ///
     /// Returns `AllocError` if allocation fails.

@@ -15,6 +15,7 @@ use rpki::crypto::Provider;
 use rpki::repository::x509::Time;
 use rpki::uri::Rsync;
 use rpki_contents::FileAndHash;
+use rpki_rsa::PreparingProvider;
 use rpki_valid::{CurrentCrl, ResourceCert, Staleness};
 use std::alloc::Global;
 
@@ -25,7 +26,7 @@ use std::alloc::Global;
 ///
 /// The errors are `Invalid` of those of [ResourceCert::crl](rpki_valid::ResourceCert::crl); then of those of
 /// [CurrentCrl::process_manifest](rpki_valid::CurrentCrl::process_manifest); or `OutOfMemory` if allocation fails.
-pub fn verify_publication<'a, 'p, P: Provider>(
+pub fn verify_publication<'a, 'p, P: PreparingProvider>(
     alloc: Global,
     issuer: &'a ResourceCert<'p, P>,
     publication: &'a Publication,

@@ -18,6 +18,7 @@ use rpki_cert::TbsCert;
 use rpki_contents::FileAndHash;
 use rpki_crl::Crl;
 use rpki_objects::Manifest;
+use rpki_rsa::PreparingProvider;
 use rpki_valid::{ResourceCert, verify_file};
 use std::alloc::Global;
 use std::marker::Model;
@@ -161,7 +162,7 @@ impl Publication {
     ///
     /// The errors are `NoRepository`; `NoManifest`; `Missing`, or `Malformed` of the manifest; `NoList`; `LongUri`,
     /// `MissingFile` or `OtherFile` of the revocation list, or `Malformed` of it; or `OutOfMemory` if allocation fails.
-    pub fn of<'p, S: Snapshot, P: Provider>(
+    pub fn of<'p, S: Snapshot, P: PreparingProvider>(
         alloc: Global,
         snapshot: &S,
         issuer: &ResourceCert<'p, P>,

@@ -29,17 +29,17 @@ use crate::router::RouterCert;
 use crate::snapshot::Snapshot;
 use crate::stop::Stop;
 use bytes::Bytes;
-use rpki::crypto::Provider;
 use rpki::repository::x509::{Time, Validity};
 use rpki::uri::Rsync;
 use rpki_cert::{Cert, TbsCert};
 use rpki_contents::{FileAndHash, RouteOrigin, RouteOrigins};
 use rpki_objects::Aspa;
+use rpki_rsa::PreparingProvider;
 use rpki_valid::{CurrentCrl, ResourceCert};
 use std::alloc::{AllocError, Global};
 
 /// The period in which the path of the list's authority holds, the list counts, and the certificate is valid.
-fn period_of<'a, 'p, P: Provider>(list: &CurrentCrl<'a, 'p, P>, cert: &Cert) -> Validity
+fn period_of<'a, 'p, P: PreparingProvider>(list: &CurrentCrl<'a, 'p, P>, cert: &Cert) -> Validity
     ensures { IsPeriodUnder (CountsAt list.now) cert.now result }
 {
     list.period().trim(cert.tbs().validity())
@@ -61,7 +61,7 @@ fn push_origins(
 }
 
 /// Adds the route origins of the attestation that the octets are, if it is valid.
-fn add_origins<'a, 'p, P: Provider>(
+fn add_origins<'a, 'p, P: PreparingProvider>(
     alloc: Global,
     list: &CurrentCrl<'a, 'p, P>,
     octets: Bytes,
@@ -80,7 +80,7 @@ fn add_origins<'a, 'p, P: Provider>(
 }
 
 /// Adds the attestation of providers that the octets are, if it is valid.
-fn add_providers<'a, 'p, P: Provider>(
+fn add_providers<'a, 'p, P: PreparingProvider>(
     alloc: Global,
     list: &CurrentCrl<'a, 'p, P>,
     octets: Bytes,
@@ -100,7 +100,7 @@ fn add_providers<'a, 'p, P: Provider>(
 
 /// Adds the certificate that the octets are, if it is valid: that of an authority to the next level, that of a router
 /// to the routers.
-fn add_cert<'a, 'p, P: Provider>(
+fn add_cert<'a, 'p, P: PreparingProvider>(
     alloc: Global,
     list: &CurrentCrl<'a, 'p, P>,
     octets: Bytes,
@@ -132,7 +132,7 @@ fn add_cert<'a, 'p, P: Provider>(
 }
 
 /// Adds what the file says, if it is valid. A file whose name ends otherwise is of no kind that counts here.
-fn add_file<'a, 'p, P: Provider>(
+fn add_file<'a, 'p, P: PreparingProvider>(
     alloc: Global,
     list: &CurrentCrl<'a, 'p, P>,
     file: &FileAndHash,
@@ -189,7 +189,7 @@ fn reject_file(
 }
 
 /// Adds what the files say, each that is valid; the others are rejected.
-fn add_files<'a, 'p, P: Provider>(
+fn add_files<'a, 'p, P: PreparingProvider>(
     alloc: Global,
     list: &CurrentCrl<'a, 'p, P>,
     folder: &Rsync,
@@ -228,7 +228,7 @@ fn add_files<'a, 'p, P: Provider>(
 
 /// Adds what the point of the authority says; or why it has none. Requires that all of the authority's path is valid at
 /// the moment, as its period tells.
-fn add_point<'p, S: Snapshot, P: Provider>(
+fn add_point<'p, S: Snapshot, P: PreparingProvider>(
     alloc: Global,
     snapshot: &S,
     issuer: &ResourceCert<'p, P>,
@@ -269,7 +269,7 @@ fn manifest_uri(alloc: Global, tbs: &TbsCert) -> Result<Option<Rsync>, AllocErro
 }
 
 /// Notes that all that the authority publishes is rejected.
-fn reject_point<'p, P: Provider>(
+fn reject_point<'p, P: PreparingProvider>(
     alloc: Global,
     issuer: &ResourceCert<'p, P>,
     reason: Reason,
@@ -291,7 +291,7 @@ fn reject_point<'p, P: Provider>(
 /// authority's path is valid at the moment, as its period tells.
 ///
 /// Returns `AllocError` if allocation fails.
-pub(crate) fn visit<'p, S: Snapshot, P: Provider>(
+pub(crate) fn visit<'p, S: Snapshot, P: PreparingProvider>(
     alloc: Global,
     snapshot: &S,
     issuer: &ResourceCert<'p, P>,

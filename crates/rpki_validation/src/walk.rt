@@ -15,9 +15,9 @@ use crate::outcome::Outcome;
 use crate::snapshot::Snapshot;
 use crate::stop::Stop;
 use crate::visit::visit;
-use rpki::crypto::Provider;
 use rpki::repository::x509::Time;
 use rpki_locator::AnchorUri;
+use rpki_rsa::PreparingProvider;
 use rpki_valid::{ResourceCert, Terms};
 use std::alloc::{AllocError, Global};
 
@@ -25,7 +25,7 @@ use std::alloc::{AllocError, Global};
 /// them. Requires that all of each one's path is valid at the moment.
 ///
 /// Returns `AllocError` if allocation fails.
-fn visit_all<'p, S: Snapshot, P: Provider>(
+fn visit_all<'p, S: Snapshot, P: PreparingProvider>(
     alloc: Global,
     snapshot: &S,
     level: &[ResourceCert<'p, P>],
@@ -55,7 +55,7 @@ fn visit_all<'p, S: Snapshot, P: Provider>(
 /// What is valid at the moment below the trust anchor. Requires that it is valid then.
 ///
 /// Returns `AllocError` if allocation fails.
-fn walk<'p, S: Snapshot, P: Provider>(
+fn walk<'p, S: Snapshot, P: PreparingProvider>(
     alloc: Global,
     snapshot: &S,
     anchor: ResourceCert<'p, P>,
@@ -100,7 +100,7 @@ fn walk<'p, S: Snapshot, P: Provider>(
 /// gives it, if it is no more steps below the trust anchor than the terms permit.
 ///
 /// The errors are those of [anchor_of]: the locator has no trust anchor, and why; or `OutOfMemory` if allocation fails.
-pub fn validate<'p, S: Snapshot, P: Provider>(
+pub fn validate<'p, S: Snapshot, P: PreparingProvider>(
     alloc: Global,
     snapshot: &S,
     provider: &'p P,

@@ -3,13 +3,16 @@
 -- Values with everything nested in them, and by their headers: NestedLaws. A name: NameViewLaws. Readers that take no
 --   memory, one value in all of the octets, sections: FrameLaws. What a `?` hands on: TriedLaws.
 -- Signed data: without unused bits WholeLaws, its parts SignedPartsLaws. A value that stands for another:
---   StandingForLaws. That what is spelled is values: ValuesLaws. What is written: WrittenLaws.
+--   StandingForLaws. A value of which something has to hold: SuchLaws. Readers in place of a part, and of what is in
+--   it: InPlaceLaws. That what is spelled is values: ValuesLaws. What is written: WrittenLaws.
 
 pub mod FrameLaws
+pub mod InPlaceLaws
 pub mod NameViewLaws
 pub mod NestedLaws
 pub mod SignedPartsLaws
 pub mod StandingForLaws
+pub mod SuchLaws
 pub mod TriedLaws
 pub mod ValuesLaws
 pub mod WholeLaws

@@ -50,9 +50,9 @@ signature-none s r e h v k = nothing-whole SpellsBits s
 
 -- ---- the parts
 
-pub parts-read : (s m n d w o p : List ℕ) (b : Bool) (v : Parts) → Accepts SpellsValue s d m → v.«data».octets.now ≡ d
-    → o ≡ m → v.«data».following ≡ length o
-    → Accepts SpellsRpkiAlgorithm m b n → v.kind ≡ b → p ≡ n → StandsBefore o p v.algorithm
+pub parts-read : (s m n d w o p : List ℕ) (b : Bool) (v : Parts) → Accepts SpellsValue s d m → v.signed.octets.now ≡ d
+    → o ≡ m → v.signed.following ≡ length o
+    → Accepts SpellsRpkiAlgorithm m b n → v.signature_algorithm ≡ b → p ≡ n → StandsBefore o p v.algorithm
     → SpellsUsed w n → v.signature.octets.now ≡ w → v.signature.following ≡ 0
     → (x : SignedParts Bool) × (h : IsSignedContents SpellsRpkiAlgorithm x s) × ArePartsIn x s h v
 parts-read s m n d w o p b v a is i size c same j text g sign last =

@@ -2,6 +2,7 @@
 pub mod Authority
 pub mod Frame
 pub mod InPlace
+pub mod MessageDigest
 pub mod Name
 pub mod Signed
 pub mod SignedParts

@@ -10,8 +10,8 @@ use Rattle.rpki_x509.specs.Signed.{SpellsRpkiAlgorithm, rpki_algorithm, SpellsUs
 -- the sections are those of the three parts of signed data
 pub record ArePartsIn (x : SignedParts Bool) (s : List ℕ) (h : IsSignedContents SpellsRpkiAlgorithm x s) (v : Parts)
     : Type 0 where
-  pub signed : IsSection v.«data» x.signed (h.text ++ h.bits)
-  pub same : v.kind ≡ x.algorithm
+  pub signed : IsSection v.signed x.signed (h.text ++ h.bits)
+  pub same : v.signature_algorithm ≡ x.algorithm
   pub algorithm : IsSection v.algorithm h.text h.bits
   pub signature : IsSection v.signature x.value []
   pub used : h.signature.unused ≡ 0

@@ -4,6 +4,7 @@
 
 mod authority;
 mod frame;
+mod message_digest;
 mod name;
 mod nested;
 mod signed;
@@ -12,6 +13,7 @@ mod value;
 
 pub use authority::take_authority;
 pub use frame::ContextZeroFrame;
+pub use message_digest::MessageDigest;
 pub use name::take_name;
 pub use nested::{are_values, is_value, take_headed, value_fault};
 pub use signed::{is_same, take_signed};

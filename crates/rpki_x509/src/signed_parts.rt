@@ -13,9 +13,9 @@ use rpki::der::{Constructed, DecodeError, Section};
 #[derive(Clone, Copy)]
 pub struct Parts<'a> {
     /// The value that is signed.
-    pub data: Section<'a>,
+    pub signed: Section<'a>,
     /// The algorithm.
-    pub kind: RpkiSignatureAlgorithm,
+    pub signature_algorithm: RpkiSignatureAlgorithm,
     /// The octets of the algorithm identifier.
     pub algorithm: Section<'a>,
     /// The octets of the signature.
@@ -23,7 +23,7 @@ pub struct Parts<'a> {
 }
 
 /// A part of signed data after what is signed, of which it is said that it isn't there, or isn't as it has to be.
-#[derive(Clone, Copy, Debug, PartialEq, Eq)]
+#[derive(Clone, Copy, Debug)]
 pub enum SignedPart {
     /// The algorithm identifier.
     Algorithm,
@@ -65,14 +65,14 @@ fn read_signature<'a>(rest: Constructed<'a>) -> Result<&'a [u8], DecodeError>
 
 /// The parts of signed data: what is signed, and what follows it, which is all of these contents.
 pub fn read_parts<'a>(signed: &'a [u8], behind: Constructed<'a>) -> Result<Parts<'a>, SignedError>
-    ensures signed { IfOk result (λ v. v.«data».octets.now ≡ signed.now) }
+    ensures signed { IfOk result (λ v. v.signed.octets.now ≡ signed.now) }
     ensures ok { IfOk result (λ v. ArePartsBehind signed.now (left behind.entry) v) }
     ensures err { IfErr result (λ q. AreMalformed (left behind.entry) q) }
 {
     let octets = behind.rest();
     let mut rest = behind;
-    let kind = match RpkiSignatureAlgorithm::x509_take_from(&mut rest) {
-        Ok(kind) => kind,
+    let signature_algorithm = match RpkiSignatureAlgorithm::x509_take_from(&mut rest) {
+        Ok(algorithm) => algorithm,
         Err(e) => return Err(SignedError {
             part: SignedPart::Algorithm,
             error: e,
@@ -81,11 +81,11 @@ pub fn read_parts<'a>(signed: &'a [u8], behind: Constructed<'a>) -> Result<Parts
     let last = rest.rest();
     match read_signature(rest) {
         Ok(signature) => Ok(Parts {
-            data: Section {
+            signed: Section {
                 octets: signed,
                 following: octets.len(),
             },
-            kind,
+            signature_algorithm,
             algorithm: Section::before(octets, last),
             signature: Section {
                 octets: signature,

@@ -4,7 +4,7 @@ use Rattle.std.proofs.lemmas.Bool.{false≢true}
 use Rattle.std.proofs.lemmas.List.Elements.{All-tail}
 use Rattle.std.specs.Io.KnownBytes.{Appends}
 use Rattle.std.specs.Prelude.{◌⊎◌, codes, Bool, true, false, is_some, Option, Some, None, Ok, Err, IsSome, IfSome}
-use Rattle.rpki_fields.specs.Kind.{kind_of}
+use Rattle.rpki_fields.specs.ObjectType.{kind_of}
 use Rattle.rpki_fields.specs.Field.{field_parts}
 use Rattle.rpki_fields.specs.Rendering.{rendering}
 use Rattle.rpki_fields.specs.Sheet.{SheetParts, sheet_behind}
@@ -14,20 +14,22 @@ use Rattle.rpkicert.specs.declared.fault.Fault.TheVariants.{Unreadable, TooLarge
 use Rattle.rpkicert.specs.declared.fault.Fault.TheVariants.{Violated, Unverified, NoCertificate, OtherAlgorithm}
 use Rattle.rpki_fields.specs.declared.rendering.Form.{Form}
 use Rattle.rpkicert.specs.Fault.{status_of}
-use Rattle.rpkicert.specs.Finding.{FoundParts, found_parts, Finding, IsHeld, IsJudged, HoldsTo, FindsIn, Finds}
+use Rattle.rpkicert.specs.Outcome.{OutcomeParts, found_parts, Finding, IsHeld, IsJudged, HoldsTo, FindsIn, Finds}
 use Rattle.rpkicert.specs.declared.signature.Signature.{Signature}
 use Rattle.rpkicert.specs.Signature.{signature_found}
 use Rattle.rpkicert.specs.Request.{Asked}
-use Rattle.rpkicert.specs.Terms.{TermParts, term_parts, no_terms}
-use Rattle.rpkicert.specs.Shown.{file_text, hashed, marked, IsTextOf, ShownParts, shown_parts, IsShown, IsSeen}
-use Rattle.rpkicert.specs.Shown.{IsChecked, fault_line, status_in}
-use Rattle.rpkicert.specs.Shown.{LacksMemory, AreSeen, outputs, faults, worst, IsRun}
-use Rattle.rpkicert.specs.Shown.{joined, numbered, IsSeenIn, AreSeenFrom, IsSeenEach, IsSeenOf}
-use Rattle.rpkicert.specs.Shown.IsSeenOf.{OfAll, OfEach, OfNone}
-use Rattle.rpkicert.specs.Shown.IsRun.{Whole, Cut}
-use Rattle.rpkicert.specs.Run.{Holds, IsMoment, issuer_in, issuer_or, IsIssuerOf, AreTerms, Sees, IsRunOf, AreKnown}
-use Rattle.rpkicert.specs.Run.{IsKnown, EndsWellWith}
+use Rattle.rpkicert.specs.Requirements.{TermParts, term_parts, no_terms}
+use Rattle.rpkicert.specs.Output.{file_text, hashed, marked, IsTextOf, OutputParts, shown_parts, IsOutput, IsSeen}
+use Rattle.rpkicert.specs.Output.{IsChecked, fault_line, status_in}
+use Rattle.rpkicert.specs.Output.{LacksMemory, AreSeen, outputs, faults, worst, IsRun}
+use Rattle.rpkicert.specs.Output.{joined, numbered, IsSeenIn, AreSeenFrom, IsSeenEach, IsSeenOf}
+use Rattle.rpkicert.specs.Output.IsSeenOf.{OfAll, OfEach, OfNone}
+use Rattle.rpkicert.specs.Output.IsRun.{Whole, Cut}
+use Rattle.rpkicert.specs.Moment.{Clock, is_now, NamesBy, IsMoment}
+use Rattle.rpkicert.specs.Run.{Holds, issuer_in, issuer_or, IsIssuerOf, AreRequirements, Sees, IsRunOf}
+use Rattle.rpkicert.specs.Run.{AreKnown, IsClockKnown, IsKnown, EndsWellWith}
 use Rattle.rpkicert.specs.Run.IsRunOf.{Held, Denied}
+use Rattle.rpkicert.specs.Values.{ToldParts}
 use Rattle.rpkicert.specs.Words.{Prints}
 use Rattle.rpki_fields.proofs.OneObjectLaws.{one-of, none-of}
 use Rattle.rpki_fields.proofs.OneSheetLaws.{one-sheet}
@@ -47,10 +49,10 @@ one-text-of form signature name octets x text other g h =
 
 -- ---- what is found
 
-abbrev IsAlone : FoundParts → Finding → Type 0
+abbrev IsAlone : OutcomeParts → Finding → Type 0
 IsAlone found f = (f ≡ Ok found) ⊎ (f ≡ Err OutOfMemory)
 
-same-found : (a b : FoundParts) → a.octets ≡ b.octets → a.object ≡ b.object → a.fault ≡ b.fault → a ≡ b
+same-found : (a b : OutcomeParts) → a.octets ≡ b.octets → a.object ≡ b.object → a.fault ≡ b.fault → a ≡ b
 same-found a b p q r =
     let e : found_parts a.octets a.object a.fault ≡ found_parts b.octets b.object b.fault = rw (p, q, r) refl in e
 
@@ -68,13 +70,13 @@ held-alone terms x (Some (Unreadable cause)) g h = absurd h
 held-alone terms x (Some TooLarge) g h = absurd h
 held-alone terms x (Some Malformed) g h = absurd h
 
-one-held : (terms : TermParts) (octets : List ℕ) (found : FoundParts) (f : Finding) → found.fault ≡ None
+one-held : (terms : TermParts) (octets : List ℕ) (found : OutcomeParts) (f : Finding) → found.fault ≡ None
     → HoldsTo terms octets (Ok found) → HoldsTo terms octets f → IsAlone found f
 one-held terms octets found (Ok other) n g h =
     let same = one-of (kind_of octets) octets other.object found.object h.1.is g.1.is in
     let held : IsHeld terms found.object = subst (λ (o : Option Fault). IsJudged terms found.object o) n g.2 in
     let none = held-alone terms other.object other.fault (subst (λ (x : Object). IsHeld terms x) (sym same) held) h.2 in
-    inl (ap (λ (w : FoundParts). Ok w) (same-found other found (h.0 ∙ sym g.0) same (none ∙ sym n)))
+    inl (ap (λ (w : OutcomeParts). Ok w) (same-found other found (h.0 ∙ sym g.0) same (none ∙ sym n)))
 one-held terms octets found (Err (Refused kind place e)) n g h =
     absurd (none-of (kind_of octets) octets e found.object h.memory h.none g.1.is)
 one-held terms octets found (Err OutOfMemory) n g h = inr refl
@@ -86,7 +88,7 @@ one-held terms octets found (Err (Unreadable cause)) n g h = absurd h
 one-held terms octets found (Err TooLarge) n g h = absurd h
 one-held terms octets found (Err Malformed) n g h = absurd h
 
-one-found-in : (terms : TermParts) (input : List ℕ) (found : FoundParts) (f : Finding) → found.fault ≡ None
+one-found-in : (terms : TermParts) (input : List ℕ) (found : OutcomeParts) (f : Finding) → found.fault ≡ None
     → FindsIn terms input (Ok found) → FindsIn terms input f → IsAlone found f
 one-found-in terms input found f n (inl g) (inl h) =
     let same : h.0 ≡ g.0 = cc in
@@ -96,7 +98,7 @@ one-found-in terms input found f n (inl g) (inr (inr h)) = inr h
 one-found-in terms input found f n (inr (inl g)) h = absurd (let a = g.1 in cc)
 one-found-in terms input found f n (inr (inr g)) h = absurd cc
 
-pub one-finding : (terms : TermParts) (source : Option (List ℕ)) (found : FoundParts) → found.fault ≡ None
+pub one-finding : (terms : TermParts) (source : Option (List ℕ)) (found : OutcomeParts) → found.fault ≡ None
     → Finds terms source (Ok found) → (f : Finding) → Finds terms source f
     → (f ≡ Ok found) ⊎ (f ≡ Err OutOfMemory)
 one-finding terms None found n (inl g) f h = absurd (let a = g.1 in cc)
@@ -110,24 +112,33 @@ one-finding terms (Some input) found n (inr (inr g)) f h = absurd cc
 
 -- ---- what is seen
 
-one-listed : (form : Form) (terms : TermParts) (name : List ℕ) (found : FoundParts) (s t : ShownParts)
-    → IsShown false form terms name (Ok found) s → IsShown false form terms name (Ok found) t → t ≡ s
-one-listed form terms name found s t g h =
-    h.2 ∙ ap (λ (text : List ℕ). shown_parts text (fault_line name found.fault) (status_in found.fault))
-    (one-text-of form (signature_found (is_some terms.issuer) found.object found.fault) name found.octets found.object
-    h.0 g.0 h.1 g.1) ∙ sym g.2
+-- where there is no fault, no line is for it
+no-line : (name : List ℕ) (fault : Option Fault) (t u : Option ToldParts) → fault ≡ None
+    → fault_line name fault t ≡ fault_line name fault u
+no-line name None t u n = refl
+no-line name (Some fault) t u n = absurd cc
 
-one-checked : (form : Form) (terms : TermParts) (name : List ℕ) (x : Object) (fault : Option Fault) (s t : ShownParts)
+one-listed : (form : Form) (terms : TermParts) (name : List ℕ) (found : OutcomeParts) (s t : OutputParts)
+    → found.fault ≡ None → IsOutput false form terms name (Ok found) s → IsOutput false form terms name (Ok found) t
+    → t ≡ s
+one-listed form terms name found s t n g h =
+    h.4 ∙ ap (λ (text : List ℕ). shown_parts text (fault_line name found.fault h.2) (status_in found.fault))
+    (one-text-of form (signature_found (is_some terms.issuer) found.object found.fault) name found.octets found.object
+    h.0 g.0 h.1 g.1)
+    ∙ ap (λ (line : List ℕ). shown_parts g.0 line (status_in found.fault)) (no-line name found.fault h.2 g.2 n)
+    ∙ sym g.4
+
+one-checked : (form : Form) (terms : TermParts) (name : List ℕ) (x : Object) (fault : Option Fault) (s t : OutputParts)
     → fault ≡ None → IsChecked form terms name x fault s → IsChecked form terms name x fault t → t ≡ s
 one-checked form terms name x None s t n g h = h ∙ sym g
 one-checked form terms name x (Some fault) s t n g h = absurd cc
 
-one-shown : (check : Bool) (form : Form) (terms : TermParts) (name : List ℕ) (found : FoundParts) (s t : ShownParts)
-    → found.fault ≡ None → IsShown check form terms name (Ok found) s → IsShown check form terms name (Ok found) t
+one-shown : (check : Bool) (form : Form) (terms : TermParts) (name : List ℕ) (found : OutcomeParts) (s t : OutputParts)
+    → found.fault ≡ None → IsOutput check form terms name (Ok found) s → IsOutput check form terms name (Ok found) t
     → t ≡ s
 one-shown true form terms name found s t n g h =
     one-checked form terms name found.object found.fault s t n g h
-one-shown false form terms name found s t n g h = one-listed form terms name found s t g h
+one-shown false form terms name found s t n g h = one-listed form terms name found s t n g h
 
 fault-status : (fault : Fault) → status_of fault ≡ 0 → ⊥
 fault-status (Unreadable cause) e = omega arith
@@ -140,25 +151,25 @@ fault-status (Unverified clause x) e = omega arith
 fault-status NoCertificate e = omega arith
 fault-status OtherAlgorithm e = omega arith
 
-shown-status : (check : Bool) (form : Form) (terms : TermParts) (name : List ℕ) (fault : Fault) (s : ShownParts)
-    → IsShown check form terms name (Err fault) s → s.status ≡ status_of fault
-shown-status true form terms name fault s g = ap (λ (w : ShownParts). w.status) g
-shown-status false form terms name fault s g = ap (λ (w : ShownParts). w.status) g
+shown-status : (check : Bool) (form : Form) (terms : TermParts) (name : List ℕ) (fault : Fault) (s : OutputParts)
+    → IsOutput check form terms name (Err fault) s → s.status ≡ status_of fault
+shown-status true form terms name fault s g = ap (λ (w : OutputParts). w.status) g
+shown-status false form terms name fault s g = ap (λ (w : OutputParts). w.status) g
 
 -- with the status 0 there is no fault
-some-status : (form : Form) (terms : TermParts) (name : List ℕ) (x : Object) (fault : Fault) (s : ShownParts)
+some-status : (form : Form) (terms : TermParts) (name : List ℕ) (x : Object) (fault : Fault) (s : OutputParts)
     → IsChecked form terms name x (Some fault) s → s.status ≡ status_of fault
-some-status form terms name x (Violated v) s g = ap (λ (w : ShownParts). w.status) g.2
-some-status form terms name x (Unreadable cause) s g = ap (λ (w : ShownParts). w.status) g
-some-status form terms name x TooLarge s g = ap (λ (w : ShownParts). w.status) g
-some-status form terms name x OutOfMemory s g = ap (λ (w : ShownParts). w.status) g
-some-status form terms name x Malformed s g = ap (λ (w : ShownParts). w.status) g
-some-status form terms name x (Refused kind place e) s g = ap (λ (w : ShownParts). w.status) g
-some-status form terms name x (Unverified clause e) s g = ap (λ (w : ShownParts). w.status) g
-some-status form terms name x NoCertificate s g = ap (λ (w : ShownParts). w.status) g
-some-status form terms name x OtherAlgorithm s g = ap (λ (w : ShownParts). w.status) g
+some-status form terms name x (Violated v) s g = ap (λ (w : OutputParts). w.status) g.2
+some-status form terms name x (Unreadable cause) s g = ap (λ (w : OutputParts). w.status) g.2
+some-status form terms name x TooLarge s g = ap (λ (w : OutputParts). w.status) g.2
+some-status form terms name x OutOfMemory s g = ap (λ (w : OutputParts). w.status) g.2
+some-status form terms name x Malformed s g = ap (λ (w : OutputParts). w.status) g.2
+some-status form terms name x (Refused kind place e) s g = ap (λ (w : OutputParts). w.status) g.2
+some-status form terms name x (Unverified clause e) s g = ap (λ (w : OutputParts). w.status) g.2
+some-status form terms name x NoCertificate s g = ap (λ (w : OutputParts). w.status) g.2
+some-status form terms name x OtherAlgorithm s g = ap (λ (w : OutputParts). w.status) g.2
 
-checked-status : (form : Form) (terms : TermParts) (name : List ℕ) (x : Object) (fault : Option Fault) (s : ShownParts)
+checked-status : (form : Form) (terms : TermParts) (name : List ℕ) (x : Object) (fault : Option Fault) (s : OutputParts)
     → IsChecked form terms name x fault s → s.status ≡ 0 → fault ≡ None
 checked-status form terms name x None s g z = refl
 checked-status form terms name x (Some fault) s g z =
@@ -168,24 +179,25 @@ listed-status : (fault : Option Fault) → status_in fault ≡ 0 → fault ≡ N
 listed-status None z = refl
 listed-status (Some fault) z = absurd (fault-status fault z)
 
-well-shown : (check : Bool) (form : Form) (terms : TermParts) (name : List ℕ) (found : FoundParts) (s : ShownParts)
-    → IsShown check form terms name (Ok found) s → s.status ≡ 0 → found.fault ≡ None
+well-shown : (check : Bool) (form : Form) (terms : TermParts) (name : List ℕ) (found : OutcomeParts) (s : OutputParts)
+    → IsOutput check form terms name (Ok found) s → s.status ≡ 0 → found.fault ≡ None
 well-shown true form terms name found s g z = checked-status form terms name found.object found.fault s g z
 well-shown false form terms name found s g z =
-    listed-status found.fault (sym (ap (λ (w : ShownParts). w.status) g.2) ∙ z)
+    listed-status found.fault (sym (ap (λ (w : OutputParts). w.status) g.4) ∙ z)
 
 -- another finding is shown
-other-shown : (check : Bool) (form : Form) (terms : TermParts) (name : List ℕ) (found : FoundParts) (f : Finding)
-    (s t : ShownParts) → found.fault ≡ None → IsAlone found f
-    → IsShown check form terms name (Ok found) s → IsShown check form terms name f t
+other-shown : (check : Bool) (form : Form) (terms : TermParts) (name : List ℕ) (found : OutcomeParts) (f : Finding)
+    (s t : OutputParts) → found.fault ≡ None → IsAlone found f
+    → IsOutput check form terms name (Ok found) s → IsOutput check form terms name f t
     → (t ≡ s) ⊎ LacksMemory check form terms name t
 other-shown check form terms name found f s t n (inl e) g h =
-    inl (one-shown check form terms name found s t n g (subst (λ (w : Finding). IsShown check form terms name w t) e h))
+    inl (one-shown check form terms name found s t n g
+    (subst (λ (w : Finding). IsOutput check form terms name w t) e h))
 other-shown check form terms name found f s t n (inr e) g h =
-    inr (inl (subst (λ (w : Finding). IsShown check form terms name w t) e h))
+    inr (inl (subst (λ (w : Finding). IsOutput check form terms name w t) e h))
 
 good-seen : (check : Bool) (form : Form) (terms : TermParts) (name : List ℕ) (source : Option (List ℕ))
-    (f : Finding) (s t : ShownParts) → Finds terms source f → IsShown check form terms name f s
+    (f : Finding) (s t : OutputParts) → Finds terms source f → IsOutput check form terms name f s
     → s.status ≡ 0 → IsSeen check form terms name source t
     → (t ≡ s) ⊎ LacksMemory check form terms name t
 good-seen check form terms name source (Err fault) s t g k z h =
@@ -196,21 +208,21 @@ good-seen check form terms name source (Ok found) s t g k z (inl h) =
 good-seen check form terms name source (Ok found) s t g k z (inr h) = inr (inr h)
 
 pub one-seen : (check : Bool) (form : Form) (terms : TermParts) (name : List ℕ) (source : Option (List ℕ))
-    (s t : ShownParts)
+    (s t : OutputParts)
     → IsSeen check form terms name source s → s.status ≡ 0 → IsSeen check form terms name source t
     → (t ≡ s) ⊎ LacksMemory check form terms name t
 one-seen check form terms name source s t (inl g) z h = good-seen check form terms name source g.0 s t g.1 g.2 z h
 one-seen check form terms name source s t (inr g) z h =
-    absurd (let e : s.status ≡ 2 = ap (λ (w : ShownParts). w.status) g in omega arith)
+    absurd (let e : s.status ≡ 2 = ap (λ (w : OutputParts). w.status) g in omega arith)
 
 -- ---- files
 
-lacking-status : (check : Bool) (form : Form) (terms : TermParts) (name : List ℕ) (s : ShownParts)
+lacking-status : (check : Bool) (form : Form) (terms : TermParts) (name : List ℕ) (s : OutputParts)
     → LacksMemory check form terms name s → s.status ≡ 2
 lacking-status check form terms name s (inl g) = shown-status check form terms name OutOfMemory s g
-lacking-status check form terms name s (inr g) = ap (λ (w : ShownParts). w.status) g
+lacking-status check form terms name s (inr g) = ap (λ (w : OutputParts). w.status) g
 
-unless-lacking : (check : Bool) (form : Form) (terms : TermParts) (name : List ℕ) (s t : ShownParts)
+unless-lacking : (check : Bool) (form : Form) (terms : TermParts) (name : List ℕ) (s t : OutputParts)
     → (t ≡ s) ⊎ LacksMemory check form terms name t → t.status ≡ 0 → t ≡ s
 unless-lacking check form terms name s t (inl e) z = e
 unless-lacking check form terms name s t (inr g) z =
@@ -218,8 +230,8 @@ unless-lacking check form terms name s t (inr g) z =
 
 -- ---- several certificates
 
-one-inside : (check : Bool) (form : Form) (terms : TermParts) (name input : List ℕ) (f : Finding) (s t : ShownParts)
-    → FindsIn terms input f → IsShown check form terms name f s
+one-inside : (check : Bool) (form : Form) (terms : TermParts) (name input : List ℕ) (f : Finding) (s t : OutputParts)
+    → FindsIn terms input f → IsOutput check form terms name f s
     → IsSeenIn check form terms name input t → s.status ≡ 0 → t.status ≡ 0 → t ≡ s
 one-inside check form terms name input (Err fault) s t g k h y z =
     absurd (fault-status fault (sym (shown-status check form terms name fault s k) ∙ y))
@@ -229,7 +241,7 @@ one-inside check form terms name input (Ok found) s t g k h y z =
     (other-shown check form terms name found h.0 s t none (one-found-in terms input found h.0 none g h.1) k h.2) z
 
 one-each : (check : Bool) (form : Form) (terms : TermParts) (name : List ℕ) (number : ℕ) (texts : List (List ℕ))
-    (all others : List ShownParts) → AreSeenFrom (IsSeenIn check form terms) name number texts all
+    (all others : List OutputParts) → AreSeenFrom (IsSeenIn check form terms) name number texts all
     → AreSeenFrom (IsSeenIn check form terms) name number texts others → worst all ≡ 0 → worst others ≡ 0 → others ≡ all
 one-each check form terms name number [] [] [] g h y z = refl
 one-each check form terms name number [] [] (t ∷ ts) g h y z = absurd h
@@ -243,19 +255,19 @@ one-each check form terms name number (text ∷ texts) (s ∷ ss) (t ∷ ts) g h
     rw (first, rest) refl
 
 one-joined : (check : Bool) (form : Form) (terms : TermParts) (name : List ℕ) (texts others : List (List ℕ))
-    (s t : ShownParts) → others ≡ texts → IsSeenEach check form terms name texts s
+    (s t : OutputParts) → others ≡ texts → IsSeenEach check form terms name texts s
     → IsSeenEach check form terms name others t → s.status ≡ 0 → t.status ≡ 0 → t ≡ s
 one-joined check form terms name texts others s t e g h y z =
     let k = subst (λ (w : List (List ℕ)). IsSeenEach check form terms name w t) e h in
     k.2 ∙ ap joined (one-each check form terms name 1 texts g.0 k.0 g.1 k.1
-    (sym (ap (λ (w : ShownParts). w.status) g.2) ∙ y) (sym (ap (λ (w : ShownParts). w.status) k.2) ∙ z)) ∙ sym g.2
+    (sym (ap (λ (w : OutputParts). w.status) g.2) ∙ y) (sym (ap (λ (w : OutputParts). w.status) k.2) ∙ z)) ∙ sym g.2
 
-lacks-none : {P : Type 0} (check : Bool) (form : Form) (terms : TermParts) (name : List ℕ) (s : ShownParts)
+lacks-none : {P : Type 0} (check : Bool) (form : Form) (terms : TermParts) (name : List ℕ) (s : OutputParts)
     → LacksMemory check form terms name s → s.status ≡ 0 → P
 lacks-none check form terms name s g z = absurd (let e = lacking-status check form terms name s g in omega arith)
 
 pub one-of-file : (check : Bool) (form : Form) (terms : TermParts) (name : List ℕ) (source : Option (List ℕ))
-    (s t : ShownParts) → IsSeenOf check form terms name source s → s.status ≡ 0
+    (s t : OutputParts) → IsSeenOf check form terms name source s → s.status ≡ 0
     → IsSeenOf check form terms name source t → t.status ≡ 0 → t ≡ s
 one-of-file check form terms name source s t (OfAll e g) y (OfAll f h) z =
     unless-lacking check form terms name s t (one-seen check form terms name source s t g y h) z
@@ -271,14 +283,14 @@ one-of-file check form terms name source s t (OfEach texts e g) y (OfNone h) z =
     lacks-none check form terms name t h z
 
 one-sees : (held : Option (Option (List ℕ))) (check : Bool) (form : Form) (terms : TermParts) (name : List ℕ)
-    (s t : ShownParts) → IsSome held
+    (s t : OutputParts) → IsSome held
     → IfSome held (λ source. IsSeenOf check form terms name source s)
     → IfSome held (λ source. IsSeenOf check form terms name source t) → s.status ≡ 0 → t.status ≡ 0 → t ≡ s
 one-sees None check form terms name s t known g h y z = absurd cc
 one-sees (Some source) check form terms name s t known g h y z = one-of-file check form terms name source s t g y h z
 
 one-all : (holds : Holds) (check : Bool) (form : Form) (terms : TermParts) (names : List (List ℕ))
-    (all others : List ShownParts) → AreKnown holds names
+    (all others : List OutputParts) → AreKnown holds names
     → AreSeen (Sees holds check form terms) names all → AreSeen (Sees holds check form terms) names others
     → worst all ≡ 0 → worst others ≡ 0 → others ≡ all
 one-all holds check form terms [] [] [] known g h y z = refl
@@ -295,22 +307,33 @@ one-all holds check form terms (name ∷ names) (s ∷ ss) (t ∷ ts) known g h 
 
 -- ---- the terms
 
-one-moment : (word : Option (List ℕ)) (t u : Option DateTime) → IsMoment word t → IsMoment word u → t ≡ u
-one-moment None None None g h = refl
-one-moment None None (Some u) g h = absurd h
-one-moment None (Some t) u g h = absurd g
-one-moment (Some word) None u g h = absurd g
-one-moment (Some word) (Some t) None g h = absurd h
-one-moment (Some word) (Some t) (Some u) g h =
+same-moment : (at : Option DateTime) (t u : DateTime) → at ≡ Some t → at ≡ Some u → t ≡ u
+same-moment at t u g h = let e = sym g ∙ h in cc
+
+one-named : (now : Bool) (clock : Clock) (word : List ℕ) (t u : DateTime) → (now ≡ true → IsSome clock)
+    → NamesBy now clock word t → NamesBy now clock word u → t ≡ u
+one-named true None word t u known g h = absurd (let k = known refl in cc)
+one-named true (Some at) word t u known g h = same-moment at t u g h
+one-named false clock word t u known g h =
     let e = sym g ∙ h in
     let same : civil_nanos t ≡ civil_nanos u = cc in
-    ap Some (same_datetime t u same)
+    same_datetime t u same
+
+one-moment : (clock : Clock) (word : Option (List ℕ)) (t u : Option DateTime) → IfSome word (IsClockKnown clock)
+    → IsMoment clock word t → IsMoment clock word u → t ≡ u
+one-moment clock None None None known g h = refl
+one-moment clock None None (Some u) known g h = absurd h
+one-moment clock None (Some t) u known g h = absurd g
+one-moment clock (Some word) None u known g h = absurd g
+one-moment clock (Some word) (Some t) None known g h = absurd h
+one-moment clock (Some word) (Some t) (Some u) known g h =
+    ap Some (one-named (is_now word) clock word t u known g h)
 
 issuer-held : (x : Object) (fault : Option Fault) (t : TbsParts) → issuer_or x fault ≡ Ok t → fault ≡ None
 issuer-held x None t p = refl
 issuer-held x (Some fault) t p = absurd (let r = p in cc)
 
-other-issuer : (found : FoundParts) (k : Finding) (t u : TbsParts) → IsAlone found k
+other-issuer : (found : OutcomeParts) (k : Finding) (t u : TbsParts) → IsAlone found k
     → issuer_in (Ok found) ≡ Ok t → issuer_in k ≡ Ok u → t ≡ u
 other-issuer found k t u (inl e) p q = let r = sym p ∙ sym (ap issuer_in e) ∙ q in cc
 other-issuer found k t u (inr e) p q = absurd (let r = sym (ap issuer_in e) ∙ q in cc)
@@ -343,23 +366,23 @@ same-terms t u p q r =
     let e : term_parts t.inspection t.issuer t.moment ≡ term_parts u.inspection u.issuer u.moment = rw (p, q, r) refl in
     e
 
-one-terms : (holds : Holds) (a : Asked) (t u : TermParts) → IsKnown holds a → AreTerms holds a t → AreTerms holds a u
-    → u ≡ t
-one-terms holds a t u known g h =
+one-terms : (holds : Holds) (clock : Clock) (a : Asked) (t u : TermParts) → IsKnown holds clock a
+    → AreRequirements holds clock a t → AreRequirements holds clock a u → u ≡ t
+one-terms holds clock a t u known g h =
     same-terms u t (h.inspection ∙ sym g.inspection)
     (one-issuer holds a.issuer u.issuer t.issuer known.issuer h.issuer g.issuer)
-    (one-moment a.moment u.moment t.moment h.moment g.moment)
+    (one-moment clock a.moment u.moment t.moment known.moment h.moment g.moment)
 
 -- ---- a run
 
-the-same-files : (holds : Holds) (a : Asked) (terms : TermParts) (all : List ShownParts) → IsKnown holds a
+the-same-files : (holds : Holds) (a : Asked) (terms : TermParts) (all : List OutputParts) → AreKnown holds a.files
     → AreSeen (Sees holds a.check a.form terms) a.files all → 0 ≡ worst all
     → (old new was is : Option (List ℕ)) → IsRun (Sees holds a.check a.form terms) a.files old new was is 0
     → Appends old new (outputs all) × Appends was is (faults all)
 the-same-files holds a terms all known seen z old new was is (Whole others g o f y) =
-    let e = one-all holds a.check a.form terms a.files others all known.files g seen (sym y) (sym z) in (
-      subst (λ (w : List ShownParts). Appends old new (outputs w)) (sym e) o,
-      subst (λ (w : List ShownParts). Appends was is (faults w)) (sym e) f,
+    let e = one-all holds a.check a.form terms a.files others all known g seen (sym y) (sym z) in (
+      subst (λ (w : List OutputParts). Appends old new (outputs w)) (sym e) o,
+      subst (λ (w : List OutputParts). Appends was is (faults w)) (sym e) f,
     )
 the-same-files holds a terms all known seen z old new was is (Cut front rest others parts g cut y) =
     absurd (let e = y in omega arith)
@@ -369,26 +392,29 @@ denied : {P : Type 0} (old new : Option (List ℕ)) (text : List ℕ) → Prints
 denied old new text (inl h) = absurd (let e = h.1 in omega arith)
 denied old new text (inr h) = absurd (let e = h.1 in omega arith)
 
-the-same : (holds : Holds) (a : Asked) (terms : TermParts) (all : List ShownParts) → IsKnown holds a
-    → AreTerms holds a terms → AreSeen (Sees holds a.check a.form terms) a.files all → 0 ≡ worst all
-    → (old new was is : Option (List ℕ)) → IsRunOf holds old new was is 0 a
+the-same : (holds : Holds) (clock : Clock) (a : Asked) (terms : TermParts) (all : List OutputParts)
+    → IsKnown holds clock a → AreRequirements holds clock a terms
+    → AreSeen (Sees holds a.check a.form terms) a.files all → 0 ≡ worst all
+    → (old new was is : Option (List ℕ)) → IsRunOf holds clock old new was is 0 a
     → Appends old new (outputs all) × Appends was is (faults all)
-the-same holds a terms all known are seen z old new was is (Held others h g) =
-    the-same-files holds a terms all known seen z old new was is
+the-same holds clock a terms all known are seen z old new was is (Held others h g) =
+    the-same-files holds a terms all known.files seen z old new was is
     (subst (λ (t : TermParts). IsRun (Sees holds a.check a.form t) a.files old new was is 0)
-    (one-terms holds a terms others known are h) g)
-the-same holds a terms all known are seen z old new was is (Denied text h g p) = denied was is text p
+    (one-terms holds clock a terms others known are h) g)
+the-same holds clock a terms all known are seen z old new was is (Denied text h g p) = denied was is text p
 
-held-output : (holds : Holds) (a : Asked) (terms : TermParts) → IsKnown holds a → AreTerms holds a terms
+held-output : (holds : Holds) (clock : Clock) (a : Asked) (terms : TermParts) → IsKnown holds clock a
+    → AreRequirements holds clock a terms
     → (old new was is : Option (List ℕ)) → IsRun (Sees holds a.check a.form terms) a.files old new was is 0
-    → (output : List ℕ) × (said : List ℕ) × EndsWellWith holds a output said
-held-output holds a terms known are old new was is (Whole all g o f y) =
-    (outputs all, faults all, the-same holds a terms all known are g y)
-held-output holds a terms known are old new was is (Cut front rest all parts g cut y) =
+    → (output : List ℕ) × (said : List ℕ) × EndsWellWith holds clock a output said
+held-output holds clock a terms known are old new was is (Whole all g o f y) =
+    (outputs all, faults all, the-same holds clock a terms all known are g y)
+held-output holds clock a terms known are old new was is (Cut front rest all parts g cut y) =
     absurd (let e = y in omega arith)
 
-pub one-output : (holds : Holds) (a : Asked) → IsKnown holds a
-    → (old new was is : Option (List ℕ)) → IsRunOf holds old new was is 0 a
-    → (output : List ℕ) × (said : List ℕ) × EndsWellWith holds a output said
-one-output holds a known old new was is (Held terms h g) = held-output holds a terms known h old new was is g
-one-output holds a known old new was is (Denied text h g p) = denied was is text p
+pub one-output : (holds : Holds) (clock : Clock) (a : Asked) → IsKnown holds clock a
+    → (old new was is : Option (List ℕ)) → IsRunOf holds clock old new was is 0 a
+    → (output : List ℕ) × (said : List ℕ) × EndsWellWith holds clock a output said
+one-output holds clock a known old new was is (Held terms h g) =
+    held-output holds clock a terms known h old new was is g
+one-output holds clock a known old new was is (Denied text h g p) = denied was is text p

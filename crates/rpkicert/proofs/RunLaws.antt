@@ -6,36 +6,36 @@ use Rattle.std.specs.Prelude.{◌⊎◌, Option, max}
 use Rattle.std.specs.Io.KnownBytes.{Appends}
 use Rattle.std.proofs.KnownBytes.{Appends-trans}
 use Rattle.rpki_der.specs.Written.{AppendsBeginning, AppendsCut}
-use Rattle.rpkicert.specs.Shown.{ShownParts, AreSeen, outputs, faults, worst, AreCut, IsRun}
-use Rattle.rpkicert.specs.Shown.IsRun.{Whole, Cut}
+use Rattle.rpkicert.specs.Output.{OutputParts, AreSeen, outputs, faults, worst, AreCut, IsRun}
+use Rattle.rpkicert.specs.Output.IsRun.{Whole, Cut}
 
 -- one more
-seen-more : (P : List ℕ → ShownParts → Type 0) (names : List (List ℕ)) (all : List ShownParts) (name : List ℕ)
-    (s : ShownParts)
+seen-more : (P : List ℕ → OutputParts → Type 0) (names : List (List ℕ)) (all : List OutputParts) (name : List ℕ)
+    (s : OutputParts)
     → AreSeen P names all → P name s → AreSeen P (names ++ (name ∷ [])) (all ++ (s ∷ []))
 seen-more P [] [] name s h k = (k, tt)
 seen-more P [] (t ∷ ts) name s h k = absurd h
 seen-more P (n ∷ ns) [] name s h k = absurd h
 seen-more P (n ∷ ns) (t ∷ ts) name s h k = (h.0, seen-more P ns ts name s h.1 k)
 
-pub outputs-more : (all : List ShownParts) (s : ShownParts) → outputs (all ++ (s ∷ [])) ≡ outputs all ++ s.output
+pub outputs-more : (all : List OutputParts) (s : OutputParts) → outputs (all ++ (s ∷ [])) ≡ outputs all ++ s.output
 outputs-more [] s = append-nil s.output
 outputs-more (t ∷ ts) s = ap (λ (w : List ℕ). t.output ++ w) (outputs-more ts s)
     ∙ sym (append_assoc t.output (outputs ts) s.output)
 
-pub faults-more : (all : List ShownParts) (s : ShownParts) → faults (all ++ (s ∷ [])) ≡ faults all ++ s.faults
+pub faults-more : (all : List OutputParts) (s : OutputParts) → faults (all ++ (s ∷ [])) ≡ faults all ++ s.faults
 faults-more [] s = append-nil s.faults
 faults-more (t ∷ ts) s = ap (λ (w : List ℕ). t.faults ++ w) (faults-more ts s)
     ∙ sym (append_assoc t.faults (faults ts) s.faults)
 
-pub worst-more : (all : List ShownParts) (s : ShownParts) → worst (all ++ (s ∷ [])) ≡ max (worst all) s.status
+pub worst-more : (all : List OutputParts) (s : OutputParts) → worst (all ++ (s ∷ [])) ≡ max (worst all) s.status
 worst-more [] s = omega arith
 worst-more (t ∷ ts) s = let e = worst-more ts s in omega (arith, e)
 
 -- what was seen of the files so far
-pub record HaveSeen (P : List ℕ → ShownParts → Type 0) (names : List (List ℕ)) (old new was is : Option (List ℕ))
+pub record HaveSeen (P : List ℕ → OutputParts → Type 0) (names : List (List ℕ)) (old new was is : Option (List ℕ))
     (status : ℕ) : Type 0 where
-  pub all : List ShownParts
+  pub all : List OutputParts
   pub seen : AreSeen P names all
   pub output : Appends old new (outputs all)
   pub faults_are : Appends was is (faults all)
@@ -48,8 +48,8 @@ names-more text files i file h e =
     ap (map text) (take_more files i file h) ∙ map-append text (take i files) (get_or files i file ∷ [])
     ∙ ap (λ w. map text (take i files) ++ (text w ∷ [])) (sym e)
 
-pub one-seen : {A : Type 0} (text : A → List ℕ) (P : List ℕ → ShownParts → Type 0) (files : List A) (i : ℕ) (file : A)
-    (old mid new was ws is : Option (List ℕ)) (n status : ℕ) (s : ShownParts)
+pub one-seen : {A : Type 0} (text : A → List ℕ) (P : List ℕ → OutputParts → Type 0) (files : List A) (i : ℕ) (file : A)
+    (old mid new was ws is : Option (List ℕ)) (n status : ℕ) (s : OutputParts)
     → i < length files → file ≡ get_or files i file → HaveSeen P (map text (take i files)) old mid was ws n
     → P (text file) s
     → Appends mid new s.output → Appends ws is s.faults → status ≡ s.status
@@ -65,7 +65,7 @@ one-seen text P files i file old mid new was ws is n status s lt e h k o f z = r
   status_is = ap (λ w. max w status) h.status_is ∙ ap (λ w. max (worst h.all) w) z ∙ sym (worst-more h.all s);
 }
 
-pub all-seen : {A : Type 0} (text : A → List ℕ) (P : List ℕ → ShownParts → Type 0) (files : List A) (i : ℕ)
+pub all-seen : {A : Type 0} (text : A → List ℕ) (P : List ℕ → OutputParts → Type 0) (files : List A) (i : ℕ)
     (old new was is : Option (List ℕ)) (status : ℕ)
     → length files ≤ i → HaveSeen P (map text (take i files)) old new was is status
     → IsRun P (map text files) old new was is status
@@ -92,7 +92,7 @@ beginning a b c xs ys p q =
     (ys, (xs, refl, subst (λ (w : List ℕ). Appends a c w) (append-nil xs) (Appends-trans a b c xs [] p q)))
 
 -- the output or the faults failed at this file
-cut-at : (old mid new was ws is : Option (List ℕ)) (all : List ShownParts) (s : ShownParts)
+cut-at : (old mid new was ws is : Option (List ℕ)) (all : List OutputParts) (s : OutputParts)
     → Appends old mid (outputs all) → Appends was ws (faults all)
     → (AppendsCut mid new s.output × Appends ws is []) ⊎ (Appends mid new s.output × AppendsCut ws is s.faults)
     → AreCut old new was is (outputs (all ++ (s ∷ []))) (faults (all ++ (s ∷ [])))
@@ -109,8 +109,8 @@ cut-at old mid new was ws is all s o f (inr p) = inr (
       (cut-after was ws is (faults all) s.faults f p.1),
 )
 
-pub cut-seen : {A : Type 0} (text : A → List ℕ) (P : List ℕ → ShownParts → Type 0) (files : List A) (i : ℕ) (file : A)
-    (old mid new was ws is : Option (List ℕ)) (n : ℕ) (s : ShownParts)
+pub cut-seen : {A : Type 0} (text : A → List ℕ) (P : List ℕ → OutputParts → Type 0) (files : List A) (i : ℕ) (file : A)
+    (old mid new was ws is : Option (List ℕ)) (n : ℕ) (s : OutputParts)
     → i < length files → file ≡ get_or files i file → HaveSeen P (map text (take i files)) old mid was ws n
     → P (text file) s
     → (AppendsCut mid new s.output × Appends ws is []) ⊎ (Appends mid new s.output × AppendsCut ws is s.faults)

@@ -9,20 +9,20 @@ use Rattle.rpki_fields.specs.declared.rendering.Form.{Form}
 use Rattle.rpkicert.specs.declared.fault.Fault.{Fault}
 use Rattle.rpkicert.specs.declared.fault.Fault.TheVariants.{Unreadable, TooLarge, OutOfMemory, Malformed, Refused}
 use Rattle.rpkicert.specs.declared.fault.Fault.TheVariants.{Violated, Unverified, NoCertificate, OtherAlgorithm}
-use Rattle.rpkicert.specs.declared.shown.Shown.{Shown}
+use Rattle.rpkicert.specs.declared.output.Output.{Output}
 use Rattle.rpkicert.specs.Fault.{most_octets}
-use Rattle.rpkicert.specs.Finding.{IsRead}
+use Rattle.rpkicert.specs.Outcome.{IsRead}
 use Rattle.rpkicert.specs.Pem.{bundle_in}
-use Rattle.rpkicert.specs.Shown.{ShownParts, numbered, AreSeenFrom, joined, bundle_of, IsShown, IsSeenOf}
-use Rattle.rpkicert.specs.Shown.IsSeenOf.{OfAll, OfEach, OfNone}
-use Rattle.rpkicert.specs.ShownView.{parts_of, seen_of, and_also, IsSeenBy}
-use Rattle.rpkicert.specs.Terms.{TermParts}
-use Rattle.rpkicert.proofs.FindingLaws.{not-read}
+use Rattle.rpkicert.specs.Output.{OutputParts, numbered, AreSeenFrom, joined, bundle_of, IsOutput, IsSeenOf}
+use Rattle.rpkicert.specs.Output.IsSeenOf.{OfAll, OfEach, OfNone}
+use Rattle.rpkicert.specs.OutputView.{parts_of, seen_of, and_also, IsSeenBy}
+use Rattle.rpkicert.specs.Requirements.{TermParts}
+use Rattle.rpkicert.proofs.OutcomeLaws.{not-read}
 use Rattle.rpkicert.proofs.RunLaws.{outputs-more, faults-more, worst-more}
 
 -- one more text
-from-more : (P : List ℕ → List ℕ → ShownParts → Type 0) (name : List ℕ) (number last : ℕ) (texts : List (List ℕ))
-    (all : List ShownParts) (text : List ℕ) (s : ShownParts) → AreSeenFrom P name number texts all
+from-more : (P : List ℕ → List ℕ → OutputParts → Type 0) (name : List ℕ) (number last : ℕ) (texts : List (List ℕ))
+    (all : List OutputParts) (text : List ℕ) (s : OutputParts) → AreSeenFrom P name number texts all
     → last ≡ number + length texts → P (numbered name last) text s
     → AreSeenFrom P name number (texts ++ (text ∷ [])) (all ++ (s ∷ []))
 from-more P name number last [] [] text s h e k =
@@ -32,13 +32,14 @@ from-more P name number last (w ∷ ws) [] text s h e k = absurd h
 from-more P name number last (w ∷ ws) (t ∷ ts) text s h e k =
     (h.0, from-more P name (suc number) last ws ts text s h.1 (omega (arith, e)) k)
 
-joined-more : (all : List ShownParts) (s : ShownParts) → joined (all ++ (s ∷ [])) ≡ and_also (joined all) s
+joined-more : (all : List OutputParts) (s : OutputParts) → joined (all ++ (s ∷ [])) ≡ and_also (joined all) s
 joined-more all s = rw (outputs-more all s, faults-more all s, worst-more all s) refl
 
 -- what was seen of the texts so far
-pub record HasSeen (P : List ℕ → List ℕ → ShownParts → Type 0) (name : List ℕ) (texts : List (List ℕ)) (s : ShownParts)
+pub record HasSeen (P : List ℕ → List ℕ → OutputParts
+    → Type 0) (name : List ℕ) (texts : List (List ℕ)) (s : OutputParts)
     : Type 0 where
-  pub all : List ShownParts
+  pub all : List OutputParts
   pub seen : AreSeenFrom P name 1 texts all
   pub is : s ≡ joined all
 
@@ -47,8 +48,8 @@ sizes-at : {A : Type 0} (octets : A → List ℕ) (texts : List A) (i : ℕ) →
     → i + 1 ≡ 1 + length (map octets (take i texts))
 sizes-at octets texts i lt = simp (length-map, length-take) (omega arith)
 
-pub seen-one : {A : Type 0} (octets : A → List ℕ) (P : List ℕ → List ℕ → ShownParts → Type 0) (name : List ℕ)
-    (texts : List A) (i : ℕ) (text : A) (s t u : ShownParts) → i < length texts → text ≡ get_or texts i text
+pub seen-one : {A : Type 0} (octets : A → List ℕ) (P : List ℕ → List ℕ → OutputParts → Type 0) (name : List ℕ)
+    (texts : List A) (i : ℕ) (text : A) (s t u : OutputParts) → i < length texts → text ≡ get_or texts i text
     → HasSeen P name (map octets (take i texts)) s → P (numbered name (i + 1)) (octets text) t → u ≡ and_also s t
     → HasSeen P name (map octets (take (i + 1) texts)) u
 seen-one octets P name texts i text s t u lt e h k z =
@@ -77,14 +78,14 @@ bundle-read input le =
     rw e refl
 
 read-by : (check : Bool) (form : Form) (terms : TermParts) (name input : List ℕ) (bundle : Option (List (List ℕ)))
-    (s : ShownParts) → length input ≤ most_octets → bundle_in input ≡ bundle
+    (s : OutputParts) → length input ≤ most_octets → bundle_in input ≡ bundle
     → IsSeenBy check form terms name input bundle s → IsSeenOf check form terms name (Some input) s
 read-by check form terms name input None s le e h =
     OfAll (bundle-read input le ∙ e) (inl (h.0, inl (le, h.1), h.2))
 read-by check form terms name input (Some texts) s le e h = OfEach texts (bundle-read input le ∙ e) h
 
 read-seen : (check : Bool) (form : Form) (terms : TermParts) (name input : List ℕ) (source : Option (List ℕ))
-    (s : ShownParts) → IsRead source (Ok input) → IsSeenBy check form terms name input (bundle_in input) s
+    (s : OutputParts) → IsRead source (Ok input) → IsSeenBy check form terms name input (bundle_in input) s
     → IsSeenOf check form terms name source s
 read-seen check form terms name input None s h k = absurd h
 read-seen check form terms name input (Some octets) s h k =
@@ -93,7 +94,7 @@ read-seen check form terms name input (Some octets) s h k =
     (subst (λ (w : List ℕ). length w ≤ most_octets) (sym h.0) h.1) refl k)
 
 pub was-seen : {E : Type 0} (held : Option (Option (List ℕ))) (check : Bool) (form : Form) (terms : TermParts)
-    (name input : List ℕ) (r : Result Shown E) → IfSome held (λ source. IsRead source (Ok input))
+    (name input : List ℕ) (r : Result Output E) → IfSome held (λ source. IsRead source (Ok input))
     → IfOk r (λ s. IsSeenBy check form terms name input (bundle_in input) (parts_of s))
     → IfSome held (λ source. IsSeenOf check form terms name source (seen_of r))
 was-seen None check form terms name input r h k = tt
@@ -108,7 +109,7 @@ large-none octets h =
 
 -- what wasn't read
 unread-seen : (check : Bool) (form : Form) (terms : TermParts) (name : List ℕ) (source : Option (List ℕ)) (f : Fault)
-    (s : ShownParts) → IsRead source (Err f) → IsShown check form terms name (Err f) s
+    (s : OutputParts) → IsRead source (Err f) → IsOutput check form terms name (Err f) s
     → IsSeenOf check form terms name source s
 unread-seen check form terms name None f s h k = OfAll refl (inl (Err f, not-read terms None f h, k))
 unread-seen check form terms name (Some octets) TooLarge s h k =
@@ -123,8 +124,8 @@ unread-seen check form terms name (Some octets) NoCertificate s h k = absurd h
 unread-seen check form terms name (Some octets) OtherAlgorithm s h k = absurd h
 
 pub not-seen : {E : Type 0} (held : Option (Option (List ℕ))) (check : Bool) (form : Form) (terms : TermParts)
-    (name : List ℕ) (f : Fault) (r : Result Shown E) → IfSome held (λ source. IsRead source (Err f))
-    → IfOk r (λ s. IsShown check form terms name (Err f) (parts_of s))
+    (name : List ℕ) (f : Fault) (r : Result Output E) → IfSome held (λ source. IsRead source (Err f))
+    → IfOk r (λ s. IsOutput check form terms name (Err f) (parts_of s))
     → IfSome held (λ source. IsSeenOf check form terms name source (seen_of r))
 not-seen None check form terms name f r h k = tt
 not-seen (Some source) check form terms name f (Ok s) h k = unread-seen check form terms name source f (parts_of s) h k

@@ -1,28 +1,61 @@
 -- What is written where the terms of a run are none.
-use Rattle.std.proofs.Common.{◌≡◌, ◌⊎◌, ℕ, List, [], refl, sym, subst, inl, inr}
-use Rattle.std.specs.Prelude.{Option, Some, None, Result, Ok, Err, Vec, IfOk, IfSome}
+use Rattle.std.proofs.Common.{◌≡◌, ◌⊎◌, ℕ, Bool, true, false, List, [], refl, sym, subst, inl, inr}
+use Rattle.std.specs.Prelude.{Option, Some, None, Result, Ok, Err, Vec, IfOk, IfSome, IfNone, IsOkAnd}
 use Rattle.std.specs.Io.KnownBytes.{Appends}
 use Rattle.jiff.specs.Types.{DateTime}
 use Rattle.jiff.specs.Words.{civil_nanos}
+use Rattle.rpki_time.specs.Time.{IsTimeNanos}
 use Rattle.rpki_cert.specs.Cert.{TbsParts}
 use Rattle.rpkicert.specs.declared.fault.Fault.{Fault}
-use Rattle.rpkicert.specs.Finding.{Finding, Finds}
+use Rattle.rpkicert.specs.Outcome.{Finding, Finds}
 use Rattle.rpkicert.specs.Request.{Asked}
-use Rattle.rpkicert.specs.Terms.{term_parts, no_terms}
-use Rattle.rpkicert.specs.ShownView.{text_in}
+use Rattle.rpkicert.specs.Requirements.{term_parts, no_terms}
+use Rattle.rpkicert.specs.OutputView.{text_in}
 use Rattle.rpkicert.specs.Words.{Prints, memory_text}
-use Rattle.rpkicert.specs.Run.{moment_of, Holds, IsMoment, IsNoMoment, IsIssuer, IsIssuerOf, issuer_in, IsDenied}
+use Rattle.rpkicert.specs.Moment.{Clock, is_now, moment_of, NamesBy, NamesMoment, NamesNoneBy, NamesNoMoment, IsMoment}
+use Rattle.rpkicert.specs.Run.{Holds, IsIssuer, IsIssuerOf, issuer_in, IsDenied}
 use Rattle.rpkicert.specs.Run.{IsDeniedBy, RunsOver, RunsBy, IsRunOf, wrong_moment_text, wrong_issuer_text}
 use Rattle.rpkicert.specs.Run.IsDenied.{WrongMoment, WrongIssuer, NoMemory}
 use Rattle.rpkicert.specs.Run.IsRunOf.{Held, Denied}
 
--- the moment that is asked for
-pub no-moment : (word : Option (List ℕ)) → word ≡ None → IsMoment word None
-no-moment word e = subst (λ (w : Option (List ℕ)). IsMoment w None) (sym e) tt
+-- the moment of the clock, or that of another word
+clock-some : (clock : Clock) (r : Option DateTime) (word : List ℕ) → IfSome clock (λ at. r ≡ at)
+    → IfSome r (NamesBy true clock word)
+clock-some clock None word h = tt
+clock-some None (Some t) word h = tt
+clock-some (Some at) (Some t) word h = sym h
 
-pub the-moment : (word : Option (List ℕ)) (text : List ℕ) (t : DateTime) → word ≡ Some text
-    → moment_of text ≡ Ok (civil_nanos t) → IsMoment word (Some t)
-the-moment word text t e h = subst (λ (w : Option (List ℕ)). IsMoment w (Some t)) (sym e) h
+clock-none : (clock : Clock) (r : Option DateTime) (word : List ℕ) → IfSome clock (λ at. r ≡ at)
+    → IfNone r (NamesNoneBy true clock word)
+clock-none None None word h = tt
+clock-none (Some at) None word h = sym h
+clock-none clock (Some t) word h = tt
+
+pub now-some : (clock : Clock) (r : Option DateTime) (word : List ℕ) → is_now word ≡ true → IfSome clock (λ at. r ≡ at)
+    → IfSome r (NamesMoment clock word)
+now-some clock r word e h =
+    subst (λ (now : Bool). IfSome r (NamesBy now clock word)) (sym e) (clock-some clock r word h)
+
+pub now-none : (clock : Clock) (r : Option DateTime) (word : List ℕ) → is_now word ≡ true → IfSome clock (λ at. r ≡ at)
+    → IfNone r (NamesNoMoment clock word)
+now-none clock r word e h =
+    subst (λ (now : Bool). IfNone r (NamesNoneBy now clock word)) (sym e) (clock-none clock r word h)
+
+pub text-some : (clock : Clock) (r : Option DateTime) (word : List ℕ) → is_now word ≡ false
+    → IfSome r (λ t. moment_of word ≡ Ok (civil_nanos t)) → IfSome r (NamesMoment clock word)
+text-some clock r word e h = subst (λ (now : Bool). IfSome r (NamesBy now clock word)) (sym e) h
+
+pub text-none : (clock : Clock) (r : Option DateTime) (word : List ℕ) → is_now word ≡ false
+    → IfNone r (IsOkAnd (moment_of word) IsTimeNanos → ⊥) → IfNone r (NamesNoMoment clock word)
+text-none clock r word e h = subst (λ (now : Bool). IfNone r (NamesNoneBy now clock word)) (sym e) h
+
+-- the moment that is asked for
+pub no-moment : (clock : Clock) (word : Option (List ℕ)) → word ≡ None → IsMoment clock word None
+no-moment clock word e = subst (λ (w : Option (List ℕ)). IsMoment clock w None) (sym e) tt
+
+pub the-moment : (clock : Clock) (word : Option (List ℕ)) (text : List ℕ) (t : DateTime) → word ≡ Some text
+    → NamesMoment clock text t → IsMoment clock word (Some t)
+the-moment clock word text t e h = subst (λ (w : Option (List ℕ)). IsMoment clock w (Some t)) (sym e) h
 
 -- a text that was made, or wasn't
 pub denied-by : {Z E : Type 0} (r : Result (Vec ℕ Z) E) (wanted : List ℕ) (old new was is : Option (List ℕ))
@@ -32,45 +65,45 @@ denied-by (Ok text) wanted old new was is status h k p = record { kept = k; told
 denied-by (Err e) wanted old new was is status h k p = record { kept = k; told = (memory_text, inr refl, p) }
 
 -- the moment is none
-told-moment : (holds : Holds) (a : Asked) (word : List ℕ) (said : List ℕ) → a.moment ≡ Some word → IsNoMoment word
-    → (said ≡ wrong_moment_text word) ⊎ (said ≡ memory_text) → IsDenied holds a said
-told-moment holds a word said m h (inl e) = WrongMoment word m h e
-told-moment holds a word said m h (inr e) = NoMemory e
+told-moment : (holds : Holds) (clock : Clock) (a : Asked) (word : List ℕ) (said : List ℕ) → a.moment ≡ Some word
+    → NamesNoMoment clock word → (said ≡ wrong_moment_text word) ⊎ (said ≡ memory_text) → IsDenied holds clock a said
+told-moment holds clock a word said m h (inl e) = WrongMoment word m h e
+told-moment holds clock a word said m h (inr e) = NoMemory e
 
-pub wrong-moment : (holds : Holds) (a : Asked) (word : List ℕ) (old new was is : Option (List ℕ)) (status : ℕ)
-    → a.moment ≡ Some word → IsNoMoment word → IsDeniedBy old new was is status (wrong_moment_text word)
-    → IsRunOf holds old new was is status a
-wrong-moment holds a word old new was is status m h d =
-    Denied d.told.0 (told-moment holds a word d.told.0 m h d.told.1) d.kept d.told.2
+pub wrong-moment : (holds : Holds) (clock : Clock) (a : Asked) (word : List ℕ) (old new was is : Option (List ℕ))
+    (status : ℕ) → a.moment ≡ Some word → NamesNoMoment clock word
+    → IsDeniedBy old new was is status (wrong_moment_text word) → IsRunOf holds clock old new was is status a
+wrong-moment holds clock a word old new was is status m h d =
+    Denied d.told.0 (told-moment holds clock a word d.told.0 m h d.told.1) d.kept d.told.2
 
 -- the issuer is none
-told-issuer : (holds : Holds) (a : Asked) (name : List ℕ) (fault : Fault) (moment : Option DateTime) (said : List ℕ)
-    → a.issuer ≡ Some name → IsMoment a.moment moment → IsIssuer holds name (Err fault)
-    → (said ≡ wrong_issuer_text name fault) ⊎ (said ≡ memory_text) → IsDenied holds a said
-told-issuer holds a name fault moment said n m h (inl e) = WrongIssuer name fault moment n m h e
-told-issuer holds a name fault moment said n m h (inr e) = NoMemory e
+told-issuer : (holds : Holds) (clock : Clock) (a : Asked) (name : List ℕ) (fault : Fault) (moment : Option DateTime)
+    (said : List ℕ) → a.issuer ≡ Some name → IsMoment clock a.moment moment → IsIssuer holds name (Err fault)
+    → (said ≡ wrong_issuer_text name fault) ⊎ (said ≡ memory_text) → IsDenied holds clock a said
+told-issuer holds clock a name fault moment said n m h (inl e) = WrongIssuer name fault moment n m h e
+told-issuer holds clock a name fault moment said n m h (inr e) = NoMemory e
 
 -- with an issuer, or none
-pub by-issuer : (holds : Holds) (a : Asked) (name : List ℕ) (moment : Option DateTime) (finding : Finding)
-    (issuer : Result TbsParts Fault) (old new was is : Option (List ℕ)) (status : ℕ)
-    → a.issuer ≡ Some name → IsMoment a.moment moment
+pub by-issuer : (holds : Holds) (clock : Clock) (a : Asked) (name : List ℕ) (moment : Option DateTime)
+    (finding : Finding) (issuer : Result TbsParts Fault) (old new was is : Option (List ℕ)) (status : ℕ)
+    → a.issuer ≡ Some name → IsMoment clock a.moment moment
     → IfSome (holds name) (λ source. Finds no_terms source finding) → issuer_in finding ≡ issuer
-    → RunsBy holds old new was is status a name moment issuer → IsRunOf holds old new was is status a
-by-issuer holds a name moment finding (Ok t) old new was is status n m h e r =
+    → RunsBy holds old new was is status a name moment issuer → IsRunOf holds clock old new was is status a
+by-issuer holds clock a name moment finding (Ok t) old new was is status n m h e r =
     Held (term_parts a.inspection (Some t) moment) (record {
       inspection = refl;
       issuer = subst (λ (o : Option (List ℕ)). IsIssuerOf holds o (Some t)) (sym n) (finding, h, e);
       moment = m;
     }) r
-by-issuer holds a name moment finding (Err fault) old new was is status n m h e r =
-    Denied r.told.0 (told-issuer holds a name fault moment r.told.0 n m (finding, h, e) r.told.1) r.kept r.told.2
+by-issuer holds clock a name moment finding (Err fault) old new was is status n m h e r =
+    Denied r.told.0 (told-issuer holds clock a name fault moment r.told.0 n m (finding, h, e) r.told.1) r.kept r.told.2
 
 -- without an issuer
-pub by-none : (holds : Holds) (a : Asked) (moment : Option DateTime) (old new was is : Option (List ℕ)) (status : ℕ)
-    → a.issuer ≡ None → IsMoment a.moment moment
+pub by-none : (holds : Holds) (clock : Clock) (a : Asked) (moment : Option DateTime) (old new was is : Option (List ℕ))
+    (status : ℕ) → a.issuer ≡ None → IsMoment clock a.moment moment
     → RunsOver holds old new was is status a (term_parts a.inspection None moment)
-    → IsRunOf holds old new was is status a
-by-none holds a moment old new was is status n m r =
+    → IsRunOf holds clock old new was is status a
+by-none holds clock a moment old new was is status n m r =
     Held (term_parts a.inspection None moment) (record {
       inspection = refl;
       issuer = subst (λ (o : Option (List ℕ)). IsIssuerOf holds o None) (sym n) tt;

@@ -4,12 +4,14 @@ use Rattle.rpki_cert.specs.Cert.{TbsParts}
 use Rattle.rpki_cert.specs.Profile.{rules_of}
 use Rattle.rpki_cert.specs.Rule.{Obeys}
 use Rattle.rpki_cert.specs.RuleError.{IsRuleError}
+use Rattle.rpki_cert.specs.declared.profile.Profile.{Profile}
 use Rattle.rpki_cert.specs.declared.profile.rule.CertRule.{CertRule}
 use Rattle.rpki_fields.specs.Object.{cert_of}
 use Rattle.rpki_fields.specs.declared.object.Object.{Object}
 use Rattle.rpkicert.specs.declared.profile.Inspection.{Inspection}
 use Rattle.rpkicert.specs.declared.violation.Violation.{Violation}
-use Rattle.rpkicert.specs.Profiled.{own_inspection}
+use Rattle.rpkicert.specs.Chosen.{IsChosen}
+use Rattle.rpkicert.specs.Profiled.{asked_inspection, own_inspection}
 
 -- the certificate breaks this rule, with this error
 pub record IsBroken (strict : Bool) (t : TbsParts) (rule : CertRule) (v : Violation) : Type 0 where
@@ -35,11 +37,12 @@ pub data AddsBroken (strict : Bool) (t : TbsParts) (rule : CertRule) (old new : 
 abbrev pub AreBrokenBy : Option Inspection → Option TbsParts → List Violation → Type 0
 AreBrokenBy None cert vs = vs ≡ []
 AreBrokenBy (Some inspection) None vs = vs ≡ []
-AreBrokenBy (Some inspection) (Some t) vs = AreBroken inspection.strict t (rules_of inspection.profile) vs
+AreBrokenBy (Some inspection) (Some t) vs =
+    (profile : Profile) × IsChosen inspection.choice t profile × AreBroken inspection.strict t (rules_of profile) vs
 
 -- the same of the certificate of an object: of the profile that is asked for; where it breaks no rule of that, of the
 -- profile of a signer
 abbrev pub AreViolations : Option Inspection → Object → List Violation → Type 0
 AreViolations asked x vs =
-    (AreBrokenBy asked (cert_of x) vs × (vs ≢ []))
-    ⊎ (AreBrokenBy asked (cert_of x) [] × AreBrokenBy (own_inspection asked x) (cert_of x) vs)
+    (AreBrokenBy (asked_inspection asked x) (cert_of x) vs × (vs ≢ []))
+    ⊎ (AreBrokenBy (asked_inspection asked x) (cert_of x) [] × AreBrokenBy (own_inspection asked x) (cert_of x) vs)

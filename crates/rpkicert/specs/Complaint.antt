@@ -3,8 +3,8 @@ use Rattle.std.specs.Prelude.{ℕ, nat_eq, nat_lt, ◌+◌, ◌-◌, ◌&&◌, �
 use Rattle.std.specs.Prelude.{List, [], ◌∷◌, ◌++◌, length, drop, codes, bytes_eq, unwrap_or, slice_get}
 use Rattle.std.specs.Prelude.{Option, Some, None, is_some}
 use Rattle.std.specs.List.{list_any, starts_with}
-use Rattle.rpkicert.specs.Request.{profile_of}
-use Rattle.rpkicert.specs.Shown.{visible}
+use Rattle.rpkicert.specs.Request.{choice_of}
+use Rattle.rpkicert.specs.Output.{visible}
 use Rattle.rpkicert.specs.Words.{usage_text}
 
 -- ---- what is said
@@ -26,7 +26,7 @@ abbrev pub twice : List ℕ → List ℕ
 twice option = said [] option (codes " is given twice")
 
 abbrev pub no_profile : List ℕ → List ℕ
-no_profile word = said (codes "--profile takes ta, ca, ee, detached or router, not ") word []
+no_profile word = said (codes "--profile takes auto, ta, ca, ee, detached or router, not ") word []
 
 abbrev pub lax_alone : List ℕ
 lax_alone = said (codes "--lax is for --profile") [] []
@@ -87,7 +87,7 @@ awaited words = awaiting (slice_get words (length words - 1))
 -- of a value of this option
 abbrev pub wrong_value : (option value : List ℕ) → Option (List ℕ)
 wrong_value option value =
-    if bytes_eq option (codes "--profile") && not (is_some (profile_of value)) then Some (no_profile value) else None
+    if bytes_eq option (codes "--profile") && not (is_some (choice_of value)) then Some (no_profile value) else None
 
 -- of a word that names this option, after these words
 abbrev pub wrong_named : (before : List (List ℕ)) → (option word : List ℕ) → Option (List ℕ)

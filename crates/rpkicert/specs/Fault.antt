@@ -8,10 +8,10 @@ use Rattle.rpki_der.specs.declared.error.DecodeError.TheVariants as der
 use Rattle.rpki_der.specs.ErrorText.{error_text}
 use Rattle.rpki.specs.ErrorContent.{validation_text}
 use Rattle.rpki.specs.declared.repository.error.ValidationError.{ValidationError}
-use Rattle.rpki_fields.specs.declared.kind.Kind.{Kind}
-use Rattle.rpki_fields.specs.Kind.{kind_text}
-use Rattle.rpki_fields.specs.PlaceText.{place_text}
-use Rattle.rpki_fields.specs.declared.place.Place.{Place}
+use Rattle.rpki_fields.specs.declared.object_type.ObjectType.{ObjectType}
+use Rattle.rpki_fields.specs.ObjectType.{kind_text}
+use Rattle.rpki_fields.specs.PartText.{text_of_part}
+use Rattle.rpki_fields.specs.declared.part.Part.{Part}
 use Rattle.std.specs.declared.io.ErrorKind.{ErrorKind}
 use Rattle.std.specs.declared.io.ErrorKind.TheVariants.{NotFound, PermissionDenied, IsADirectory}
 use Rattle.rpkicert.specs.declared.fault.Cause.{Cause}
@@ -74,7 +74,7 @@ fault_text (Unreadable cause) = unreadable_text cause
 fault_text TooLarge = codes "larger than 4000000 octets"
 fault_text OutOfMemory = codes "out of memory"
 fault_text Malformed = codes "malformed PEM"
-fault_text (Refused kind place e) = codes "not a " ++ kind_text kind ++ codes ": " ++ place_text place ++ error_text e
+fault_text (Refused kind place e) = codes "not a " ++ kind_text kind ++ codes ": " ++ text_of_part place ++ error_text e
 fault_text (Violated v) = codes "violates the profile: " ++ violation_text v
 fault_text (Unverified clause e) = clause_told clause (text_in e)
 fault_text NoCertificate = codes "not a certificate"
@@ -93,7 +93,7 @@ status_of NoCertificate = 1
 status_of OtherAlgorithm = 1
 
 -- the fault of a reader's error, of octets of this kind, in this place
-abbrev pub refusal : Kind → Option Place → DecodeError → Fault
+abbrev pub refusal : ObjectType → Option Part → DecodeError → Fault
 refusal kind place Truncated = Refused kind place Truncated
 refusal kind place BadTag = Refused kind place BadTag
 refusal kind place BadLength = Refused kind place BadLength

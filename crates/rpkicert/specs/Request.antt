@@ -8,6 +8,8 @@ use Rattle.clap.specs.declared.builder.action.ArgAction.TheVariants.{Append, Set
 use Rattle.rpki_fields.specs.declared.rendering.Form.{Form}
 use Rattle.rpki_fields.specs.declared.rendering.Form.TheVariants.{Text, Json}
 use Rattle.rpki_cert.specs.declared.profile.Profile.{Profile}
+use Rattle.rpkicert.specs.declared.choice.Choice.{Choice}
+use Rattle.rpkicert.specs.declared.choice.Choice.TheVariants.{Named, Auto}
 use Rattle.rpkicert.specs.declared.profile.Inspection.{Inspection}
 use Rattle.rpki_cert.specs.declared.profile.Profile.TheVariants.{Ta, Ca, Ee, DetachedEe, Router}
 
@@ -65,13 +67,17 @@ profile_of word =
     else if bytes_eq word (codes "router") then Some Router
     else None
 
+-- the profile of this name, or by `auto` the one of what a certificate says that it is
+abbrev pub choice_of : List ℕ → Option Choice
+choice_of word = if bytes_eq word (codes "auto") then Some Auto else option_map Named (profile_of word)
+
 -- how certificates are checked against the profile that was named, if one was; without one there are no names to be lax
 -- of
 abbrev pub named_inspection : (lax : Bool) → Option (List ℕ) → Option (Option Inspection)
 named_inspection true None = None
 named_inspection false None = Some None
 named_inspection lax (Some name) =
-    option_map (λ profile. Some (record { profile = profile; strict = not lax })) (profile_of name)
+    option_map (λ choice. Some (record { choice = choice; strict = not lax })) (choice_of name)
 
 -- the files, of which there is one at least
 abbrev pub some_files : Option (List (List ℕ)) → Option (List (List ℕ))

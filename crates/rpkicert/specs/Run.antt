@@ -1,22 +1,22 @@
 -- A run of what is asked for: first its terms, and then the files.
-use Rattle.std.specs.Prelude.{◌≡◌, ◌⊎◌, ℕ, Bool, List, [], ◌++◌, codes, Option, Some, None, Result, Ok, Err, IsOkAnd}
-use Rattle.std.specs.Prelude.{IsSome, IfSome, All, ℤ, pos, if◌then◌else◌, bytes_eq}
+use Rattle.std.specs.Prelude.{◌≡◌, ◌⊎◌, ℕ, Bool, true, List, [], ◌++◌, codes, Option, Some, None, Result, Ok, Err}
+use Rattle.std.specs.Prelude.{IsSome, IfSome, All, if◌then◌else◌}
 use Rattle.std.specs.Io.KnownBytes.{Appends}
 use Rattle.jiff.specs.Types.{DateTime}
-use Rattle.jiff.specs.Words.{civil_nanos, parse_timestamp, Error}
-use Rattle.rpki_time.specs.Time.{IsTimeNanos}
 use Rattle.rpki_cert.specs.Cert.{TbsParts}
 use Rattle.rpki_fields.specs.declared.object.Object.{Object}
 use Rattle.rpki_fields.specs.declared.object.Object.TheVariants.{Certificate, Crl, Manifest, Roa}
 use Rattle.rpki_fields.specs.declared.object.Object.TheVariants.{Aspa, SignedObject, OtherCertificate}
+use Rattle.rpki_fields.specs.declared.object.Object.TheVariants.{Checklist, TrustAnchorKey, Ghostbusters}
 use Rattle.rpki_fields.specs.declared.rendering.Form.{Form}
 use Rattle.rpkicert.specs.declared.fault.Fault.{Fault}
 use Rattle.rpkicert.specs.declared.fault.Fault.TheVariants.{NoCertificate, OtherAlgorithm}
 use Rattle.rpkicert.specs.Fault.{fault_text}
-use Rattle.rpkicert.specs.Finding.{Finding, Finds}
+use Rattle.rpkicert.specs.Moment.{Clock, is_now, IsMoment, NamesNoMoment}
+use Rattle.rpkicert.specs.Outcome.{Finding, Finds}
 use Rattle.rpkicert.specs.Request.{Asked}
-use Rattle.rpkicert.specs.Terms.{TermParts, term_parts, no_terms}
-use Rattle.rpkicert.specs.Shown.{line, ShownParts, IsSeenOf, IsRun}
+use Rattle.rpkicert.specs.Requirements.{TermParts, term_parts, no_terms}
+use Rattle.rpkicert.specs.Output.{line, OutputParts, IsSeenOf, IsRun}
 use Rattle.rpkicert.specs.Words.{Prints, memory_text, usage_text}
 
 -- what there is by a name: the octets, or None where there is no file; or nothing is known of it
@@ -25,26 +25,6 @@ Holds = List ℕ → Option (Option (List ℕ))
 
 -- ---- the terms
 
--- 9999-12-31T23:59:59Z, in nanoseconds since 1970-01-01 00:00:00 in UTC
-abbrev pub last_moment : ℤ
-last_moment = pos 253_402_300_799_000_000_000
-
--- The moment that a text names: as jiff reads an instant (RFC 3339 5.6); and the one that RFC 5280 4.1.2.5 names for no
--- well-defined expiration, which jiff has not.
-abbrev pub moment_of : List ℕ → Result ℤ Error
-moment_of text = if bytes_eq text (codes "9999-12-31T23:59:59Z") then Ok last_moment else parse_timestamp text
-
--- the word is the text of this moment; without a word there is none
-abbrev pub IsMoment : Option (List ℕ) → Option DateTime → Type 0
-IsMoment None None = Unit {0}
-IsMoment None (Some t) = ⊥
-IsMoment (Some word) None = ⊥
-IsMoment (Some word) (Some t) = moment_of word ≡ Ok (civil_nanos t)
-
--- the word is the text of no moment of the years 0 to 9999
-abbrev pub IsNoMoment : List ℕ → Type 0
-IsNoMoment word = IsOkAnd (moment_of word) IsTimeNanos → ⊥
-
 -- the certificate that an object is, as that of an issuer
 abbrev pub certificate_in : Object → Result TbsParts Fault
 certificate_in (Certificate c) = Ok c.tbs
@@ -52,6 +32,9 @@ certificate_in (Crl l) = Err NoCertificate
 certificate_in (Manifest m) = Err NoCertificate
 certificate_in (Roa r) = Err NoCertificate
 certificate_in (Aspa a) = Err NoCertificate
+certificate_in (Checklist o) = Err NoCertificate
+certificate_in (TrustAnchorKey o) = Err NoCertificate
+certificate_in (Ghostbusters o) = Err NoCertificate
 certificate_in (SignedObject o) = Err NoCertificate
 certificate_in (OtherCertificate c) = Err OtherAlgorithm
 
@@ -78,41 +61,47 @@ IsIssuerOf holds (Some name) None = ⊥
 IsIssuerOf holds (Some name) (Some t) = IsIssuer holds name (Ok t)
 
 -- objects are checked against what is asked for
-pub record AreTerms (holds : Holds) (a : Asked) (terms : TermParts) : Type 0 where
+pub record AreRequirements (holds : Holds) (clock : Clock) (a : Asked) (terms : TermParts) : Type 0 where
   pub inspection : terms.inspection ≡ a.inspection
   pub issuer : IsIssuerOf holds a.issuer terms.issuer
-  pub moment : IsMoment a.moment terms.moment
+  pub moment : IsMoment clock a.moment terms.moment
 
--- there is no such moment
+-- the clock has no moment; or the word is that of none, and how the program is used
 abbrev pub wrong_moment_text : List ℕ → List ℕ
-wrong_moment_text word = codes "rpkicert: " ++ line word (codes "no moment") ++ usage_text
+wrong_moment_text word =
+    if is_now word then codes "rpkicert: --at now: the clock has no moment of the years 0 to 9999\n"
+    else codes "rpkicert: --at "
+    ++ line word (codes "not a moment such as 2026-11-28T12:00:00Z, nor now") ++ usage_text
 
 -- the file of this name has no issuer, and why
 abbrev pub wrong_issuer_text : List ℕ → Fault → List ℕ
 wrong_issuer_text name fault = codes "rpkicert: " ++ line name (fault_text fault)
 
--- Why nothing is shown: the word is no moment; or it is one, and the file has no certificate; or allocation failed.
-pub data IsDenied (holds : Holds) (a : Asked) (text : List ℕ) : Type 0 where
-  WrongMoment : (word : List ℕ) → a.moment ≡ Some word → IsNoMoment word → text ≡ wrong_moment_text word
-      → IsDenied holds a text
+-- Why nothing is shown: the word names no moment; or it names one, and the file has no certificate; or allocation
+-- failed.
+pub data IsDenied (holds : Holds) (clock : Clock) (a : Asked) (text : List ℕ) : Type 0 where
+  WrongMoment : (word : List ℕ) → a.moment ≡ Some word → NamesNoMoment clock word → text ≡ wrong_moment_text word
+      → IsDenied holds clock a text
   WrongIssuer : (name : List ℕ) → (fault : Fault) → (moment : Option DateTime) → a.issuer ≡ Some name
-      → IsMoment a.moment moment → IsIssuer holds name (Err fault) → text ≡ wrong_issuer_text name fault
-      → IsDenied holds a text
-  NoMemory : text ≡ memory_text → IsDenied holds a text
+      → IsMoment clock a.moment moment → IsIssuer holds name (Err fault) → text ≡ wrong_issuer_text name fault
+      → IsDenied holds clock a text
+  NoMemory : text ≡ memory_text → IsDenied holds clock a text
 
 -- ---- the run
 
 -- what is seen of the file of this name, where it is known what files hold
-abbrev pub Sees : Holds → (check : Bool) → Form → TermParts → List ℕ → ShownParts → Type 0
+abbrev pub Sees : Holds → (check : Bool) → Form → TermParts → List ℕ → OutputParts → Type 0
 Sees holds check form terms name s = IfSome (holds name) (λ source. IsSeenOf check form terms name source s)
 
 -- The run of what is asked for: of the files, checked against the terms; or nothing but why there are none, with the
 -- status 2.
-pub data IsRunOf (holds : Holds) (old new was is : Option (List ℕ)) (status : ℕ) (a : Asked) : Type 0 where
-  Held : (terms : TermParts) → AreTerms holds a terms
-      → IsRun (Sees holds a.check a.form terms) a.files old new was is status → IsRunOf holds old new was is status a
-  Denied : (text : List ℕ) → IsDenied holds a text → Appends old new [] → Prints was is text 2 status
-      → IsRunOf holds old new was is status a
+pub data IsRunOf (holds : Holds) (clock : Clock) (old new was is : Option (List ℕ)) (status : ℕ)
+    (a : Asked) : Type 0 where
+  Held : (terms : TermParts) → AreRequirements holds clock a terms
+      → IsRun (Sees holds a.check a.form terms) a.files old new was is status
+      → IsRunOf holds clock old new was is status a
+  Denied : (text : List ℕ) → IsDenied holds clock a text → Appends old new [] → Prints was is text 2 status
+      → IsRunOf holds clock old new was is status a
 
 -- the run of the files, checked against these terms
 abbrev pub RunsOver : Holds → (old new was is : Option (List ℕ)) → ℕ → Asked → TermParts → Type 0
@@ -135,18 +124,25 @@ RunsBy holds old new was is status a name moment (Err fault) =
 abbrev pub AreKnown : Holds → List (List ℕ) → Type 0
 AreKnown holds names = All (λ name. IsSome (holds name)) names
 
--- what there is by the names of the issuer, if there is one, and of the files is known
-pub record IsKnown (holds : Holds) (a : Asked) : Type 0 where
+-- what the clock has is known, where the word is `now`
+abbrev pub IsClockKnown : Clock → List ℕ → Type 0
+IsClockKnown clock word = is_now word ≡ true → IsSome clock
+
+-- what there is by the names of the issuer, if there is one, and of the files is known, and what the clock has, where
+-- its moment is asked for
+pub record IsKnown (holds : Holds) (clock : Clock) (a : Asked) : Type 0 where
   pub issuer : IfSome a.issuer (λ name. IsSome (holds name))
+  pub moment : IfSome a.moment (IsClockKnown clock)
   pub files : AreKnown holds a.files
 
 -- each run of what is asked for that ends with the status 0 writes these texts, to the output and to the faults
-abbrev pub EndsWellWith : Holds → Asked → (output said : List ℕ) → Type 0
-EndsWellWith holds a output said =
-    (old new was is : Option (List ℕ)) → IsRunOf holds old new was is 0 a → Appends old new output × Appends was is said
+abbrev pub EndsWellWith : Holds → Clock → Asked → (output said : List ℕ) → Type 0
+EndsWellWith holds clock a output said =
+    (old new was is : Option (List ℕ)) → IsRunOf holds clock old new was is 0 a
+    → Appends old new output × Appends was is said
 
 -- where one run of it ends so, each that does writes the same
-abbrev pub RunsAlike : Holds → Asked → Type 0
-RunsAlike holds a =
-    (old new was is : Option (List ℕ)) → IsRunOf holds old new was is 0 a
-    → (output : List ℕ) × (said : List ℕ) × EndsWellWith holds a output said
+abbrev pub RunsAlike : Holds → Clock → Asked → Type 0
+RunsAlike holds clock a =
+    (old new was is : Option (List ℕ)) → IsRunOf holds clock old new was is 0 a
+    → (output : List ℕ) × (said : List ℕ) × EndsWellWith holds clock a output said

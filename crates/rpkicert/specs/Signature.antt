@@ -4,6 +4,7 @@ use Rattle.rpki_cert.specs.Cert.{CertParts}
 use Rattle.rpki_fields.specs.declared.object.Object.{Object}
 use Rattle.rpki_fields.specs.declared.object.Object.TheVariants.{Certificate, Crl, Manifest, Roa}
 use Rattle.rpki_fields.specs.declared.object.Object.TheVariants.{Aspa, SignedObject, OtherCertificate}
+use Rattle.rpki_fields.specs.declared.object.Object.TheVariants.{Checklist, TrustAnchorKey, Ghostbusters}
 use Rattle.rpkicert.specs.declared.fault.Clause.{Clause}
 use Rattle.rpkicert.specs.declared.fault.Clause.TheVariants as C
 use Rattle.rpkicert.specs.declared.fault.Fault.{Fault}
@@ -12,7 +13,7 @@ use Rattle.rpkicert.specs.declared.fault.Fault.TheVariants.{Violated, Unverified
 use Rattle.rpkicert.specs.declared.signature.Signature.{Signature}
 use Rattle.rpkicert.specs.declared.signature.Signature.TheVariants.{Good, Own, Bad, Unchecked}
 use Rattle.rpkicert.specs.Fault.{is_bad_signature}
-use Rattle.rpkicert.specs.Terms.{is_self_issued}
+use Rattle.rpkicert.specs.Requirements.{is_self_issued}
 
 -- ---- words
 
@@ -44,6 +45,9 @@ signature_alone (Crl l) = Unchecked
 signature_alone (Manifest m) = Own
 signature_alone (Roa r) = Own
 signature_alone (Aspa a) = Own
+signature_alone (Checklist o) = Own
+signature_alone (TrustAnchorKey o) = Own
+signature_alone (Ghostbusters o) = Own
 signature_alone (SignedObject o) = Own
 signature_alone (OtherCertificate c) = Unchecked
 

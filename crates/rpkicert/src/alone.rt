@@ -3,14 +3,14 @@
 ghost use Rattle.std.specs.Prelude.{◌≡◌, option_map};
 ghost use Rattle.std.specs.Option.{option_copied};
 ghost use Rattle.rpki_cert.specs.Known.{is_memory};
-ghost use Rattle.rpkicert.specs.Terms.{signed_of, IsSignedRight, IsSignedWrong, KeepsResources, BreaksResources};
-ghost use Rattle.rpkicert.specs.Terms.{HoldsAlone, BreaksAlone};
-ghost use Rattle.rpkicert.specs.TermsView.{ChecksOne, HoldsOne, Judges, judged_by};
+ghost use Rattle.rpkicert.specs.Requirements.{signed_of, IsSignedRight, IsSignedWrong, KeepsResources, BreaksResources};
+ghost use Rattle.rpkicert.specs.Requirements.{HoldsAlone, BreaksAlone};
+ghost use Rattle.rpkicert.specs.RequirementsView.{ChecksOne, HoldsOne, Judges, judged_by};
 ghost use Rattle.rpkicert.specs.declared.fault.Clause.TheVariants as C;
 
 use crate::fault::{Clause, Fault};
+use crate::requirements::by;
 use crate::signed::PROVIDER;
-use crate::terms::by;
 use rpki::der::DecodeError;
 use rpki::repository::error::ValidationError;
 use rpki_fields::Object;
@@ -26,6 +26,9 @@ pub fn signed(object: &Object) -> Option<&SignedObject>
         Object::Manifest(manifest) => Some(manifest.object()),
         Object::Roa(origins) => Some(origins.object()),
         Object::Aspa(attestation) => Some(attestation.object()),
+        Object::Checklist(object) => Some(object),
+        Object::TrustAnchorKey(object) => Some(object),
+        Object::Ghostbusters(object) => Some(object),
         Object::SignedObject(object) => Some(object),
         _ => None,
     }

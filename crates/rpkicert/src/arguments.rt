@@ -6,7 +6,7 @@ ghost use Rattle.std.specs.Vec.Iter.{into_iter_items};
 ghost use Rattle.rpkicert.specs.Arguments.{wordless_of, wordless_text};
 ghost use Rattle.rpkicert.specs.declared.arguments.Wordless.TheVariants.{OutOfMemory};
 
-use crate::words::{NOT_UTF8, OUT_OF_MEMORY};
+use crate::texts::{NOT_UTF8, OUT_OF_MEMORY};
 use std::alloc::Global;
 use std::io::ErrorKind;
 use std::{env, io};

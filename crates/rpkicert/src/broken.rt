@@ -1,10 +1,11 @@
 //! All of the rules of a profile that a certificate breaks.
 
-ghost use Rattle.std.specs.Prelude.{IfOk, OnOk};
+ghost use Rattle.std.specs.Prelude.{IfOk, OnOk, Some};
 ghost use Rattle.std.specs.Option.{option_copied};
 ghost use Rattle.rpkicert.specs.Broken.{AddsBroken, AreBroken, AreBrokenBy, AreViolations};
 
-use crate::profile::{Inspection, own_inspection};
+use crate::choice::chosen;
+use crate::profile::{Inspection, asked_inspection, own_inspection};
 use crate::violation::Violation;
 use rpki_cert::{CertRule, TbsCert};
 use rpki_fields::Object;
@@ -44,7 +45,19 @@ fn broken(
     Ok(all)
 }
 
-/// The same of the rules of a profile, where one is asked for, and there is a certificate.
+/// The same of the rules of the profile that is chosen for the certificate.
+fn broken_of(
+    alloc: Global,
+    inspection: Inspection,
+    tbs: &TbsCert,
+) -> Result<Vec<Violation>, AllocError>
+    ensures { IfOk result (λ vs. AreBrokenBy (Some inspection) (Some tbs.now) vs.items) }
+{
+    let profile = chosen(inspection.choice, tbs);
+    broken(alloc, inspection.strict, tbs, profile.rules())
+}
+
+/// The same, where one is asked for, and there is a certificate.
 fn broken_by(
     alloc: Global,
     inspection: Option<Inspection>,
@@ -56,7 +69,7 @@ fn broken_by(
         None => Ok(Vec::new(alloc)),
         Some(inspection) => match cert {
             None => Ok(Vec::new(alloc)),
-            Some(tbs) => broken(alloc, inspection.strict, tbs, inspection.profile.rules()),
+            Some(tbs) => broken_of(alloc, inspection, tbs),
         },
     }
 }
@@ -72,7 +85,7 @@ pub fn violations(
 ) -> Result<Vec<Violation>, AllocError>
     ensures { IfOk result (λ vs. AreViolations asked object.now vs.items) }
 {
-    let all = broken_by(alloc, asked, object.cert())?;
+    let all = broken_by(alloc, asked_inspection(asked, object), object.cert())?;
     if all.is_empty() {
         return broken_by(alloc, own_inspection(asked, object), object.cert());
     }

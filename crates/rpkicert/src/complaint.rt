@@ -7,9 +7,9 @@ ghost use Rattle.rpkicert.specs.Complaint.{awaited, wrong_value, wrong_named, wr
 ghost use Rattle.rpkicert.specs.Complaint.{wrong_at_end, wrong_behind};
 ghost use Rattle.rpkicert.specs.ComplaintView.{text_of, texts_of, complaint_of};
 
-use crate::profile::profile_of;
-use crate::shown::push_visible;
-use crate::words::USAGE;
+use crate::choice::choice_of;
+use crate::output::push_visible;
+use crate::texts::USAGE;
 use rpki_fields::after;
 use std::alloc::{AllocError, Global};
 
@@ -143,8 +143,8 @@ fn awaited(words: &[String]) -> Option<&[u8]>
 fn wrong_value<'a>(option: &[u8], value: &'a [u8]) -> Option<Wrong<'a>>
     ensures { option_map text_of result ≡ wrong_value option.now value.entry.now }
 {
-    if is(option, b"--profile") && profile_of(value).is_none() {
-        let front = b"--profile takes ta, ca, ee, detached or router, not ";
+    if is(option, b"--profile") && choice_of(value).is_none() {
+        let front = b"--profile takes auto, ta, ca, ee, detached or router, not ";
         return Some(said(front, value, b""));
     }
     None

@@ -2,8 +2,8 @@
 
 ghost use Rattle.std.specs.Prelude.{◌≡◌, IfOk, ◌++◌, codes, string_bytes};
 ghost use Rattle.rpki_der.specs.ErrorText.{error_text};
-ghost use Rattle.rpki_fields.specs.Kind.{kind_text};
-ghost use Rattle.rpki_fields.specs.PlaceText.{place_text};
+ghost use Rattle.rpki_fields.specs.ObjectType.{kind_text};
+ghost use Rattle.rpki_fields.specs.PartText.{text_of_part};
 ghost use Rattle.rpkicert.specs.Fault.{cause_of, unreadable_text, clause_text, fault_text, status_of, refusal};
 ghost use Rattle.rpkicert.specs.Fault.{is_bad_signature, clause_told, text_in};
 ghost use Rattle.rpkicert.specs.Violation.{violation_text};
@@ -11,7 +11,7 @@ ghost use Rattle.rpkicert.specs.Violation.{violation_text};
 use crate::violation::{Violation, has_section};
 use rpki::der::DecodeError;
 use rpki::repository::error::ValidationError;
-use rpki_fields::{Kind, Place, text_of_place};
+use rpki_fields::{ObjectType, Part, text_of_part};
 use std::alloc::{AllocError, AllocFailed, Global};
 use std::io::ErrorKind;
 
@@ -114,7 +114,7 @@ pub enum Fault {
     /// It begins as a text of RFC 7468, and isn't exactly one certificate in that encoding.
     Malformed,
     /// Its octets are of this kind, and no such object: wrong in this place, where one is known.
-    Refused(Kind, Option<Place>, DecodeError),
+    Refused(ObjectType, Option<Part>, DecodeError),
     /// The certificate in it violates the profile.
     Violated(Violation),
     /// The object breaks this clause: by itself, of the issuer that is asked for, or at the moment.
@@ -129,15 +129,15 @@ pub enum Fault {
 /// That octets of this kind are no such object, and why.
 fn refused_text(
     alloc: Global,
-    kind: Kind,
-    place: Option<Place>,
+    kind: ObjectType,
+    place: Option<Part>,
     e: DecodeError,
 ) -> Result<String, AllocError>
     ensures { IfOk result (λ text. string_bytes text
-        ≡ codes "not a " ++ kind_text kind ++ codes ": " ++ place_text place ++ error_text e) }
+        ≡ codes "not a " ++ kind_text kind ++ codes ": " ++ text_of_part place ++ error_text e) }
 {
     let name = kind.text();
-    let place = text_of_place(place);
+    let place = text_of_part(place);
     format!(in alloc; "not a {name}: {place}{e}")
 }
 
@@ -228,7 +228,7 @@ impl<T: Drop> From<AllocFailed<T>> for Fault {
 
 /// The fault of a reader's error, of octets of this kind, in this place. An allocation failure is a fault of its own,
 /// and no error of the octets.
-pub fn refusal(kind: Kind, place: Option<Place>, e: DecodeError) -> Fault
+pub fn refusal(kind: ObjectType, place: Option<Part>, e: DecodeError) -> Fault
     ensures { result ≡ refusal kind place e }
 {
     match e {

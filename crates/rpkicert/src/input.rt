@@ -1,7 +1,7 @@
 //! Files, read to their end.
 
 ghost use Rattle.std.specs.Prelude.{IfSome};
-ghost use Rattle.rpkicert.specs.Finding.{IsReadFrom};
+ghost use Rattle.rpkicert.specs.Outcome.{IsReadFrom};
 ghost use Rattle.rpkicert.specs.View.{read_of};
 
 use crate::fault::{Cause, Fault};

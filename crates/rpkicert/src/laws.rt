@@ -4,12 +4,16 @@ ghost use Rattle.std.specs.Prelude.{◌≡◌, ◌↔◌, ℕ, Bool, List, Optio
 ghost use Rattle.rpki_fields.specs.declared.rendering.Form.{Form};
 ghost use Rattle.rpki_fields.specs.AtMostOne.{AtMostOne};
 ghost use Rattle.rpki_fields.specs.declared.object.Object.{Object};
+ghost use Rattle.rpki_cert.specs.Cert.{TbsParts};
+ghost use Rattle.rpkicert.specs.Chosen.{IsChosen};
+ghost use Rattle.rpkicert.specs.declared.choice.Choice.{Choice};
 ghost use Rattle.rpkicert.specs.declared.violation.Violation.{Violation as BrokenRule};
 ghost use Rattle.rpkicert.specs.declared.signature.Signature.{Signature};
-ghost use Rattle.rpkicert.specs.Finding.{IsObject, FoundParts, IsFoundAlone};
+ghost use Rattle.rpkicert.specs.Outcome.{IsObject, OutcomeParts, IsFoundAlone};
+ghost use Rattle.rpkicert.specs.Moment.{Clock};
 ghost use Rattle.rpkicert.specs.Request.{Asked};
-ghost use Rattle.rpkicert.specs.Terms.{TermParts};
-ghost use Rattle.rpkicert.specs.Shown.{IsTextOf, HasOneGoodAnswer, HasOneGoodText};
+ghost use Rattle.rpkicert.specs.Requirements.{TermParts};
+ghost use Rattle.rpkicert.specs.Output.{IsTextOf, HasOneGoodAnswer, HasOneGoodText};
 ghost use Rattle.rpkicert.specs.Run.{Holds, IsKnown, RunsAlike};
 
 use crate::violation::Violation;
@@ -25,7 +29,7 @@ pub fn one_text()
 /// Where an object is found in a file, and holds, nothing else is found; and where it is shown, nothing else is seen;
 /// unless allocation fails. Where all certificates in a file are shown, they are shown alike each time that all are.
 pub fn one_answer()
-    ensures found { (terms : TermParts) (source : Option (List ℕ)) (found : FoundParts)
+    ensures found { (terms : TermParts) (source : Option (List ℕ)) (found : OutcomeParts)
         → IsFoundAlone terms source found }
     ensures seen { (check : Bool) (form : Form) (terms : TermParts) (name : List ℕ) (source : Option (List ℕ))
         → HasOneGoodAnswer check form terms name source }
@@ -35,7 +39,12 @@ pub fn one_answer()
 
 /// Where a run of what is asked for ends with the status 0, each run of it that does writes the same.
 pub fn one_output()
-    ensures { (holds : Holds) (a : Asked) → IsKnown holds a → RunsAlike holds a }
+    ensures { (holds : Holds) (clock : Clock) (a : Asked) → IsKnown holds clock a → RunsAlike holds clock a }
+{}
+
+/// Of a certificate one profile at most is chosen.
+pub fn one_profile()
+    ensures { (choice : Choice) (t : TbsParts) → AtMostOne (IsChosen choice t) }
 {}
 
 /// Violations are equal exactly where their rules are one and their errors are equal.

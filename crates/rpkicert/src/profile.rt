@@ -2,10 +2,12 @@
 
 ghost use Rattle.std.specs.Prelude.{◌≡◌, Some, MatchResult};
 ghost use Rattle.std.specs.Option.{option_copied};
-ghost use Rattle.rpkicert.specs.Profiled.{end_profile, own_inspection, Inspects, IsProfiled, IsUnprofiled};
-ghost use Rattle.rpkicert.specs.Request.{profile_of};
+ghost use Rattle.rpkicert.specs.Requirements.{signed_of};
+ghost use Rattle.rpkicert.specs.Profiled.{asked_inspection, choice_for, end_profile, own_inspection, Inspects};
+ghost use Rattle.rpkicert.specs.Profiled.{InspectsAs, InspectsBoth, IsProfiled, IsUnprofiled};
 
 use crate::alone::signed;
+use crate::choice::{Choice, chosen};
 use crate::fault::Fault;
 use crate::violation::Violation;
 use rpki_cert::{Profile, TbsCert};
@@ -15,30 +17,11 @@ use rpki_objects::SignedObject;
 /// The type of a signed checklist: `id-ct-signedChecklist` (RFC 9323 3).
 const CHECKLIST: &[u8] = &[42, 134, 72, 134, 247, 13, 1, 9, 16, 1, 48];
 
-/// The profile of this name.
-pub fn profile_of(word: &[u8]) -> Option<Profile>
-    ensures { result ≡ profile_of word.now }
-{
-    if word == b"ta".as_slice() {
-        Some(Profile::Ta)
-    } else if word == b"ca".as_slice() {
-        Some(Profile::Ca)
-    } else if word == b"ee".as_slice() {
-        Some(Profile::Ee)
-    } else if word == b"detached".as_slice() {
-        Some(Profile::DetachedEe)
-    } else if word == b"router".as_slice() {
-        Some(Profile::Router)
-    } else {
-        None
-    }
-}
-
 /// How a certificate is checked against a profile.
 #[derive(Clone, Copy, Debug, PartialEq, Eq)]
 pub struct Inspection {
-    /// The profile.
-    pub profile: Profile,
+    /// Which profile.
+    pub choice: Choice,
     /// Whether the names are checked against theirs.
     pub strict: bool,
 }
@@ -61,28 +44,64 @@ pub fn own_inspection(asked: Option<Inspection>, object: &Object) -> Option<Insp
 {
     match signed(object) {
         Some(object) => {
-            let profile = end_profile(object);
+            let choice = Choice::Named(end_profile(object));
             let strict = match asked {
                 Some(inspection) => inspection.strict,
                 None => true,
             };
-            Some(Inspection { profile, strict })
+            Some(Inspection { choice, strict })
         }
         None => None,
     }
 }
 
-/// Whether the certificate has the profile; the violation is of the rule that is broken first.
-fn inspect_by(inspection: Inspection, tbs: &TbsCert) -> Result<(), Fault>
-    ensures { Inspects (Some inspection) (Some tbs.now) result }
+/// Which profile the object's certificate is to have, where this is asked for: that of a signer keeps the one of an end
+/// entity in place of its own.
+fn choice_for(choice: Choice, object: &Object) -> Choice
+    ensures { result ≡ choice_for choice (signed_of object.now) }
 {
-    match tbs.test(inspection.profile, inspection.strict) {
+    match choice {
+        Choice::Named(profile) => Choice::Named(profile),
+        Choice::Auto => match signed(object) {
+            Some(object) => Choice::Named(end_profile(object)),
+            None => Choice::Auto,
+        },
+    }
+}
+
+/// How the object's certificate is checked against the profile that is asked for, if one is.
+pub fn asked_inspection(asked: Option<Inspection>, object: &Object) -> Option<Inspection>
+    ensures { result ≡ asked_inspection asked object.now }
+{
+    match asked {
+        Some(inspection) => {
+            let choice = choice_for(inspection.choice, object);
+            let strict = inspection.strict;
+            Some(Inspection { choice, strict })
+        }
+        None => None,
+    }
+}
+
+/// Whether the certificate has this profile; the violation is of the rule that is broken first.
+fn inspect_as(profile: Profile, strict: bool, tbs: &TbsCert) -> Result<(), Fault>
+    ensures { InspectsAs profile strict tbs.now result }
+{
+    match tbs.test(profile, strict) {
         Ok(()) => Ok(()),
-        Err(rule) => match tbs.inspect(inspection.profile, inspection.strict) {
+        Err(rule) => match tbs.inspect(profile, strict) {
             Ok(()) => Ok(()),
             Err(error) => Err(Fault::Violated(Violation { rule, error })),
         },
     }
+}
+
+/// Whether the certificate has the profile that is chosen for it.
+fn inspect_by(inspection: Inspection, tbs: &TbsCert) -> Result<(), Fault>
+    ensures { Inspects (Some inspection) (Some tbs.now) result }
+{
+    let profile = chosen(inspection.choice, tbs);
+    inspect_as(profile, inspection.strict, tbs)
 }
 
 /// Whether there is a certificate that has the profile, where one is asked for.
@@ -100,6 +119,20 @@ fn inspect(inspection: Option<Inspection>, cert: Option<&TbsCert>) -> Result<(),
     }
 }
 
+/// Whether there is a certificate that has both profiles, where they are asked for.
+///
+/// The errors are those of [inspect], of the first profile first.
+fn inspect_both(
+    first: Option<Inspection>,
+    own: Option<Inspection>,
+    cert: Option<&TbsCert>,
+) -> Result<(), Fault>
+    ensures { InspectsBoth first own (option_copied cert.entry) result }
+{
+    inspect(first, cert)?;
+    inspect(own, cert)
+}
+
 /// Whether the object's certificate has the profile that is asked for, if one is; and, where it is that of a signer,
 /// that of an end entity.
 ///
@@ -108,6 +141,7 @@ fn inspect(inspection: Option<Inspection>, cert: Option<&TbsCert>) -> Result<(),
 pub fn profiled(asked: Option<Inspection>, object: &Object) -> Result<(), Fault>
     ensures { MatchResult result (λ _. IsProfiled asked object.now) (IsUnprofiled asked object.now) }
 {
-    inspect(asked, object.cert())?;
-    inspect(own_inspection(asked, object), object.cert())
+    let first = asked_inspection(asked, object);
+    let own = own_inspection(asked, object);
+    inspect_both(first, own, object.cert())
 }

@@ -6,7 +6,8 @@ ghost use Rattle.rpkicert.specs.Request.{flag, help_flag, valued, files_rule, co
 ghost use Rattle.rpkicert.specs.Request.{form_of, named_inspection, some_files, request_of};
 ghost use Rattle.rpkicert.specs.RequestView.{asked_of, rows_in};
 
-use crate::profile::{Inspection, profile_of};
+use crate::choice::choice_of;
+use crate::profile::Inspection;
 use clap::error::ErrorKind;
 use clap::{Arg, ArgAction, ArgMatches, Command};
 use rpki_fields::Form;
@@ -121,9 +122,9 @@ fn named_inspection(lax: bool, name: Option<&str>) -> Option<Option<Inspection>>
     ensures { result ≡ named_inspection lax (option_map (λ name. name.now) name.entry) }
 {
     match name {
-        Some(name) => match profile_of(name.as_bytes()) {
-            Some(profile) => Some(Some(Inspection {
-                profile,
+        Some(name) => match choice_of(name.as_bytes()) {
+            Some(choice) => Some(Some(Inspection {
+                choice,
                 strict: !lax,
             })),
             None => None,

@@ -8,21 +8,21 @@ ghost use Rattle.rpkicert.specs.Arguments.{wordless_text};
 ghost use Rattle.rpkicert.specs.ComplaintView.{complaint_of};
 ghost use Rattle.rpkicert.specs.Run.{IsRunOf};
 ghost use Rattle.rpkicert.specs.RunView.{RunsAt, RunsTo, RunsOf, RunsOn};
-ghost use Rattle.rpkicert.specs.Shown.{WritesBoth};
-ghost use Rattle.rpkicert.specs.ShownView.{seen_of, text_in};
+ghost use Rattle.rpkicert.specs.Output.{WritesBoth};
+ghost use Rattle.rpkicert.specs.OutputView.{seen_of, text_in};
 ghost use Rattle.rpkicert.specs.Words.{Prints, PrintsAlone};
 
 use crate::arguments::Wordless;
 use crate::complaint::complaint;
-use crate::finding::{Found, find_issuer};
-use crate::moment::moment_of;
+use crate::files::seen;
+use crate::issuer::{issuer_of, wrong_issuer, wrong_moment};
+use crate::moment::moment_at;
+use crate::outcome::{Outcome, find_issuer};
+use crate::output::Output;
 use crate::request::{Request, is_given, matched};
-use crate::seen::seen;
-use crate::settled::{issuer_of, wrong_issuer, wrong_moment};
-use crate::shown::Shown;
+use crate::requirements::Requirements;
 use crate::sources::Sources;
-use crate::terms::Terms;
-use crate::words::{HELP, OUT_OF_MEMORY, VERSION};
+use crate::texts::{HELP, OUT_OF_MEMORY, VERSION};
 use clap::ArgMatches;
 use rpki::der::write_whole;
 use rpki::repository::x509::Time;
@@ -33,7 +33,7 @@ use std::io::Write;
 
 /// Writes what is shown of a file: first to the output. Returns the exit status.
 fn write_shown<W: Write, F: Write>(
-    shown: &Result<Shown, AllocError>,
+    shown: &Result<Output, AllocError>,
     out: &mut W,
     err: &mut F,
 ) -> io::Result<u8>
@@ -58,7 +58,7 @@ fn write_shown<W: Write, F: Write>(
 fn show_each<S: Sources, W: Write, F: Write>(
     alloc: Global,
     request: &Request<'_, '_>,
-    terms: &Terms<'_>,
+    terms: &Requirements<'_>,
     sources: &S,
     out: &mut W,
     err: &mut F,
@@ -138,7 +138,7 @@ fn show_held<S: Sources, W: Write, F: Write>(
     ensures { RunsTo (S.holds sources.now) (W.contents out.old) (W.contents out.new) (F.contents err.old)
         (F.contents err.new) result request.now (option_copied issuer.entry) moment }
 {
-    let terms = Terms {
+    let terms = Requirements {
         inspection: request.inspection,
         issuer,
         moment,
@@ -152,7 +152,7 @@ fn show_issued<S: Sources, W: Write, F: Write>(
     alloc: Global,
     request: &Request<'_, '_>,
     name: &str,
-    found: &Found,
+    found: &Outcome,
     moment: Option<Time>,
     sources: &S,
     out: &mut W,
@@ -177,8 +177,8 @@ fn show_at<S: Sources, W: Write, F: Write>(
     out: &mut W,
     err: &mut F,
 ) -> u8
-    ensures { RunsAt (S.holds sources.now) (W.contents out.old) (W.contents out.new) (F.contents err.old)
-        (F.contents err.new) result request.now moment }
+    ensures { RunsAt (S.holds sources.now) (S.clock sources.now) (W.contents out.old) (W.contents out.new)
+        (F.contents err.old) (F.contents err.new) result request.now moment }
 {
     match request.issuer {
         None => show_held(alloc, request, None, moment, sources, out, err),
@@ -198,12 +198,12 @@ fn show_all<S: Sources, W: Write, F: Write>(
     out: &mut W,
     err: &mut F,
 ) -> u8
-    ensures { IsRunOf (S.holds sources.now) (W.contents out.old) (W.contents out.new) (F.contents err.old)
-        (F.contents err.new) result (asked_of request.now) }
+    ensures { IsRunOf (S.holds sources.now) (S.clock sources.now) (W.contents out.old) (W.contents out.new)
+        (F.contents err.old) (F.contents err.new) result (asked_of request.now) }
 {
     match request.moment {
         None => show_at(alloc, request, None, sources, out, err),
-        Some(word) => match moment_of(word) {
+        Some(word) => match moment_at(sources, word) {
             Some(moment) => show_at(alloc, request, Some(moment), sources, out, err),
             None => deny(wrong_moment(alloc, word), err),
         },
@@ -225,8 +225,8 @@ fn answer<S: Sources, W: Write, F: Write>(
         (W.contents out.new) HELP.now 0 n (err.new ≡ err.old)) }
     ensures version { wanted_by matches.now ≡ Some version → IfOk result (λ n. PrintsAlone (W.contents out.old)
         (W.contents out.new) VERSION.now 0 n (err.new ≡ err.old)) }
-    ensures files { AskedIn matches.now result (IsRunOf (S.holds files.now) (W.contents out.old) (W.contents out.new)
-        (F.contents err.old) (F.contents err.new)) }
+    ensures files { AskedIn matches.now result (IsRunOf (S.holds files.now) (S.clock files.now) (W.contents out.old)
+        (W.contents out.new) (F.contents err.old) (F.contents err.new)) }
     ensures usage { wanted_by matches.now ≡ None → IfOk result (λ n. PrintsAlone (F.contents err.old)
         (F.contents err.new) (complaint_of words.now) 2 n (out.new ≡ out.old)) }
     ensures kept { IfErr result (λ _. (out.new ≡ out.old) × (err.new ≡ err.old)) }
@@ -247,9 +247,9 @@ fn answer<S: Sources, W: Write, F: Write>(
 ///
 /// `--help` and `--version` print a text. Else each file that the words name is shown, in order: the object that it is
 /// by its fields and items, and a fault by a line among the faults; with `--check` a line for either to the output. A
-/// text with several certificates is shown as so many files. If the words name an issuer that is no certificate, or a
-/// moment that isn't one, only that is told, among the faults. Of other words what is wrong with them first, and how
-/// the program is used.
+/// text with several certificates is shown as so many files. The moment `now` is that of the clock, which no other word
+/// asks for. If the words name an issuer that is no certificate, or a moment that isn't one, only that is told, among
+/// the faults. Of other words what is wrong with them first, and how the program is used.
 ///
 /// The status is 0 if all is well; 1 if a file is no such object, breaks a rule of its own, violates the profile, is of
 /// another issuer, or holds at another time; 2 if one can't be read, without the issuer or the moment, for other words,
@@ -266,8 +266,8 @@ pub fn run<S: Sources, W: Write, F: Write>(
         HELP.now 0 n (err.new ≡ err.old)) }
     ensures version { AskVersion words.now → IfOk result (λ n. PrintsAlone (W.contents out.old) (W.contents out.new)
         VERSION.now 0 n (err.new ≡ err.old)) }
-    ensures files { AskRun words.now result (IsRunOf (S.holds files.now) (W.contents out.old) (W.contents out.new)
-        (F.contents err.old) (F.contents err.new)) }
+    ensures files { AskRun words.now result (IsRunOf (S.holds files.now) (S.clock files.now) (W.contents out.old)
+        (W.contents out.new) (F.contents err.old) (F.contents err.new)) }
     ensures usage { AskNothing words.now → IfOk result (λ n. PrintsAlone (F.contents err.old) (F.contents err.new)
         (complaint_of words.now) 2 n (out.new ≡ out.old)) }
     ensures kept { IfErr result (λ _. (out.new ≡ out.old) × (err.new ≡ err.old)) }

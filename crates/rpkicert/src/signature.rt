@@ -65,7 +65,9 @@ fn signature_alone(object: &Object) -> Signature
         Object::Certificate(cert) => of_certificate(cert),
         Object::Crl(_) | Object::OtherCertificate(_) => Signature::Unchecked,
         Object::Manifest(_) | Object::Roa(_) => Signature::Own,
-        Object::Aspa(_) | Object::SignedObject(_) => Signature::Own,
+        Object::Aspa(_) | Object::Checklist(_) => Signature::Own,
+        Object::TrustAnchorKey(_) | Object::Ghostbusters(_) => Signature::Own,
+        Object::SignedObject(_) => Signature::Own,
     }
 }
 

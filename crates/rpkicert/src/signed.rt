@@ -5,8 +5,8 @@ ghost use Rattle.std.specs.Option.{option_copied};
 ghost use Rattle.rpki_cert.specs.RuleError.{ChecksBy};
 ghost use Rattle.rpki_valid.specs.Valid.{HasReason, IsSignedBy};
 ghost use Rattle.rpkicert.specs.Fault.{bad_text};
-ghost use Rattle.rpkicert.specs.Terms.{rsa, ecdsa, is_self_issued, IsSelfSigned, IsListIssued, IsListUnissued};
-ghost use Rattle.rpkicert.specs.TermsView.{ChecksOne};
+ghost use Rattle.rpkicert.specs.Requirements.{rsa, ecdsa, is_self_issued, IsSelfSigned, IsListIssued, IsListUnissued};
+ghost use Rattle.rpkicert.specs.RequirementsView.{ChecksOne};
 
 use rpki::crypto::PublicKey;
 use rpki::repository::error::ValidationError;

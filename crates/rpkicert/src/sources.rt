@@ -1,18 +1,25 @@
-//! Where files are read.
+//! Where files are read, and a clock.
 
 use crate::fault::{Cause, Fault};
 use crate::input::read_whole;
+use jiff::SignedDuration;
+use rpki::repository::x509::Time;
 use std::alloc::Global;
 use std::fs;
+use std::time::{SystemTime, UNIX_EPOCH};
 
-/// Files by their names.
+/// Files by their names, and a clock.
 pub trait Sources {
-    ghost use Rattle.std.specs.Prelude.{ℕ, List, Option, IfSome};
-    ghost use Rattle.rpkicert.specs.Finding.{IsRead};
+    ghost use Rattle.std.specs.Prelude.{◌≡◌, ℕ, List, Option, IfSome};
+    ghost use Rattle.rpkicert.specs.Moment.{Clock};
+    ghost use Rattle.rpkicert.specs.Outcome.{IsRead};
     ghost use Rattle.rpkicert.specs.View.{read_of};
 
     // What there is by a name: the octets, or None where there is no file; or nothing is said of it.
     ghost holds: { Self → List ℕ → Option (Option (List ℕ)) };
+
+    // The moment that the clock has, or None where it has none; or nothing is said of it.
+    ghost clock: { Self → Clock };
 
     /// The octets of the file of this name.
     ///
@@ -20,9 +27,13 @@ pub trait Sources {
     /// end; `OutOfMemory` if allocation fails.
     fn read(&self, alloc: Global, name: &str) -> Result<Vec<u8>, Fault>
         ensures { IfSome (holds self.now name.now) (λ source. IsRead source (read_of result)) };
+
+    /// The moment that the clock has, to the second. None where it can't be read, or has none of the years 0 to 9999.
+    fn now(&self) -> Option<Time>
+        ensures { IfSome (clock self.now) (λ at. result ≡ at) };
 }
 
-/// The files of the host; `-` is standard input.
+/// The files of the host, of which `-` is standard input, and its clock.
 #[derive(Drop)]
 pub struct Host<'a> {
     /// The host.
@@ -34,6 +45,8 @@ impl Sources for Host<'_> {
 
     ghost holds = { λ _ _. None };
 
+    ghost clock = { λ _. None };
+
     fn read(&self, alloc: Global, name: &str) -> Result<Vec<u8>, Fault> {
         if name == "-" {
             return read_whole(alloc, &mut self.rt.stdin());
@@ -42,5 +55,13 @@ impl Sources for Host<'_> {
             Ok(mut file) => read_whole(alloc, &mut file),
             Err(e) => Err(Fault::Unreadable(Cause::of(e.kind()))),
         }
+    }
+
+    fn now(&self) -> Option<Time> {
+        let now = SystemTime::now(self.rt).ok()?;
+        let since = now.duration_since(UNIX_EPOCH).ok()?;
+        let seconds = i64::try_from(since.as_secs()).ok()?;
+        let begin = Time::utc(1970, 1, 1, 0, 0, 0)?;
+        begin.checked_add(SignedDuration::from_secs(seconds))
     }
 }

@@ -7,8 +7,8 @@ use Rattle.rpki_locator.specs.declared.error.LocatorError.{LocatorError}
 use Rattle.rpki_locator.specs.declared.error.LocatorError.TheVariants as L
 use Rattle.rpki_payloads.specs.declared.exceptions_text.ExceptionsError.{ExceptionsError}
 use Rattle.rpki_payloads.specs.declared.exceptions_text.ExceptionsError.TheVariants as E
-use Rattle.rpki_payloads.specs.declared.listed.ListError.{ListError}
-use Rattle.rpki_payloads.specs.declared.listed.ListError.TheVariants as R
+use Rattle.rpki_payloads.specs.declared.payload_list.ListError.{ListError}
+use Rattle.rpki_payloads.specs.declared.payload_list.ListError.TheVariants as R
 use Rattle.rpki_payloads.specs.ExceptionsText.{member_name}
 use Rattle.rpkivalid.specs.declared.denial.Denial.{Denial}
 use Rattle.rpkivalid.specs.declared.denial.Denial.TheVariants as D

@@ -13,9 +13,9 @@ use crate::locators::locators_in;
 use crate::question::Question;
 use crate::request::Request;
 use crate::sources::Sources;
-use rpki::crypto::Provider;
 use rpki::repository::x509::Time;
 use rpki_payloads::{ListError, Vrp, alone_text, listed_vrps, only_in, united};
+use rpki_rsa::PreparingProvider;
 use std::alloc::Global;
 
 /// The payloads that the file lists, each once, in order.
@@ -43,7 +43,7 @@ pub struct Ours {
 }
 
 /// The payloads under the locators that are asked for, with the local exceptions. Adds to the report what is rejected.
-fn ours_of<S: Sources, P: Provider>(
+fn ours_of<S: Sources, P: PreparingProvider>(
     alloc: Global,
     request: &Request<'_, '_>,
     host: &S,
@@ -79,7 +79,7 @@ fn ours_of<S: Sources, P: Provider>(
 }
 
 /// What attestations that are rejected say of the payloads, which are there alone; nothing if there are none.
-fn why<S: Sources, P: Provider>(
+fn why<S: Sources, P: PreparingProvider>(
     alloc: Global,
     alone: Vec<Vrp>,
     request: &Request<'_, '_>,
@@ -122,7 +122,7 @@ fn are_empty(here: &[Vrp], there: &[Vrp]) -> bool
 ///
 /// Returns `NoList` if there is no such file, or it can't be read; `OtherList` if it lists no payloads; or why there
 /// are no locators or local exceptions.
-pub fn compare<S: Sources, P: Provider>(
+pub fn compare<S: Sources, P: PreparingProvider>(
     alloc: Global,
     file: &str,
     request: &Request<'_, '_>,

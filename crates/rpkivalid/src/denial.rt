@@ -4,7 +4,7 @@ ghost use Rattle.std.specs.Prelude.{◌≡◌, IfOk, string_bytes};
 ghost use Rattle.rpkivalid.specs.Denied.{denial_text, exceptions_text, list_text, locator_text, name_at, name_in};
 ghost use Rattle.rpkivalid.specs.Denied.{name_of, names_of, unread_text};
 
-use crate::words::{NO_DEPTH, NO_MOMENT, NO_ROUTE, NO_URI, OUT_OF_MEMORY};
+use crate::texts::{NO_DEPTH, NO_MOMENT, NO_ROUTE, NO_URI, OUT_OF_MEMORY};
 use rpki_locator::LocatorError;
 use rpki_payloads::{ExceptionsError, ListError};
 use std::alloc::{AllocError, AllocFailed, Global};

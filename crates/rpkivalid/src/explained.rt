@@ -18,11 +18,11 @@ use crate::sources::Sources;
 use crate::told::file_text;
 use crate::walked::{Walk, walk_of};
 use crate::without::Without;
-use rpki::crypto::Provider;
 use rpki::repository::x509::Time;
 use rpki::uri::Rsync;
 use rpki_objects::Strictness;
 use rpki_payloads::Route;
+use rpki_rsa::PreparingProvider;
 use std::alloc::{AllocError, Global};
 
 /// Whether a trust anchor is found.
@@ -36,7 +36,7 @@ fn is_found(walk: &Walk) -> bool
 }
 
 /// What is said of the object under the locator, and whether that has a trust anchor.
-fn object_under<S: Sources, P: Provider>(
+fn object_under<S: Sources, P: PreparingProvider>(
     alloc: Global,
     sources: &S,
     folder: &str,
@@ -90,7 +90,7 @@ fn refused_in<S: Sources>(
 }
 
 /// What attestations that are rejected under the locator say of what is asked, and whether that has a trust anchor.
-fn refused_under<S: Sources, P: Provider>(
+fn refused_under<S: Sources, P: PreparingProvider>(
     alloc: Global,
     sources: &S,
     folder: &str,
@@ -113,7 +113,7 @@ fn refused_under<S: Sources, P: Provider>(
 }
 
 /// What is said under the locator of what is asked, and whether that has a trust anchor.
-fn told_under<S: Sources, P: Provider>(
+fn told_under<S: Sources, P: PreparingProvider>(
     alloc: Global,
     sources: &S,
     folder: &str,
@@ -157,7 +157,7 @@ fn both(one: bool, other: bool) -> bool
 }
 
 /// What is said under all locators of what is asked, in their order.
-fn told_under_all<S: Sources, P: Provider>(
+fn told_under_all<S: Sources, P: PreparingProvider>(
     alloc: Global,
     sources: &S,
     folder: &str,
@@ -188,7 +188,7 @@ fn told_under_all<S: Sources, P: Provider>(
 /// What is said under the locators that are asked for of what is asked.
 ///
 /// Returns why there is no such locator; `OutOfMemory` if allocation fails.
-pub fn tell<S: Sources, P: Provider>(
+pub fn tell<S: Sources, P: PreparingProvider>(
     alloc: Global,
     question: &Question,
     request: &Request<'_, '_>,
@@ -217,7 +217,7 @@ pub fn tell<S: Sources, P: Provider>(
 
 /// What the payloads under the locators that are asked for, with the local exceptions, say of the route. Adds to the
 /// report what is rejected.
-fn route_text<S: Sources, P: Provider>(
+fn route_text<S: Sources, P: PreparingProvider>(
     alloc: Global,
     route: Route,
     request: &Request<'_, '_>,
@@ -255,7 +255,7 @@ fn route_text<S: Sources, P: Provider>(
 /// What is asked, explained: of an object where it is rejected and what lists it, under each locator; of a route
 /// whether it is valid (RFC 6811 2), which payloads cover it, and what attestations that are rejected say of it. Adds
 /// to the report what is rejected, where a route is asked for.
-pub fn explain<S: Sources, P: Provider>(
+pub fn explain<S: Sources, P: PreparingProvider>(
     alloc: Global,
     question: &Question,
     request: &Request<'_, '_>,

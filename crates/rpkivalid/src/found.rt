@@ -9,16 +9,16 @@ use crate::gathered::payloads_of;
 use crate::locators::Named;
 use crate::report::{push_missing, push_rejections};
 use crate::sources::Sources;
-use rpki::crypto::Provider;
 use rpki::repository::x509::Time;
 use rpki_objects::Strictness;
 use rpki_payloads::Payloads;
+use rpki_rsa::PreparingProvider;
 use rpki_valid::Terms;
 use rpki_validation::{Stop, validate};
 use std::alloc::{AllocError, Global};
 
 /// The payloads under the locator, and whether it has a trust anchor. Adds to the report what is rejected.
-fn found_under<S: Sources, P: Provider>(
+fn found_under<S: Sources, P: PreparingProvider>(
     alloc: Global,
     sources: &S,
     folder: &str,
@@ -91,7 +91,7 @@ pub fn both(one: bool, other: bool) -> bool
 }
 
 /// The payloads under all locators. Adds to the report what is rejected.
-pub fn found_under_all<S: Sources, P: Provider>(
+pub fn found_under_all<S: Sources, P: PreparingProvider>(
     alloc: Global,
     sources: &S,
     folder: &str,

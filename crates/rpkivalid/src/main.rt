@@ -22,10 +22,10 @@ mod report;
 mod request;
 mod run;
 mod sources;
+mod texts;
 mod told;
 mod walked;
 mod without;
-mod words;
 
 use crate::arguments::words_of;
 use crate::host::Host;

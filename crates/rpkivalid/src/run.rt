@@ -23,12 +23,12 @@ use crate::question::question_of;
 use crate::report::push_counts;
 use crate::request::{Request, is_given, matched};
 use crate::sources::Sources;
-use crate::words::{HELP, OUT_OF_MEMORY, USAGE, VERSION};
+use crate::texts::{HELP, OUT_OF_MEMORY, USAGE, VERSION};
 use clap::ArgMatches;
-use rpki::crypto::Provider;
 use rpki::der::write_whole;
 use rpki::repository::x509::Time;
 use rpki_payloads::{Payloads, metrics_text};
+use rpki_rsa::PreparingProvider;
 use std::alloc::{AllocError, Global};
 use std::io::Write;
 
@@ -86,7 +86,7 @@ fn metrics_of(alloc: Global, file: Option<&str>, shown: &[Payloads]) -> Result<V
 }
 
 /// What is asked for, at this moment and to this depth. Adds to the report what is rejected.
-fn answer_at<S: Sources, P: Provider>(
+fn answer_at<S: Sources, P: PreparingProvider>(
     alloc: Global,
     request: &Request<'_, '_>,
     host: &S,
@@ -131,7 +131,7 @@ fn answer_at<S: Sources, P: Provider>(
 
 /// What is asked for, or the explanation of what is to be explained, at this moment and to this depth. Adds to the
 /// report what is rejected.
-fn reply_at<S: Sources, P: Provider>(
+fn reply_at<S: Sources, P: PreparingProvider>(
     alloc: Global,
     request: &Request<'_, '_>,
     host: &S,
@@ -163,7 +163,7 @@ fn reply_at<S: Sources, P: Provider>(
 }
 
 /// The comparison with what the file lists, at this moment and to this depth. Adds to the report what is rejected.
-fn comparison_at<S: Sources, P: Provider>(
+fn comparison_at<S: Sources, P: PreparingProvider>(
     alloc: Global,
     file: &str,
     request: &Request<'_, '_>,
@@ -195,7 +195,7 @@ fn comparison_at<S: Sources, P: Provider>(
 }
 
 /// What is asked for, or the comparison, at this moment and to this depth. Adds to the report what is rejected.
-fn response_at<S: Sources, P: Provider>(
+fn response_at<S: Sources, P: PreparingProvider>(
     alloc: Global,
     request: &Request<'_, '_>,
     host: &S,
@@ -216,7 +216,7 @@ fn response_at<S: Sources, P: Provider>(
 }
 
 /// What is asked for. Adds to the report what is rejected.
-fn answer_of<S: Sources, P: Provider>(
+fn answer_of<S: Sources, P: PreparingProvider>(
     alloc: Global,
     request: &Request<'_, '_>,
     host: &S,
@@ -293,7 +293,7 @@ fn give<W: Write, M: Write, F: Write>(
 
 /// Writes what is asked for, its metrics, and what is rejected to the faults; or why there is nothing. Returns the exit
 /// status.
-fn validate_all<S: Sources, P: Provider, W: Write, M: Write, F: Write>(
+fn validate_all<S: Sources, P: PreparingProvider, W: Write, M: Write, F: Write>(
     alloc: Global,
     request: &Request<'_, '_>,
     host: &S,
@@ -313,7 +313,7 @@ fn validate_all<S: Sources, P: Provider, W: Write, M: Write, F: Write>(
 }
 
 /// Does what was asked for by these words, and returns the exit status.
-fn respond<S: Sources, P: Provider, W: Write, M: Write, F: Write>(
+fn respond<S: Sources, P: PreparingProvider, W: Write, M: Write, F: Write>(
     alloc: Global,
     matches: &ArgMatches<'_>,
     host: &S,
@@ -358,7 +358,7 @@ fn respond<S: Sources, P: Provider, W: Write, M: Write, F: Write>(
 /// allocation fails, if the output, the metrics or the faults fail, and where the file of local exceptions, or that to
 /// be compared, can't be read, or is none. Returns `AllocError` if there is no memory to read the words; then nothing
 /// is written.
-pub fn run<S: Sources, P: Provider, W: Write, M: Write, F: Write>(
+pub fn run<S: Sources, P: PreparingProvider, W: Write, M: Write, F: Write>(
     alloc: Global,
     words: &[String],
     host: &S,

@@ -6,9 +6,9 @@ ghost use Rattle.rpkivalid.specs.WalkedView.{IsWalkBy};
 use crate::cache::Cache;
 use crate::locators::Named;
 use crate::sources::Sources;
-use rpki::crypto::Provider;
 use rpki::repository::x509::Time;
 use rpki_objects::Strictness;
+use rpki_rsa::PreparingProvider;
 use rpki_valid::Terms;
 use rpki_validation::{Outcome, Reason, Stop, validate};
 use std::alloc::{AllocError, Global};
@@ -25,7 +25,7 @@ pub enum Walk {
 /// What is found under the locator.
 ///
 /// Returns `AllocError` if allocation fails.
-pub fn walk_of<S: Sources, P: Provider>(
+pub fn walk_of<S: Sources, P: PreparingProvider>(
     alloc: Global,
     sources: &S,
     folder: &str,

@@ -18,6 +18,7 @@ use crate::extension::access_method::AccessMethod;
 use crate::extension::access_rule::AccessRule;
 use crate::extension::access_view::rsync_in;
 use crate::extension::general_name::take_name;
+use crate::extension::kind::ending;
 use rpki::der::{ConstOid, Constructed, DecodeError, Oid, Tag};
 use rpki::oid;
 use rpki::uri::HttpsView;
@@ -42,11 +43,11 @@ pub struct AccessInformation<'a> {
     pub by_https: bool,
 }
 
-/// Whether a method is this one.
+/// Whether a method is this one. No two of those that are looked for end alike, so the last octets are compared first.
 fn is_method(method: Oid<&[u8]>, expected: ConstOid) -> bool
     ensures { result ≡ bytes_eq method.entry.0.now expected.entry.0.now }
 {
-    method == expected
+    ending(method.0) == ending(expected.0) && method == expected
 }
 
 /// The name of a description of this method.

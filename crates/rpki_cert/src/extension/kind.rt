@@ -88,7 +88,7 @@ impl ExtensionKind {
 }
 
 /// The last octet of an identifier.
-fn ending(id: &[u8]) -> u8
+pub(crate) fn ending(id: &[u8]) -> u8
     ensures { result ≡ ending id.now }
 {
     if id.is_empty() { 0 } else { id[id.len() - 1] }

@@ -4,10 +4,10 @@ ghost use Rattle.std.specs.Prelude.{IfOk, IfErr};
 ghost use Rattle.rpki_cert.specs.ExtensionTable.{OfListed};
 ghost use Rattle.rpki_cert.specs.KnownView.{AreKnown, IsFirstWrong};
 
+use crate::extension::accessors::{constraints_in, said};
 use crate::extension::contents::{AuthorityContent, PoliciesContent, SubjectContent, UsageContent};
 use crate::extension::key_usage::KeyUsage;
 use crate::extension::kind::ExtensionKind;
-use crate::extension::known::{constraints_in, said};
 use crate::extension::known_part::KnownPart;
 use crate::extension::policy::Overclaim;
 use crate::extension::table::ExtensionTable;

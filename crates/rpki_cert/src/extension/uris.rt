@@ -8,7 +8,7 @@ ghost use Rattle.rpki_cert.specs.Access.{ca_repository, rpki_manifest, signed_ob
 ghost use Rattle.rpki_cert.specs.AccessInformation.{SpellsUriOf};
 
 use crate::extension::access_method::AccessMethod;
-use crate::extension::known::{information_in, points_in, uri_in};
+use crate::extension::accessors::{information_in, points_in, uri_in};
 use crate::extension::source::find_kept;
 use crate::tbs::TbsCert;
 use rpki::der::{ConstOid, DecodeError};

@@ -5,10 +5,10 @@ ghost use Rattle.rpki.specs.ExtensionValue.{ExtensionParts};
 ghost use Rattle.rpki_cert.specs.Inspected.{AreIn, AreValues};
 ghost use Rattle.rpki_cert.specs.KnownView.{AreKnown, IsFirstWrong};
 
+use crate::extension::accessors::{constraints_in, said};
 use crate::extension::contents::{AuthorityContent, PoliciesContent, SubjectContent, UsageContent};
 use crate::extension::key_usage::KeyUsage;
 use crate::extension::kind::ExtensionKind;
-use crate::extension::known::{constraints_in, said};
 use crate::extension::known_part::KnownPart;
 use crate::extension::known_view::KnownView;
 use crate::extension::policy::Overclaim;

@@ -30,19 +30,19 @@ ghost use Rattle.rpki_cert.specs.RuleError.{ChecksVersion, ChecksOwn, IsRuleErro
 use crate::extension::access_information::AccessInformation;
 use crate::extension::access_method::AccessMethod;
 use crate::extension::access_rule::AccessRule;
+use crate::extension::accessors::{information_in, is_identifier, points_in, purposes_in, uri_in};
 use crate::extension::contents::{
     AuthorityContent, ExtensionContent, PoliciesContent, SubjectContent,
 };
 use crate::extension::key_usage::KeyUsage;
 use crate::extension::kind::ExtensionKind;
-use crate::extension::known::{information_in, is_identifier, points_in, purposes_in, uri_in};
 use crate::extension::policy::Overclaim;
 use crate::extension::source::ExtensionSource;
-use crate::profile::below::lies_below;
 use crate::profile::inspected::Inspected;
 use crate::profile::key_rule::KeyBits;
 use crate::profile::name_values::ValueRule;
 use crate::profile::rule::CertRule;
+use crate::profile::uri_prefix::lies_below;
 use crate::resource::extensions::{are_own, are_well_formed};
 use rpki::crypto::KeyIdentifier;
 use rpki::repository::error::ValidationError;
@@ -461,6 +461,7 @@ fn inspect_place(
 
 impl Inspected<'_> {
     /// Whether the certificate obeys the rule. The names are looked at if `strict`.
+    #[inline(always)]
     pub(crate) fn inspect_rule(&self, strict: bool, rule: CertRule) -> Result<(), ValidationError>
         ensures { (t : TbsParts) → IsReadOf t self.now → ChecksBy (Obeys strict t rule) (IsRuleError t rule) result }
     {

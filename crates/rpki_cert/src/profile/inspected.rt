@@ -6,8 +6,8 @@ ghost use Rattle.rpki_cert.specs.View.{IsCertAt};
 ghost use Rattle.rpki_cert.specs.Inspected.{IsKeyOf, IsReadOf};
 
 use crate::extension::access_information::AccessInformation;
+use crate::extension::accessors::information_in;
 use crate::extension::kind::ExtensionKind;
-use crate::extension::known::information_in;
 use crate::extension::source::{ExtensionSource, find_kept};
 use crate::extension::values::ExtensionValues;
 use crate::profile::key_rule::KeyBits;

@@ -10,7 +10,7 @@ ghost use Rattle.rpki_cert.specs.View.{AreNamedWrong, AreFieldsWrong, IsTbsWrong
 use crate::extension::table::ExtensionTable;
 use crate::read::cert_error::CertError;
 use crate::read::cert_part::CertPart;
-use crate::read::listed::read_extensions;
+use crate::read::extension_list::read_extensions;
 use crate::read::version::skip_version;
 use rpki::crypto::{PublicKeyView, RpkiSignatureAlgorithm, SignatureAlgorithm};
 use rpki::der::{Constructed, Section, Tag};

@@ -58,7 +58,7 @@ fn read_behind<'a>(
     };
     match read_tbs(room, Constructed::from_slice(signed)) {
         Ok(tbs) => {
-            if !is_same(tbs.signature, parts.kind) {
+            if !is_same(tbs.signature, parts.signature_algorithm) {
                 return Err(CertError {
                     part: CertPart::SameAlgorithm,
                     error: DecodeError::content("signature algorithms differ"),

@@ -13,8 +13,8 @@ ghost use Rattle.rpki_cert.specs.ResourceExtensions.{first_there, addresses_of, 
 ghost use Rattle.rpki_cert.specs.ResourceExtensions.{IsWholeAsFault, IsWellFormed, AreWellFormed, is_own};
 ghost use Rattle.rpki_cert.specs.ResourceExtensions.{are_own_addresses, are_own_numbers, SaysThat, AreOwn};
 
+use crate::extension::accessors::wanted;
 use crate::extension::kind::ExtensionKind;
-use crate::extension::known::wanted;
 use crate::extension::source::ExtensionSource;
 use crate::read::fields::Keyed;
 use crate::tbs::TbsCert;

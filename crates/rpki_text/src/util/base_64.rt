@@ -4,11 +4,13 @@
 
 ghost use Rattle.std.specs.Prelude.{◌≡◌, false, Some, Ok, length, IfOk, IfErr, OnOk, string_bytes};
 ghost use Rattle.std.specs.Io.KnownBytes.{Appends};
+ghost use Rattle.std.specs.List.{prefix_len};
 ghost use Rattle.std.specs.Str.{is_utf8};
 ghost use Rattle.base64.specs.Engines.{standard, url_safe_no_pad_indifferent};
 ghost use Rattle.base64.specs.GeneralPurpose.{encode_of, decode_of, decode_slice_of, decoded_bytes_of};
 ghost use Rattle.base64.specs.Decode.{IsWrittenOver};
-ghost use Rattle.rpki_text.specs.Base64Text.{without_white_space, xml_decode_of, xml_bytes_decode_of, no_text_error};
+ghost use Rattle.rpki_text.specs.Base64Text.{without_white_space, is_no_white_space};
+ghost use Rattle.rpki_text.specs.Base64Text.{xml_decode_of, xml_bytes_decode_of, no_text_error};
 ghost use Rattle.rpki_text.specs.Base64Text.{base64_error_text, xml_cause, slurm_text, IsBase64Failure};
 
 use base64::DecodeAllocError;
@@ -245,12 +247,33 @@ fn decode_without_white_space(alloc: Global, text: &[u8]) -> Result<Vec<u8>, Bas
     Ok(STANDARD.decode(alloc, bare.as_slice())?)
 }
 
-/// The text without its white space.
+/// How many octets come before the first that is white space.
+fn line_len(text: &[u8]) -> usize
+    ensures { result ≡ prefix_len is_no_white_space text.now }
+{
+    let mut len = 0;
+    'octets: while len < text.len() {
+        if text[len].is_ascii_whitespace() {
+            return len;
+        }
+        len += 1;
+    }
+    len
+}
+
+/// The text without its white space, copied line by line.
 fn bare_text(alloc: Global, text: &[u8]) -> Result<Vec<u8>, AllocError>
     ensures { IfOk result (λ v. v.items ≡ without_white_space text.now) }
 {
-    text.iter()
-        .copied()
-        .filter(|b| !b.is_ascii_whitespace())
-        .collect(alloc)
+    let mut bare = Vec::with_capacity(alloc, text.len())?;
+    let mut rest = text;
+    'lines: while !rest.is_empty() {
+        let (line, after) = rest.split_at(line_len(rest));
+        bare.extend_from_slice(line)?;
+        rest = match after.split_first() {
+            Some((_, next)) => next,
+            None => after,
+        };
+    }
+    Ok(bare)
 }

@@ -1,6 +1,6 @@
 use Rattle.std.proofs.Common.{List, ℕ, Err, subst, rules, ◌≡◌}
 use Rattle.rpki.specs.declared.crypto.keys.PublicKeyFormat.TheVariants.{Rsa}
-use Rattle.rpki_objects.specs.SignedAttributes.{message_of}
+use Rattle.rpki_attributes.specs.SignedAttributes.{message_of}
 use Rattle.rpki_rsa.specs.Key.{IsKeyOf}
 use Rattle.rpki_c.proofs.VerificationLaws.{bad-signature, good-signature, not-accepted}
 use Rattle.rpki_c.proofs.object_verified.attributes_verified.Goals as goal

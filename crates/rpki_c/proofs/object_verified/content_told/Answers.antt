@@ -3,7 +3,7 @@ use Rattle.std.specs.Prelude.{◌↔◌, ◌≡◌, IsTrue}
 use Rattle.std.proofs.lemmas.Bool.{iff_false}
 use Rattle.sha2.specs.Sha256.{sha256}
 use Rattle.rpki_objects.specs.declared.signed_object_view.SignedObjectView.{SignedObjectView}
-use Rattle.rpki_objects.specs.SignedAttributes.{AttributeValues}
+use Rattle.rpki_attributes.specs.SignedAttributes.{AttributeValues}
 use Rattle.rpki_objects.specs.SignedObject.{ObjectParts}
 use Rattle.rpki_objects.specs.SignedObjectView.{IsObjectAt}
 use Rattle.rpki_c.specs.ObjectVerified.{HasSignedType, HasSignedDigest}

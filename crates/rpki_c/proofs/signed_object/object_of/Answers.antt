@@ -1,5 +1,5 @@
 use Rattle.std.proofs.Common.{◌∙◌, ap, sym}
-use Rattle.rpki_objects.specs.SignedAttributes.{AttributeValues, values_known, message_of}
+use Rattle.rpki_attributes.specs.SignedAttributes.{AttributeValues, values_known, message_of}
 use Rattle.rpki_c.proofs.SignedObjectLaws.{values-told, same-told}
 use Rattle.rpki_c.proofs.signed_object.object_of.Goals as goal
 

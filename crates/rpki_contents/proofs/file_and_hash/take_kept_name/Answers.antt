@@ -4,7 +4,7 @@ use Rattle.rpki_der.specs.Format.{octets_under, kept}
 use Rattle.rpki_der.proofs.ChoiceLaws.{such-read}
 use Rattle.rpki_der.proofs.TriedLaws.{tried-refused}
 use Rattle.rpki_contents.specs.ListedFile.{IsName, kept_name}
-use Rattle.rpki_contents.proofs.SuchLaws.{not-there, malformed, not-so}
+use Rattle.rpki_x509.proofs.SuchLaws.{not-there, malformed, not-so}
 use Rattle.rpki_contents.proofs.file_and_hash.take_kept_name.Goals as goal
 
 pub returns-in_err-name : goal.returns-in_err-name

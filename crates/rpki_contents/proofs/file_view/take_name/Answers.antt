@@ -3,7 +3,7 @@ use Rattle.rpki_der.specs.TagName.{ia5_string}
 use Rattle.rpki_der.specs.Format.{octets_under}
 use Rattle.rpki_der.proofs.ChoiceLaws.{such-read}
 use Rattle.rpki_contents.specs.ListedFile.{IsName}
-use Rattle.rpki_contents.proofs.SuchLaws.{not-there, malformed, not-so}
+use Rattle.rpki_x509.proofs.SuchLaws.{not-there, malformed, not-so}
 use Rattle.rpki_contents.proofs.file_view.take_name.Goals as goal
 
 pub returns-in-Err : goal.returns-in-Err

@@ -1,4 +1,4 @@
-use Rattle.rpki_fields.specs.Kind.{kind_of}
+use Rattle.rpki_fields.specs.ObjectType.{kind_of}
 use Rattle.rpki_fields.proofs.OneObjectLaws.{one-of}
 use Rattle.rpki_fields.proofs.OneSheetLaws.{one-sheet}
 use Rattle.rpki_fields.proofs.laws.one_sheet.Goals as goal

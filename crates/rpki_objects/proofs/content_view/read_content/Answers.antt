@@ -1,4 +1,4 @@
-use Rattle.rpki_objects.proofs.InPlaceLaws.{whole-outside, whole-inside}
+use Rattle.rpki_x509.proofs.InPlaceLaws.{whole-outside, whole-inside}
 use Rattle.rpki_objects.specs.SignedObject.{zero_tag, kept_octets}
 use Rattle.rpki_objects.proofs.content_view.read_content.Goals as goal
 

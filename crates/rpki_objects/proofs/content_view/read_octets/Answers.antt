@@ -3,7 +3,7 @@ use Rattle.std.proofs.lemmas.Bool.{iff_false}
 use Rattle.rpki_der.specs.TagName.{octet_string}
 use Rattle.rpki_der.specs.Values.{SpellsContents}
 use Rattle.rpki_der.proofs.ComposedLaws.{all-read, nothing-after}
-use Rattle.rpki_objects.proofs.InPlaceLaws.{primitive-none}
+use Rattle.rpki_x509.proofs.InPlaceLaws.{primitive-none}
 use Rattle.rpki_objects.proofs.content_view.read_octets.Goals as goal
 
 pub returns-then-is_empty : goal.returns-then-is_empty

@@ -1,7 +1,7 @@
 use Rattle.std.proofs.Common.{ap, length, refl}
 use Rattle.rpki_objects.specs.SignedObject.{zero_tag}
 use Rattle.rpki_objects.specs.SignedObjectView.IsFirstCertWrong.{NoSet, NoCert}
-use Rattle.rpki_objects.proofs.InPlaceLaws.{contents-refused}
+use Rattle.rpki_x509.proofs.InPlaceLaws.{contents-refused}
 use Rattle.rpki_objects.proofs.signed_object_view.take_certificate.Goals as goal
 
 pub returns-in-Err : goal.returns-in-Err

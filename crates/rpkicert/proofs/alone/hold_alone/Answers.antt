@@ -1,4 +1,4 @@
-use Rattle.rpkicert.proofs.TermsLaws.{alone-signed, alone-last}
+use Rattle.rpkicert.proofs.RequirementsLaws.{alone-signed, alone-last}
 use Rattle.rpkicert.proofs.alone.hold_alone.Goals as goal
 
 pub returns-in_err-hold_signed : goal.returns-in_err-hold_signed

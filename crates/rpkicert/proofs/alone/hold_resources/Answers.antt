@@ -1,4 +1,4 @@
-use Rattle.rpkicert.proofs.TermsLaws.{inherited, origins, customer}
+use Rattle.rpkicert.proofs.RequirementsLaws.{inherited, origins, customer}
 use Rattle.rpkicert.proofs.alone.hold_resources.Goals as goal
 
 pub returns-in-Manifest : goal.returns-in-Manifest

@@ -1,6 +1,6 @@
 use Rattle.rpkicert.specs.declared.fault.Clause.TheVariants as C
-use Rattle.rpkicert.specs.Terms.{IsSignedRight, IsSignedWrong}
-use Rattle.rpkicert.proofs.TermsLaws.{by-one}
+use Rattle.rpkicert.specs.Requirements.{IsSignedRight, IsSignedWrong}
+use Rattle.rpkicert.proofs.RequirementsLaws.{by-one}
 use Rattle.rpkicert.proofs.alone.hold_signed.Goals as goal
 
 pub returns : goal.returns

@@ -1,4 +1,4 @@
-use Rattle.rpki_fields.specs.Kind.{kind_of}
+use Rattle.rpki_fields.specs.ObjectType.{kind_of}
 use Rattle.rpki_fields.proofs.OneObjectLaws.{one-of}
 use Rattle.rpkicert.proofs.OneAnswerLaws.{one-text-of}
 use Rattle.rpkicert.proofs.laws.one_text.Goals as goal

@@ -4,7 +4,7 @@ use Rattle.jiff.specs.Types.{DateTime}
 use Rattle.jiff.specs.Words.{civil_nanos}
 use Rattle.jiff.proofs.Family.{civil_nanos-parts, days_from_civil-max}
 use Rattle.rpki_time.specs.Time.{HasParts}
-use Rattle.rpkicert.specs.Run.{moment_of, last_moment}
+use Rattle.rpkicert.specs.Moment.{moment_of, last_moment}
 use Rattle.rpkicert.proofs.moment.moment_of.Goals as goal
 
 last-moment : (text : List ℕ) (e : bytes_eq text (codes "9999-12-31T23:59:59Z") ≡ true) (r : Option DateTime)

@@ -1,15 +1,7 @@
-use Rattle.std.proofs.Common.{refl, inr}
-use Rattle.rpki_cert.specs.Profile.{rules_of}
-use Rattle.rpkicert.proofs.ViolationLaws.{breaks-with}
+use Rattle.rpkicert.proofs.ChosenLaws.{inspected}
 use Rattle.rpkicert.proofs.profile.inspect_by.Goals as goal
 
-pub returns-in-Err-inspect : goal.returns-in-Err-inspect
-returns-in-Err-inspect c = (
-  c.in-Err-inspect.ensures.0,
-  inr (
-    _,
-    refl,
-    breaks-with c.args.inspection.strict c.args.tbs.now (rules_of c.args.inspection.profile) c.in-Err.rule
-        c.in-Err-inspect.error c.in-Err.ensures.0 c.in-Err-inspect.ensures.1,
-  ),
-)
+pub returns : goal.returns
+returns c =
+    inspected c.args.inspection c.args.tbs.now c.chosen-profile.result c.inspect_as.result c.chosen-profile.ensures
+    c.inspect_as.ensures

@@ -6,16 +6,16 @@ use Rattle.rpkicert.proofs.SettledLaws.{no-moment, the-moment, wrong-moment, den
 use Rattle.rpkicert.proofs.runs.show_all.Goals as goal
 
 pub returns-in-None : goal.returns-in-None
-returns-in-None g c = c.show_at.ensures (no-moment _ (ap (option_map _) c.in-None.is))
+returns-in-None g c = c.show_at.ensures (no-moment _ _ (ap (option_map _) c.in-None.is))
 
-pub returns-in-Some-moment_of : goal.returns-in-Some-moment_of
-returns-in-Some-moment_of g c =
-    c.show_at-in-Some-moment_of.ensures
-    (the-moment _ c.in-Some.word.now c.in-Some-moment_of.moment (ap (option_map _) c.in-Some.is)
-    c.in-Some-moment_of.ensures.some)
+pub returns-in-Some-moment_at : goal.returns-in-Some-moment_at
+returns-in-Some-moment_at g c =
+    c.show_at-in-Some-moment_at.ensures
+    (the-moment _ _ c.in-Some.word.now c.in-Some-moment_at.moment (ap (option_map _) c.in-Some.is)
+    c.in-Some-moment_at.ensures.some)
 
-pub returns-in-None-moment_of : goal.returns-in-None-moment_of
-returns-in-None-moment_of g c =
-    wrong-moment _ (asked_of c.args.request.now) c.in-Some.word.now _ _ _ _ _ (ap (option_map _) c.in-Some.is)
-    c.in-None-moment_of.ensures.none
+pub returns-in-None-moment_at : goal.returns-in-None-moment_at
+returns-in-None-moment_at g c =
+    wrong-moment _ _ (asked_of c.args.request.now) c.in-Some.word.now _ _ _ _ _ (ap (option_map _) c.in-Some.is)
+    c.in-None-moment_at.ensures.none
     (denied-by c.wrong_moment.result _ _ _ _ _ _ c.wrong_moment.ensures (Appends-nil _) c.deny.ensures)

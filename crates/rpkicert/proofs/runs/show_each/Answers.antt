@@ -1,6 +1,6 @@
 use Rattle.std.proofs.Common.{◌<◌, ◌≤◌, ℕ, List, [], length, get_or, arith, Bor}
 use Rattle.std.proofs.lemmas.List.{get_or_default}
-use Rattle.rpkicert.specs.ShownView.{seen_of}
+use Rattle.rpkicert.specs.OutputView.{seen_of}
 use Rattle.rpkicert.proofs.RunLaws.{one-seen, cut-seen, all-seen}
 use Rattle.rpkicert.proofs.runs.show_each.Goals as goal
 

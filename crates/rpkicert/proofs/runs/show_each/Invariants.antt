@@ -1,6 +1,6 @@
 use Rattle.std.proofs.Common.{map, take}
 use Rattle.rpkicert.specs.Run.{Sees}
-use Rattle.rpkicert.specs.TermsView.{terms_of}
+use Rattle.rpkicert.specs.RequirementsView.{terms_of}
 use Rattle.rpkicert.proofs.RunLaws.{HaveSeen}
 use Rattle.rpkicert.proofs.runs.show_each.Given as goal
 

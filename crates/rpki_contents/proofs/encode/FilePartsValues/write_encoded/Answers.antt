@@ -3,7 +3,7 @@ use Rattle.std.proofs.lemmas.Result.{err_from_is_err_and}
 use Rattle.rpki_der.specs.TagName.{ia5_string, bit_string}
 use Rattle.rpki_der.specs.Header.{tlv}
 use Rattle.rpki_der.proofs.WritingLaws.{beginning_more, writes_then}
-use Rattle.rpki_contents.specs.Encoded.{hash_contents}
+use Rattle.rpki_x509.specs.MessageDigest.{hash_contents}
 use Rattle.rpki_contents.proofs.encode.FilePartsValues.write_encoded.Goals as goal
 
 pub returns : goal.returns

@@ -2,7 +2,7 @@ use Rattle.std.proofs.Common.{ap, length, refl, rules}
 use Rattle.rpki_der.specs.TagName.{sequence}
 use Rattle.rpki_der.specs.LeafFormats.{any_oid}
 use Rattle.rpki_objects.specs.SignedObject.{explicit_content, content_fields}
-use Rattle.rpki_objects.proofs.InPlaceLaws.{contents-refused, outside, not-inside, not-first, not-then}
+use Rattle.rpki_x509.proofs.InPlaceLaws.{contents-refused, outside, not-inside, not-first, not-then}
 use Rattle.rpki_objects.proofs.ObjectViewLaws.{content-taken}
 use Rattle.rpki_objects.proofs.ObjectWrongLaws.{oid-refused}
 use Rattle.rpki_objects.proofs.content_view.ContentView.take_from.Goals as goal

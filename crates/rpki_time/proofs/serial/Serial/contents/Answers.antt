@@ -3,6 +3,7 @@ use Rattle.rpki_der.proofs.IntegerLaws.{contents-unique}
 use Rattle.rpki_time.proofs.SerialLaws.{kept-IsUnsigned, twenty-below}
 use Rattle.rpki_time.proofs.WritingLaws.{serial_contents-are}
 use Rattle.rpki_time.proofs.serial.Serial.contents.Goals as goal
+use Rattle.rpki_time.proofs.serial.Serial.contents.Goals.{}
 use Rattle.rpki_time.proofs.serial.Serial.contents.Goals.{then-loop-start-test+then-self-start-eq0+else-self-start-lt128}
 use Rattle.rpki_time.proofs.serial.Serial.contents.Goals.{then-loop-start-test+else-self-start-eq0}
 use Rattle.rpki_time.proofs.serial.Serial.contents.Goals.{else-loop-start-test}

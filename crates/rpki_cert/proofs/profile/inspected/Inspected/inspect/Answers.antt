@@ -4,10 +4,10 @@ use Rattle.rpki_cert.proofs.profile.inspected.Inspected.inspect.Goals as goal
 
 pub returns-in-Err : goal.returns-in-Err
 returns-in-Err c = λ t h.
-    let (first, error) = rw c.rules.ensures at c.in-Err.ensures t h in (
+    let (first, error) = c.in-Err.ensures t h in (
       not-all c.args.strict t (rules_of c.args.profile) c.in-Err.field-0.rule first,
       record { rule = c.in-Err.field-0.rule; first = first; error = error },
     )
 
 pub returns-in-Ok : goal.returns-in-Ok
-returns-in-Ok c = λ t h. rw c.rules.ensures at c.in-Ok.ensures t h
+returns-in-Ok c = λ t h. c.in-Ok.ensures t h

@@ -1,0 +1,8 @@
+use Rattle.std.proofs.Common.{inl, inr, refl}
+use Rattle.rpki_fields.proofs.part.origins_place.Goals as goal
+
+pub returns-in-Ok : goal.returns-in-Ok
+returns-in-Ok c = inr (c.in-Ok.object, c.in-Ok.ensures.ok.0, c.in-Ok.ensures.ok.1, c.origins_part.ensures)
+
+pub returns-in-Err : goal.returns-in-Err
+returns-in-Err c = inl (c.in-Err.part, c.in-Err.ensures.err, refl)

@@ -1,8 +1,0 @@
-use Rattle.std.proofs.Common.{arith}
-use Rattle.rpki_objects.proofs.AttributesOrderLaws.{time-size}
-use Rattle.rpki_objects.proofs.encode.attributes.encode_time.Goals as goal
-
-pub encode_attribute-requires-clause-value : goal.encode_attribute-requires-clause-value
-encode_attribute-requires-clause-value c =
-    let size = time-size c.args.time in
-    (c.encode_varied.ensures.fits.0, rw c.encode_varied.ensures.encoded (omega (arith, size.1)))

@@ -1,9 +1,0 @@
-use Rattle.rpki_valid.specs.Verified.{verified_by}
-use Rattle.rpki_valid.proofs.VerifiedLaws.{unlisted-of}
-use Rattle.rpki_valid.proofs.verified.ResourceCert.verify_unlisted.Goals as goal
-
-pub returns-clause-path : goal.returns-clause-path
-returns-clause-path g c =
-    let v = verified_by g.P.Provider.rsa_of g.P.Provider.ecdsa_of g.P.Provider.sha1_of c.args.self.now in
-    unlisted-of c.args.profile v c.args.at c.args.cert.now c.check_link.result c.check_link.ensures.verified
-    c.check_link.ensures.exactly
