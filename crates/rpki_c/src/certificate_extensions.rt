@@ -118,11 +118,11 @@ fn octets_of(identifier: Option<KeyIdentifier>) -> [u8; 20]
 pub(crate) fn extension_of<'a>(found: &CertView<'a>, kind: ExtensionKind) -> KnownExtension<'a>
     ensures { (s : List ℕ) (x : CertParts) → IsCertAt s found.now x → IsFoundAs x (identifier_of kind) result }
 {
-    match found.tbs.named.keyed.extensions.listed(kind) {
-        Some(listed) => KnownExtension {
-            octets: Span::of(listed.contents.octets),
+    match found.tbs.named.keyed.extensions.find(kind) {
+        Some(extension) => KnownExtension {
+            octets: Span::of(extension.octets()),
             is_there: true,
-            critical: listed.critical,
+            critical: extension.critical(),
         },
         None => KnownExtension {
             octets: Span::of(&[]),

@@ -1,5 +1,5 @@
 -- The fields of a TBSCertificate that is read in place.
-use Rattle.std.proofs.Common.{◌≡◌, ◌∙◌, ℕ, Bool, true, false, List, ◌++◌, length, Result, Ok, Err, refl, ap}
+use Rattle.std.proofs.Common.{◌≡◌, ℕ, Bool, true, false, List, Result, Ok, Err, refl}
 use Rattle.std.specs.Prelude.{IfOk, IfErr}
 use Rattle.rpki_der.specs.declared.error.DecodeError.{DecodeError}
 use Rattle.rpki_der.specs.declared.error.DecodeError.TheVariants.{OutOfMemory}
@@ -11,15 +11,12 @@ use Rattle.rpki_time.specs.Serial.{SpellsSerial, IsSerialContents, IsSerialFault
 use Rattle.rpki_time.specs.Validity.{Period}
 use Rattle.rpki_time.specs.PeriodValue.{SpellsPeriod, IsPeriodFault}
 use Rattle.rpki_time.proofs.PeriodReadingLaws.{period-no-memory}
-use Rattle.rpki.specs.Oids.{sha256_with_rsa_encryption}
 use Rattle.rpki.specs.AlgorithmFault.{algorithm}
-use Rattle.rpki.proofs.AlgorithmFaultLaws.{algorithm-outer}
 use Rattle.rpki.specs.Name.{SpellsNameOctets}
 use Rattle.rpki.specs.PublicKey.{KeyParts, SpellsKey}
 use Rattle.rpki.specs.KeyFault.{key_view}
 use Rattle.rpki.proofs.KeyFaultLaws.{view-outer}
 use Rattle.rpki.specs.ExtensionValue.{ExtensionParts}
-use Rattle.rpki_der.specs.declared.section.Section.{Section}
 use Rattle.rpki_cert.specs.declared.read.fields.Keyed.{Keyed}
 use Rattle.rpki_cert.specs.declared.read.fields.Named.{Named}
 use Rattle.rpki_cert.specs.declared.read.fields.TbsView.{TbsView}
@@ -35,7 +32,7 @@ use Rattle.rpki_der.specs.Leaves.{IsOnly}
 use Rattle.rpki_cert.specs.Cert.{two}
 use Rattle.rpki_der.specs.FirstFault.{FirstFault, IsEndFault}
 use Rattle.rpki_der.proofs.FirstFaultLaws.{inside-no-memory, first-no-memory, end-no-memory}
-use Rattle.rpki_x509.proofs.NestedLaws.{StandsBefore, front-section}
+use Rattle.rpki_x509.proofs.NestedLaws.{StandsBefore}
 use Rattle.rpki_x509.proofs.FrameLaws.{refused}
 use Rattle.rpki_cert.proofs.OneLaws.{tbs-one}
 use Rattle.rpki_cert.specs.Cert.{two_value, version}

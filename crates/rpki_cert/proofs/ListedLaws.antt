@@ -4,26 +4,21 @@ use Rattle.std.proofs.Common.{Result, Ok, Err, IsTrue, refl, sym, ap, subst, ari
 use Rattle.std.specs.Prelude.{bytes_eq, codes, IfOk, IfErr}
 use Rattle.std.proofs.lemmas.Bool.{false≢true}
 use Rattle.rpki_der.specs.declared.error.DecodeError.{DecodeError}
-use Rattle.rpki_der.specs.declared.error.DecodeError.TheVariants.{Trailing, OutOfMemory}
-use Rattle.rpki_der.specs.TagName.{TagName, sequence}
-use Rattle.rpki_der.specs.Reading.{Accepts, Refuses, Refusal, SpellsNothing}
-use Rattle.rpki_der.specs.Values.{SpellsContents, IsContentsFault}
+use Rattle.rpki_der.specs.declared.error.DecodeError.TheVariants.{OutOfMemory}
+use Rattle.rpki_der.specs.TagName.{sequence}
+use Rattle.rpki_der.specs.Reading.{Accepts, Refuses}
+use Rattle.rpki_der.specs.Values.{SpellsContents}
 use Rattle.rpki_der.specs.Each.{SpellsEach, SpellsSome}
 use Rattle.rpki_der.specs.FirstFault.{RepeatedFault}
 use Rattle.rpki_der.specs.FirstFault.RepeatedFault.{AfterMember}
-use Rattle.rpki_der.proofs.InsideLaws.{unless-memory}
-use Rattle.rpki_der.proofs.LeavesLaws.{contents-no-memory}
-use Rattle.rpki_der.proofs.ComposedLaws.{all-read, nothing-after, nothing-whole, not-read, more-left}
 use Rattle.rpki_der.proofs.LeafValueLaws.{leaf-shorter}
 use Rattle.rpki.specs.ExtensionValue.{ExtensionParts, SpellsExtension, IsExtensionContents}
 use Rattle.rpki.specs.ExtensionFault.{extension}
-use Rattle.rpki.proofs.ExtensionFaultLaws.{extension-outer}
 use Rattle.rpki.specs.UnknownAlgorithm.{IsContentWith}
 use Rattle.rpki_cert.specs.declared.read.cert_part.CertPart.{CertPart}
 use Rattle.rpki_cert.specs.declared.read.cert_error.CertError.{CertError}
 use Rattle.rpki_cert.specs.Cert.{find, is_there, are_unique, extensions_tag}
 use Rattle.rpki_cert.specs.ExtensionTable.{OfListed}
-use Rattle.rpki_x509.specs.Frame.{IsFrameFault}
 use Rattle.rpki_cert.specs.View.{IsListWrong, AreExtensionsWrong, AreExtensionsAt, HasCount, IsApart}
 use Rattle.rpki_cert.specs.View.{most_extensions, AreListedAt}
 use Rattle.rpki_cert.specs.View.IsListWrong.{TooMany, Repeated, NoRoom}

@@ -1,6 +1,5 @@
 -- Values of one type, one at least.
-use Rattle.std.proofs.Common.{◌≡◌, ◌≢◌, ◌∙◌, ℕ, Bool, false, List, [], ◌∷◌, ◌++◌, refl, sym, subst, IsTrue}
-use Rattle.std.proofs.lemmas.Bool.{false≢true}
+use Rattle.std.proofs.Common.{◌≡◌, ◌≢◌, ℕ, List, [], ◌∷◌, ◌++◌, refl, subst}
 use Rattle.rpki_der.specs.Reading.{Spells}
 use Rattle.rpki_der.specs.Each.{SpellsEach, SpellsSome}
 

@@ -8,21 +8,23 @@ use Rattle.std.proofs.lemmas.List.{length-set, get_or-set_same, get_or-set_other
 use Rattle.std.proofs.lemmas.Bool.{false≢true, false_from_ne_true, ne_eqb}
 use Rattle.std.proofs.lemmas.Bool.Decides.{eqb_tells}
 use Rattle.std.proofs.lemmas.Slice.Eq.{bytes_eq-Decides}
+use denote.Bor.{Bor}
 use Rattle.rpki_der.specs.TagName.{sequence}
 use Rattle.rpki_der.specs.Reading.{Accepts, Refuses}
 use Rattle.rpki_der.specs.Each.{SpellsSome}
 use Rattle.rpki_der.proofs.LeafValueLaws.{leaf-shorter}
-use Rattle.rpki.specs.ExtensionValue.{ExtensionParts, extension_parts, SpellsExtension, IsExtensionContents}
+use Rattle.rpki.specs.ExtensionValue.{ExtensionParts, SpellsExtension, IsExtensionContents}
 use Rattle.rpki_cert.specs.declared.extension.kind.ExtensionKind.{ExtensionKind}
-use Rattle.rpki_cert.specs.declared.extension.listed_extension.ListedExtension.{ListedExtension}
 use Rattle.rpki_cert.specs.declared.extension.table.Passed.{Passed}
 use Rattle.rpki_cert.specs.Cert.{find, are_unique}
 use Rattle.rpki_cert.specs.Known.{is_known, are_understood}
-use Rattle.rpki_cert.specs.ExtensionTable.{identifier_of, slot_of, ending, IsSlot, behind_first, IsListed, FindsListed}
-use Rattle.rpki_cert.specs.ExtensionTable.{IsTable}
+use Rattle.rpki_cert.specs.ExtensionTable.{OfListed, identifier_of, slot_of, ending, IsSlot, kept_as, IsTable}
 use Rattle.rpki_cert.specs.View.{IsPassed}
 use Rattle.rpki_cert.proofs.GatherLaws.{Gathers, gathers-all, gathers-on}
 use Rattle.rpki_cert.proofs.ListedLaws.{Each, each-rest, each-none, each-end, find-other, first-once}
+
+abbrev Contents : Type 0
+Contents = Bor (List ℕ)
 
 -- ---- kinds
 
@@ -111,102 +113,80 @@ slot-kind : (id : List ℕ) (k : ExtensionKind) → IsSlot id (slot_of k) → id
 slot-kind id k (inl (j, e, at)) = e ∙ ap identifier_of (sym (found j).slotted ∙ ap kind_in (sym at) ∙ (found k).slotted)
 slot-kind id k (inr (none, at)) = absurd (omega (arith, at, (found k).few))
 
--- what is made of its parts
-pub found-parts : (x y : ExtensionParts) (id w : List ℕ) (c : Bool) → y ≡ extension_parts id c w → id ≡ x.identifier
-    → c ≡ x.critical → w ≡ x.content → y ≡ x
-found-parts x y id w c e i f g = e ∙ rw (i, f, g) refl
-
 -- ---- a search
 
--- what is found of the identifier in s is found in r, and the same follows it
+-- what is found of the identifier in s is found in r
 pub record Seeks (id s r : List ℕ) : Type 0 where
-  pub same : (xs : List ExtensionParts) (h : Each xs s) → (ys : List ExtensionParts) × (k : Each ys r)
-      × (find id xs ≡ find id ys) × (behind_first id xs s h ≡ behind_first id ys r k)
-
-moved : (id p q : List ℕ) (zs : List ExtensionParts) (h : Each zs p) → p ≡ q
-    → (k : Each zs q) × (behind_first id zs p h ≡ behind_first id zs q k)
-moved id p q zs h e = subst (λ (w : List ℕ). (k : Each zs w) × (behind_first id zs p h ≡ behind_first id zs w k)) e
-    (h, refl)
-
-behind-other : (id s : List ℕ) (x : ExtensionParts) (zs : List ExtensionParts) (h : Each (x ∷ zs) s)
-    → bytes_eq x.identifier id ≡ false → behind_first id (x ∷ zs) s h ≡ behind_first id zs h.0 h.2
-behind-other id s x zs h e = rw e refl
+  pub same : (xs : List ExtensionParts) → Each xs s → (ys : List ExtensionParts) × Each ys r
+      × (find id xs ≡ find id ys)
 
 find-first : (id : List ℕ) (x : ExtensionParts) (zs : List ExtensionParts) → bytes_eq x.identifier id ≡ true
     → find id (x ∷ zs) ≡ Some x
 find-first id x zs e = rw e refl
 
-behind-one : (id s : List ℕ) (x : ExtensionParts) (zs : List ExtensionParts) (h : Each (x ∷ zs) s)
-    → bytes_eq x.identifier id ≡ true → behind_first id (x ∷ zs) s h ≡ h.0
-behind-one id s x zs h e = rw e refl
-
 -- the first has another identifier
-seek-on : (id r q : List ℕ) (x : ExtensionParts) (ys : List ExtensionParts) (h : Each ys r) → r ≢ []
+seek-on : (id r q : List ℕ) (x : ExtensionParts) (ys : List ExtensionParts) → Each ys r → r ≢ []
     → Accepts SpellsExtension r x q → bytes_eq x.identifier id ≡ false
-    → (zs : List ExtensionParts) × (k : Each zs q) × (find id ys ≡ find id zs)
-    × (behind_first id ys r h ≡ behind_first id zs q k)
-seek-on id r q x [] h some a other = absurd (some h)
-seek-on id r q x (y ∷ zs) h some a other =
-    let e = a.only y h.0 h.1 in
-    let no : bytes_eq y.identifier id ≡ false = ap (λ (w : ExtensionParts). bytes_eq w.identifier id) e.0 ∙ other in
-    let k = moved id h.0 q zs h.2 e.1 in
-    (zs, k.0, find-other id y zs no, behind-other id r y zs h no ∙ k.1)
+    → (zs : List ExtensionParts) × Each zs q × (find id ys ≡ find id zs)
+seek-on id r q x ys h some a other =
+    let (zs, is, rest) = each-rest r q x ys some a h in
+    (zs, rest, ap (find id) is ∙ find-other id x zs other)
 
 -- the first has this identifier
-seek-first : (id r q : List ℕ) (x : ExtensionParts) (ys : List ExtensionParts) (h : Each ys r) → r ≢ []
-    → Accepts SpellsExtension r x q → bytes_eq x.identifier id ≡ true
-    → (find id ys ≡ Some x) × (behind_first id ys r h ≡ q)
-seek-first id r q x [] h some a same = absurd (some h)
-seek-first id r q x (y ∷ zs) h some a same =
-    let e = a.only y h.0 h.1 in
-    let yes : bytes_eq y.identifier id ≡ true = ap (λ (w : ExtensionParts). bytes_eq w.identifier id) e.0 ∙ same in
-    (find-first id y zs yes ∙ ap (λ (w : ExtensionParts). Some w) e.0, behind-one id r y zs h yes ∙ e.1)
+seek-first : (id r q : List ℕ) (x : ExtensionParts) (ys : List ExtensionParts) → Each ys r → r ≢ []
+    → Accepts SpellsExtension r x q → bytes_eq x.identifier id ≡ true → find id ys ≡ Some x
+seek-first id r q x ys h some a same =
+    let (zs, is, rest) = each-rest r q x ys some a h in
+    ap (find id) is ∙ find-first id x zs same
+
+-- what is kept of an extension of the identifier is that extension
+kept-is : (x : ExtensionParts) (id : List ℕ) (c : Bool) (w : Contents) → x.identifier ≡ id → c ≡ x.critical
+    → w.now ≡ x.content → kept_as id c (Some w) ≡ Some x
+kept-is x id c w e f g = rw (sym e, f, g) refl
 
 -- what was found so far of the identifier is in its slot
-abbrev Slot : List ℕ → List ℕ → List ℕ → Option ListedExtension → Type 0
-Slot id s r o = ((o ≡ None) × Seeks id s r) ⊎ ((f : ListedExtension) × (o ≡ Some f) × FindsListed id s (Some f))
+abbrev Slot : List ℕ → List ℕ → List ℕ → Bool → Option Contents → Type 0
+Slot id s r c o =
+    ((o ≡ None) × Seeks id s r)
+    ⊎ ((w : Contents) × (o ≡ Some w) × OfListed s (λ xs. kept_as id c (Some w) ≡ find id xs))
 
 module _ (id s r q : List ℕ) (x : ExtensionParts) (some : r ≢ []) (a : Accepts SpellsExtension r x q) where
-  slot-other : (o : Option ListedExtension) → bytes_eq x.identifier id ≡ false → Slot id s r o → Slot id s q o
-  slot-other o other (inr there) = inr there
-  slot-other o other (inl (none, h)) =
+  slot-other : (c : Bool) (o : Option Contents) → bytes_eq x.identifier id ≡ false → Slot id s r c o → Slot id s q c o
+  slot-other c o other (inr there) = inr there
+  slot-other c o other (inl (none, h)) =
       inl (
         none,
         record {
           same = λ xs k.
-              let (ys, each, e, f) = h.same xs k in
-              let (zs, rest, e2, f2) = seek-on id r q x ys each some a other in
-              (zs, rest, e ∙ e2, f ∙ f2);
+              let (ys, each, e) = h.same xs k in
+              let (zs, rest, f) = seek-on id r q x ys each some a other in
+              (zs, rest, e ∙ f);
         },
       )
 
-  slot-first : (f : ListedExtension) → x.identifier ≡ id → IsListed x q f → (o : Option ListedExtension) → o ≡ None
-      → Slot id s r o → Slot id s q (Some f)
-  slot-first f named is o none (inr (g, there, found)) = absurd (some-none g (sym there ∙ none)) where
-    some-none : (g : ListedExtension) → ◌≡◌ {A = Option ListedExtension} (Some g) None → ⊥
-    some-none g e = cc
-  slot-first f named is o none (inl (e, h)) =
+  slot-first : (c : Bool) (w : Contents) → x.identifier ≡ id → c ≡ x.critical → w.now ≡ x.content → Seeks id s r
+      → Slot id s q c (Some w)
+  slot-first c w named e f h =
       inr (
-        f,
+        w,
         refl,
         λ xs k.
-            let (ys, each, g, b) = h.same xs k in
+            let (ys, each, g) = h.same xs k in
             let same = (bytes_eq-Decides x.identifier id).1 named in
-            let (found, behind) = seek-first id r q x ys each some a same in
-            (x, g ∙ found, named, subst (λ (w : List ℕ). IsListed x w f) (sym (b ∙ behind)) is),
+            kept-is x id c w named e f ∙ sym (g ∙ seek-first id r q x ys each some a same),
       )
 
-slot-end : (id s r : List ℕ) (o : Option ListedExtension) → r ≡ [] → Slot id s r o → FindsListed id s o
-slot-end id s r None end (inl (none, h)) = λ xs k.
-    let (ys, each, e, b) = h.same xs k in
-    e ∙ ap (find id) (each-end r ys end each)
-slot-end id s r (Some f) end (inl (none, h)) = absurd cc
-slot-end id s r o end (inr (f, there, found)) = subst (FindsListed id s) (sym there) found
+slot-end : (id s r : List ℕ) (c : Bool) (o : Option Contents) → r ≡ [] → Slot id s r c o
+    → OfListed s (λ xs. kept_as id c o ≡ find id xs)
+slot-end id s r c o end (inl (none, h)) = λ xs k.
+    let (ys, each, e) = h.same xs k in
+    ap (kept_as id c) none ∙ sym (e ∙ ap (find id) (each-end r ys end each))
+slot-end id s r c o end (inr (w, there, kept)) = λ xs k. ap (kept_as id c) there ∙ kept xs k
 
 -- ---- that no two have the same identifier
 
 abbrev Slots : Type 0
-Slots = List (Option ListedExtension)
+Slots = List (Option Contents)
 
 abbrev IsFree : Slots → ℕ → Type 0
 IsFree slots n = get_or slots n None ≡ None
@@ -217,7 +197,7 @@ pub record Apart (s r : List ℕ) (slots : Slots) : Type 0 where
       × (((id : List ℕ) (n : ℕ) → IsSlot id n → (IsFree slots n → ⊥) → find id ys ≡ None) → IsTrue (are_unique ys)
       → IsTrue (are_unique xs))
 
-apart-on : (s r q : List ℕ) (x : ExtensionParts) (n : ℕ) (f : ListedExtension) (slots : Slots) → r ≢ []
+apart-on : (s r q : List ℕ) (x : ExtensionParts) (n : ℕ) (f : Contents) (slots : Slots) → r ≢ []
     → Accepts SpellsExtension r x q → IsSlot x.identifier n → n < length slots → IsFree slots n → Apart s r slots
     → Apart s q (set slots n (Some f))
 apart-on s r q x n f slots some a here room free h = record {
@@ -237,7 +217,7 @@ apart-on s r q x n f slots some a here room free h = record {
 
     full : IsFree taken n → ⊥
     full e = some-none (sym (get_or-set_same slots n (Some f) None room) ∙ e) where
-      some-none : ◌≡◌ {A = Option ListedExtension} (Some f) None → ⊥
+      some-none : ◌≡◌ {A = Option Contents} (Some f) None → ⊥
       some-none e = cc
 
     other : (id : List ℕ) (m : ℕ) → IsSlot id m → m ≢ n → bytes_eq x.identifier id ≡ false
@@ -256,12 +236,12 @@ apart-on s r q x n f slots some a here room free h = record {
           let same = get_or-set_other slots n m (Some f) None differ in
           find-other id x zs (other id m slot differ) ∙ fresh id m slot (λ e. seen (sym same ∙ e))
 
-pub free-slot : (o : Option ListedExtension) → is_some o ≡ false → o ≡ None
+pub free-slot : (o : Option Contents) → is_some o ≡ false → o ≡ None
 free-slot None e = refl
 free-slot (Some f) e = absurd (false≢true (sym e))
 
-pub full-slot : (o : Option ListedExtension) → is_some o ≡ true → o ≡ None → ⊥
-full-slot o e none = false≢true (sym (ap (λ (w : Option ListedExtension). is_some w) none) ∙ e)
+pub full-slot : (o : Option Contents) → is_some o ≡ true → o ≡ None → ⊥
+full-slot o e none = false≢true (sym (ap (λ (w : Option Contents). is_some w) none) ∙ e)
 
 -- ---- all of it
 
@@ -278,31 +258,34 @@ slot-known id n (inl (k, named, is)) =
     ap (λ (m : ℕ). not (eqb m 13)) is ∙ ap not other ∙ sym (ap is_known named ∙ (found k).known)
 slot-known id n (inr (none, is)) = ap (λ (m : ℕ). not (eqb m 13)) is ∙ unknown id none
 
-pub record Passing (s r : List ℕ) (slots : List (Option ListedExtension)) (understood : Bool) (count : ℕ)
+pub record Passing (s r : List ℕ) (slots : Slots) (critical : List Bool) (understood : Bool) (count : ℕ)
     (apart : Bool) : Type 0 where
   pub size : length slots ≡ 14
+  pub marks : length critical ≡ 14
   pub room : count + length r ≤ length s
   pub counted : Gathers SpellsExtension (λ xs. length xs) (λ n. count + n) s r
   pub known : Gathers SpellsExtension are_understood (λ b. understood && b) s r
-  pub found : (k : ExtensionKind) → Slot (identifier_of k) s r (get_or slots (slot_of k) None)
+  pub found : (k : ExtensionKind) → Slot (identifier_of k) s r (get_or critical (slot_of k) false)
+      (get_or slots (slot_of k) None)
   pub distinct : IsTrue apart → Apart s r slots
 
-pub passing-all : (s : List ℕ) (slots : List (Option ListedExtension)) → slots ≡ replicate 14 None
-    → Passing s s slots true 0 true
-passing-all s slots e = record {
+pub passing-all : (s : List ℕ) (slots : Slots) (critical : List Bool) → slots ≡ replicate 14 None
+    → length critical ≡ 14 → Passing s s slots critical true 0 true
+passing-all s slots critical e marks = record {
   size = ap length e;
+  marks = marks;
   room = omega arith;
   counted = gathers-all SpellsExtension (λ xs. length xs) s (λ n. 0 + n) (λ n. omega arith);
   known = gathers-all SpellsExtension are_understood s (λ b. true && b) (λ b. refl);
-  found = λ k. inl (free (slot_of k) (found k).few, record { same = λ xs h. (xs, h, refl, refl) });
+  found = λ k. inl (free (slot_of k) (found k).few, record { same = λ xs h. (xs, h, refl) });
   distinct = λ _. record { same = λ xs h. (xs, h, λ fresh once. once) };
 }
   where
     free : (n : ℕ) → n < 13 → IsFree slots n
     free n few = ap (λ (w : Slots). get_or w n None) e ∙ get_or-replicate 14 n None None (omega (arith, few))
 
-module _ (s r q : List ℕ) (x : ExtensionParts) (slots : List (Option ListedExtension)) (u : Bool) (c : ℕ) (d : Bool)
-    (some : r ≢ []) (a : Accepts SpellsExtension r x q) (h : Passing s r slots u c d) (v : Bool) (n : ℕ)
+module _ (s r q : List ℕ) (x : ExtensionParts) (slots : Slots) (m : List Bool) (u : Bool) (c : ℕ) (d : Bool)
+    (some : r ≢ []) (a : Accepts SpellsExtension r x q) (h : Passing s r slots m u c d) (v : Bool) (n : ℕ)
     (is : v ≡ (u && (not x.critical || is_known x.identifier))) (here : IsSlot x.identifier n) where
   counted-on : Gathers SpellsExtension (λ xs. length xs) (λ n. (c + 1) + n) s q
   counted-on = gathers-on SpellsExtension (λ xs. length xs) s (λ n. c + n) (λ n. (c + 1) + n) r q x (λ zs. omega arith)
@@ -319,10 +302,11 @@ module _ (s r q : List ℕ) (x : ExtensionParts) (slots : List (Option ListedExt
   room-on = omega (arith, h.room, leaf-shorter sequence true IsExtensionContents r x q a.spells)
 
   -- its slot is free
-  pub passing-first : (f : ListedExtension) → n < 14 → IsFree slots n → IsListed x q f
-      → Passing s q (set slots n (Some f)) v (c + 1) d
-  passing-first f few free kept = record {
+  pub passing-first : (f : Contents) (b : Bool) → n < 14 → IsFree slots n → f.now ≡ x.content → b ≡ x.critical
+      → Passing s q (set slots n (Some f)) (set m n b) v (c + 1) d
+  passing-first f b few free content mark = record {
     size = length-set slots n (Some f) ∙ h.size;
+    marks = length-set m n b ∙ h.marks;
     room = room-on;
     counted = counted-on;
     known = known-on;
@@ -333,30 +317,51 @@ module _ (s r q : List ℕ) (x : ExtensionParts) (slots : List (Option ListedExt
       room : n < length slots
       room = omega (arith, few, h.size)
 
+      marks : n < length m
+      marks = omega (arith, few, h.marks)
+
+      put : List (Option Contents)
+      put = set slots n (Some f)
+
+      marked : List Bool
+      marked = set m n b
+
+      seeks : (k : ExtensionKind) → IsFree slots (slot_of k)
+          → Slot (identifier_of k) s r (get_or m (slot_of k) false) (get_or slots (slot_of k) None)
+          → Seeks (identifier_of k) s r
+      seeks k none (inl (e, there)) = there
+      seeks k none (inr (w, there, kept)) = absurd (some-none w (sym there ∙ none)) where
+        some-none : (w : Contents) → ◌≡◌ {A = Option Contents} (Some w) None → ⊥
+        some-none w e = cc
+
       go : (k : ExtensionKind) → ((eqb n (slot_of k) ≡ true) × (n ≡ slot_of k))
           ⊎ ((eqb n (slot_of k) ≡ false) × (n ≢ slot_of k))
-          → Slot (identifier_of k) s q (get_or (set slots n (Some f)) (slot_of k) None)
-      go k (inl (b, e)) =
+          → Slot (identifier_of k) s q (get_or marked (slot_of k) false) (get_or put (slot_of k) None)
+      go k (inl (z, e)) =
           let id = identifier_of k in
           let named : x.identifier ≡ id = slot-kind x.identifier k (subst (IsSlot x.identifier) e here) in
-          let there : get_or (set slots n (Some f)) (slot_of k) None ≡ Some f =
-          ap (λ (w : ℕ). get_or (set slots n (Some f)) w None) (sym e)
-          ∙ get_or-set_same slots n (Some f) None room in
+          let there : get_or put (slot_of k) None ≡ Some f =
+          ap (λ (w : ℕ). get_or put w None) (sym e) ∙ get_or-set_same slots n (Some f) None room in
+          let also : get_or marked (slot_of k) false ≡ x.critical =
+          ap (λ (w : ℕ). get_or marked w false) (sym e) ∙ get_or-set_same m n b false marks ∙ mark in
           let none : IsFree slots (slot_of k) = ap (λ (w : ℕ). get_or slots w None) (sym e) ∙ free in
-          subst (Slot id s q) (sym there) (slot-first id s r q x some a f named kept _ none (h.found k))
-      go k (inr (b, differ)) =
+          subst (Slot id s q (get_or marked (slot_of k) false)) (sym there)
+          (slot-first id s r q x some a _ f named also content (seeks k none (h.found k)))
+      go k (inr (z, differ)) =
           let id = identifier_of k in
           let there = get_or-set_other slots n (slot_of k) (Some f) None (λ e. differ (sym e)) in
+          let also = get_or-set_other m n (slot_of k) b false (λ e. differ (sym e)) in
           let other : bytes_eq x.identifier id ≡ false =
           false_from_ne_true (bytes_eq x.identifier id)
           (λ e. differ (one-slot x.identifier n (slot_of k) here
           (inl (k, (bytes_eq-Decides x.identifier id).0 e, refl)))) in
-          subst (Slot id s q) (sym there) (slot-other id s r q x some a _ other (h.found k))
+          rw (there, also) (slot-other id s r q x some a _ _ other (h.found k))
 
   -- its slot is taken
-  pub passing-again : (IsFree slots n → ⊥) → Passing s q slots v (c + 1) false
+  pub passing-again : (IsFree slots n → ⊥) → Passing s q slots m v (c + 1) false
   passing-again full = record {
     size = h.size;
+    marks = h.marks;
     room = room-on;
     counted = counted-on;
     known = known-on;
@@ -366,8 +371,8 @@ module _ (s r q : List ℕ) (x : ExtensionParts) (slots : List (Option ListedExt
     where
       go : (k : ExtensionKind) → ((eqb n (slot_of k) ≡ true) × (n ≡ slot_of k))
           ⊎ ((eqb n (slot_of k) ≡ false) × (n ≢ slot_of k))
-          → Slot (identifier_of k) s r (get_or slots (slot_of k) None)
-          → Slot (identifier_of k) s q (get_or slots (slot_of k) None)
+          → Slot (identifier_of k) s r (get_or m (slot_of k) false) (get_or slots (slot_of k) None)
+          → Slot (identifier_of k) s q (get_or m (slot_of k) false) (get_or slots (slot_of k) None)
       go k _ (inr there) = inr there
       go k (inl (b, e)) (inl (none, seeks)) = absurd (full (ap (λ (w : ℕ). get_or slots w None) e ∙ none))
       go k (inr (b, differ)) (inl there) =
@@ -376,21 +381,21 @@ module _ (s r q : List ℕ) (x : ExtensionParts) (slots : List (Option ListedExt
           false_from_ne_true (bytes_eq x.identifier id)
           (λ e. differ (one-slot x.identifier n (slot_of k) here
           (inl (k, (bytes_eq-Decides x.identifier id).0 e, refl)))) in
-          slot-other id s r q x some a _ other (inl there)
+          slot-other id s r q x some a _ _ other (inl there)
 
 -- no extension begins the rest
-pub passing-none : (s r : List ℕ) (slots : List (Option ListedExtension)) (u : Bool) (c : ℕ) (d : Bool) → r ≢ []
-    → Passing s r slots u c d
+pub passing-none : (s r : List ℕ) (slots : Slots) (m : List Bool) (u : Bool) (c : ℕ) (d : Bool) → r ≢ []
+    → Passing s r slots m u c d
     → Refuses SpellsExtension r → (xs : List ExtensionParts) → SpellsSome SpellsExtension xs s → ⊥
-passing-none s r slots u c d some h none xs k =
+passing-none s r slots m u c d some h none xs k =
     let (ys, each, e) = h.counted.back xs k.each in
     each-none r ys some none each
 
-module _ (s r : List ℕ) (slots : List (Option ListedExtension)) (u : Bool) (c : ℕ) (d : Bool) (end : r ≡ [])
-    (h : Passing s r slots u c d) where
-  pub passing-table : IsTable s slots u
+module _ (s r : List ℕ) (slots : Slots) (m : List Bool) (u : Bool) (c : ℕ) (d : Bool) (end : r ≡ [])
+    (h : Passing s r slots m u c d) where
+  pub passing-table : IsTable s slots m u
   passing-table = record {
-    found = λ k. slot-end (identifier_of k) s r _ end (h.found k);
+    found = λ k. slot-end (identifier_of k) s r _ _ end (h.found k);
     known = λ xs k.
         let (ys, each, e) = h.known.back xs k in
         sym (e ∙ ap (λ (zs : List ExtensionParts). u && are_understood zs) (each-end r ys end each) ∙ last u);

@@ -1,24 +1,21 @@
 -- What is signed of a certificate is one value, with everything nested in it.
-use Rattle.std.proofs.Common.{◌≡◌, ℕ, true, false, List, refl, sym, subst}
-use Rattle.rpki_der.specs.TagName.{TagName, integer, sequence, bit_string, oid, null}
+use Rattle.std.proofs.Common.{ℕ, false, List, sym, subst}
+use Rattle.rpki_der.specs.TagName.{integer, sequence, bit_string, oid}
 use Rattle.rpki_der.specs.Values.{SpellsLeaf}
-use Rattle.rpki_der.specs.Leaves.{IsBits, IsNull, IsOnly}
-use Rattle.rpki_der.specs.Parts.{Then}
+use Rattle.rpki_der.specs.Leaves.{IsBits, IsOnly}
 use Rattle.rpki_der.specs.Members.{IsValue, IsValueList}
-use Rattle.rpki_der.specs.ValueListLaws.{no_value_list, value_lists_append}
-use Rattle.rpki_der.proofs.LeafValueLaws.{leaf-value-alone, composed-value-alone}
+use Rattle.rpki_der.specs.ValueListLaws.{value_lists_append}
+use Rattle.rpki_der.proofs.LeafValueLaws.{composed-value-alone}
 use Rattle.rpki_time.specs.Serial.{IsSerialContents, SpellsSerial}
-use Rattle.rpki_time.specs.TimeValue.{SpellsTime}
 use Rattle.rpki_time.specs.PeriodValue.{IsPeriod, SpellsPeriod}
 use Rattle.rpki.specs.declared.crypto.keys.PublicKeyFormat.TheVariants.{Rsa, EcdsaP256}
-use Rattle.rpki.specs.Oids.{rsa_encryption, ec_public_key, secp256r1, sha256_with_rsa_encryption}
-use Rattle.rpki.specs.Algorithm.{IsParameters, IsIdentified}
+use Rattle.rpki.specs.Oids.{rsa_encryption, ec_public_key, secp256r1}
 use Rattle.rpki.specs.KeyFormat.{IsFormatContents, SpellsFormat}
 use Rattle.rpki.specs.PublicKey.{IsKeyContents, SpellsKey}
 use Rattle.rpki.specs.Name.{SpellsNameOctets}
 use Rattle.rpki.specs.ExtensionValue.{SpellsExtension}
 use Rattle.rpki.proofs.ExtensionLaws.{extension-value}
-use Rattle.rpki.proofs.NameLaws.{name-value, each-values}
+use Rattle.rpki.proofs.NameLaws.{each-values}
 use Rattle.rpki_cert.specs.Cert.{TbsParts, version_tag, two, SpellsTwo, SpellsVersion, extensions_tag, AreExtensions}
 use Rattle.rpki_cert.specs.Cert.{SpellsExtensionList, SpellsExtensions, fields_of, AreFields}
 use Rattle.rpki_x509.specs.Signed.{SpellsRpkiAlgorithm}

@@ -1,19 +1,10 @@
 -- Certificates that are read in place.
-use Rattle.std.proofs.Common.{◌≡◌, ◌∙◌, ◌<◌, ℕ, Bool, true, false, List, [], ◌++◌, length, refl, sym, ap}
-use Rattle.std.proofs.Common.{subst, append_assoc, inl, inr, Result, Ok, Err}
+use Rattle.std.proofs.Common.{◌≡◌, ◌∙◌, ◌<◌, ℕ, Bool, true, List, length, sym}
+use Rattle.std.proofs.Common.{subst, Result, Ok, Err}
 use Rattle.std.specs.Prelude.{codes, IfOk, IfErr}
-use Rattle.rpki_der.specs.declared.error.DecodeError.{DecodeError}
-use Rattle.rpki_der.specs.declared.error.DecodeError.TheVariants.{Trailing}
-use Rattle.rpki_der.specs.FirstFault.FirstFault.{AtPart, Later}
-use Rattle.rpki_der.specs.TagName.{sequence, bit_string}
-use Rattle.rpki_der.specs.Reading.{Accepts, Refusal, SpellsNothing}
-use Rattle.rpki_der.specs.Values.{SpellsContents, SpellsLeaf, IsLeafFault}
-use Rattle.rpki_der.specs.Leaves.{Bits, IsBits, bits_of}
-use Rattle.rpki_der.specs.Members.{SpellsValue}
-use Rattle.rpki_der.proofs.InsideLaws.{unless-memory}
-use Rattle.rpki_der.proofs.LeavesLaws.{leaf-no-memory}
-use Rattle.rpki_der.proofs.ComposedLaws.{all-read, nothing-after, nothing-whole, spelled-whole}
-use Rattle.rpki.specs.SignedData.{SignedParts, parts_of, IsSignedContents}
+use Rattle.rpki_der.specs.TagName.{sequence}
+use Rattle.rpki_der.specs.Values.{SpellsContents}
+use Rattle.rpki.specs.SignedData.{SignedParts, IsSignedContents}
 use Rattle.rpki.specs.UnknownAlgorithm.{IsContentWith}
 use Rattle.rpki_cert.specs.declared.read.cert_part.CertPart.{CertPart}
 use Rattle.rpki_cert.specs.declared.read.cert_error.CertError.{CertError}
@@ -22,14 +13,11 @@ use Rattle.rpki_x509.specs.declared.signed_parts.Parts.{Parts}
 use Rattle.rpki_cert.specs.declared.read.view.CertView.{CertView}
 use Rattle.rpki_cert.specs.Cert.{TbsParts, CertParts, cert_parts, SpellsTbs, SpellsCert}
 use Rattle.rpki_x509.specs.Signed.{SpellsRpkiAlgorithm}
-use Rattle.rpki_x509.specs.Signed.{SpellsUsed, IsSignatureFault}
 use Rattle.rpki_cert.specs.View.{HasOne, IsTbsIn, IsCertAt, IsTbsWrong}
 use Rattle.rpki_x509.specs.SignedParts.{ArePartsIn}
 use Rattle.rpki_cert.specs.View.{AreContentsOf, AreContentsWrong, IsCertErrorOf, most_extensions}
 use Rattle.rpki_cert.specs.View.AreContentsWrong.{InSigned, Differ}
 use Rattle.rpki_cert.specs.View.WholeWrong.{InFrame}
-use Rattle.rpki_x509.proofs.FrameLaws.{section-front}
-use Rattle.rpki_x509.proofs.NestedLaws.{StandsBefore}
 use Rattle.rpki_cert.proofs.OneLaws.{cert-one}
 use Rattle.rpki_cert.proofs.WrongLaws.{cert-wrong}
 

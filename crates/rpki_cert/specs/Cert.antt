@@ -6,14 +6,11 @@ use Rattle.rpki_der.specs.Prelude.{Format, leaf, around, only, Then}
 use Rattle.rpki_time.specs.Serial.{SpellsSerial}
 use Rattle.rpki_time.specs.Validity.{Period}
 use Rattle.rpki_time.specs.PeriodValue.{SpellsPeriod}
-use Rattle.rpki.specs.Oids.{sha256_with_rsa_encryption}
-use Rattle.rpki.specs.Algorithm.{SpellsAlgorithm}
-use Rattle.rpki.specs.AlgorithmFault.{algorithm}
 use Rattle.rpki.specs.Name.{SpellsNameOctets}
 use Rattle.rpki.specs.PublicKey.{KeyParts, SpellsKey}
 use Rattle.rpki.specs.ExtensionValue.{ExtensionParts}
 use Rattle.rpki.specs.SignedData.{SignedParts, SpellsSigned}
-use Rattle.rpki_x509.specs.Signed.{SpellsRpkiAlgorithm, rpki_algorithm}
+use Rattle.rpki_x509.specs.Signed.{SpellsRpkiAlgorithm}
 pub use Rattle.rpki_cert.specs.ExtensionList.{extensions_tag, find, is_there, are_unique, AreExtensions}
 pub use Rattle.rpki_cert.specs.ExtensionList.{SpellsExtensionList, SpellsExtensions}
 

@@ -1,16 +1,12 @@
 -- Which error certificates have that are rejected (RFC 5280 4.1): that of the leftmost part that isn't there. First the
 -- octets are read as signed data, and then what is signed.
-use Rattle.std.specs.Prelude.{◌≡◌, ◌≢◌, ◌⊎◌, ℕ, true, List, codes}
+use Rattle.std.specs.Prelude.{◌≡◌, ◌≢◌, ◌⊎◌, ℕ, true, List}
 use Rattle.rpki_der.specs.declared.error.DecodeError.{DecodeError}
 use Rattle.rpki_der.specs.declared.error.DecodeError.TheVariants.{Trailing, OutOfMemory}
 use Rattle.rpki_der.specs.Prelude.{Finds, sequence}
-use Rattle.rpki.specs.UnknownAlgorithm.{IsContentWith}
-use Rattle.rpki.specs.SignedData.{SpellsSigned}
-use Rattle.rpki.specs.SignedFault.{signed_sequence}
 use Rattle.rpki_cert.specs.declared.read.cert_part.CertPart.{CertPart}
 use Rattle.rpki_cert.specs.declared.read.cert_part.CertPart.TheVariants.{Certificate, Tbs}
 use Rattle.rpki_cert.specs.declared.read.cert_error.CertError.{CertError}
-use Rattle.rpki_x509.specs.Signed.{SpellsRpkiAlgorithm, rpki_algorithm}
 use Rattle.rpki_cert.specs.Cert.{SpellsTbs, SpellsCert}
 use Rattle.rpki_cert.specs.CertError.{cert_error}
 use Rattle.rpki_cert.specs.View.{FirstWrong, AreFieldsWrong, AreContentsWrong}

@@ -1,11 +1,9 @@
 -- What the octets of the extensions are, each in the form of RFC 6487 4.8.
 use Rattle.std.specs.Prelude.{◌≢◌, ◌≡◌, ◌⊎◌, ◌||◌, ℕ, Bool, true, false, List, [], ◌∷◌}
 use Rattle.std.specs.Str.{IsAscii}
-use Rattle.rpki_der.specs.declared.error.DecodeError.{DecodeError}
-use Rattle.rpki_der.specs.declared.tag.Class.TheVariants.{Context}
-use Rattle.rpki_der.specs.Prelude.{TagName, tag_of, sequence, boolean, bit_string, oid, ia5_string, SpellsLeaf}
+use Rattle.rpki_der.specs.Prelude.{sequence, boolean, bit_string, oid, ia5_string, SpellsLeaf}
 use Rattle.rpki_der.specs.Prelude.{SpellsSome}
-use Rattle.rpki_der.specs.Prelude.{IsOnly, boolean_contents, this_oid, IsWholeFault}
+use Rattle.rpki_der.specs.Prelude.{IsOnly, boolean_contents, this_oid}
 use Rattle.rpki_der.specs.Prelude.{Format, leaf, around, only, then, said_by}
 use Rattle.rpki.specs.KeyIdentifier.{SpellsKeyIdentifier, IsKeyIdentifier, IsIdentifierFault}
 use Rattle.rpki_cert.specs.Access.{SpellsOidAs}

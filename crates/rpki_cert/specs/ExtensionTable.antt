@@ -1,10 +1,10 @@
 -- The table of the extensions of a certificate (RFC 6487 4.8).
-use Rattle.std.specs.Prelude.{◌≡◌, ◌≢◌, ◌⊎◌, ◌-◌, ℕ, Bool, List, [], ◌∷◌, Option, Some, None, if◌then◌else◌}
-use Rattle.std.specs.Prelude.{slice_index, get_or, length, bytes_eq}
+use Rattle.std.specs.Prelude.{◌≡◌, ◌≢◌, ◌⊎◌, ◌-◌, ℕ, Bool, false, List, Option, Some, None}
+use Rattle.std.specs.Prelude.{slice_index, get_or, length}
+use denote.Bor.{Bor}
 use Rattle.rpki_der.specs.Each.{SpellsEach}
-use Rattle.rpki.specs.ExtensionValue.{ExtensionParts, SpellsExtension}
+use Rattle.rpki.specs.ExtensionValue.{ExtensionParts, extension_parts, SpellsExtension}
 use Rattle.rpki_cert.specs.declared.extension.kind.ExtensionKind.{ExtensionKind}
-use Rattle.rpki_cert.specs.declared.extension.listed_extension.ListedExtension.{ListedExtension}
 use Rattle.rpki_cert.specs.Cert.{find}
 use Rattle.rpki_cert.specs.Known.{subject_key_identifier, key_usage, basic_constraints, crl_distribution_points}
 use Rattle.rpki_cert.specs.Known.{certificate_policies, extended_key_usage}
@@ -62,25 +62,15 @@ IsSlot id n =
 
 -- ---- what is found
 
--- of the octets of these extensions, in sequence, what follows the first with this identifier
-abbrev pub behind_first : List ℕ → (xs : List ExtensionParts) (s : List ℕ) → SpellsEach SpellsExtension xs s → List ℕ
-behind_first id [] s h = []
-behind_first id (x ∷ xs) s h = if bytes_eq x.identifier id then h.0 else behind_first id xs h.0 h.2
-
--- what is kept of the extension x, which r follows
-pub record IsListed (x : ExtensionParts) (r : List ℕ) (f : ListedExtension) : Type 0 where
-  pub critical : f.critical ≡ x.critical
-  pub octets : f.contents.octets.now ≡ x.content
-  pub following : f.contents.following ≡ length r
-
--- what is found in s of the identifier: what is kept of the first extension of it; or that there is none
-abbrev pub FindsListed : List ℕ → List ℕ → Option ListedExtension → Type 0
-FindsListed id s None = OfListed s (λ xs. find id xs ≡ None)
-FindsListed id s (Some f) =
-    (xs : List ExtensionParts) (h : SpellsEach SpellsExtension xs s)
-    → (x : ExtensionParts) × (find id xs ≡ Some x) × (x.identifier ≡ id) × IsListed x (behind_first id xs s h) f
+-- the extension of this identifier that is kept as its contents, or that there is none
+abbrev pub kept_as : List ℕ → Bool → Option (Bor (List ℕ)) → Option ExtensionParts
+kept_as id critical None = None
+kept_as id critical (Some contents) = Some (extension_parts id critical contents.now)
 
 -- in its slot is what is found of each kind, and whether all critical extensions are known is said
-pub record IsTable (s : List ℕ) (slots : List (Option ListedExtension)) (understood : Bool) : Type 0 where
-  pub found : (k : ExtensionKind) → FindsListed (identifier_of k) s (get_or slots (slot_of k) None)
+pub record IsTable (s : List ℕ) (contents : List (Option (Bor (List ℕ)))) (critical : List Bool) (understood : Bool)
+    : Type 0 where
+  pub found : (k : ExtensionKind) → OfListed s (λ xs.
+      kept_as (identifier_of k) (get_or critical (slot_of k) false) (get_or contents (slot_of k) None)
+      ≡ find (identifier_of k) xs)
   pub known : OfListed s (λ xs. understood ≡ are_understood xs)

@@ -1,11 +1,10 @@
 -- Certificates that are read in place: what is where, and which part is wrong, and why (RFC 5280 4.1).
 use Rattle.std.specs.Prelude.{◌≡◌, ◌≢◌, ◌⊎◌, ◌≤◌, ◌<◌, ◌++◌, ℕ, Bool, true, false, List, [], codes, length, IsTrue}
-use Rattle.std.specs.Prelude.{Result, Ok, Err}
 use Rattle.rpki_der.specs.declared.error.DecodeError.{DecodeError}
 use Rattle.rpki_der.specs.declared.error.DecodeError.TheVariants.{OutOfMemory}
-use Rattle.rpki_der.specs.Prelude.{TagName, sequence, bit_string, Accepts, Refuses, Refusal, SpellsNothing}
-use Rattle.rpki_der.specs.Prelude.{IsWholeFault, SpellsBoth, Format, IsSection}
-use Rattle.rpki_der.specs.Prelude.{SpellsContents, SpellsLeaf, IsContentsFault, IsBits, Bits, bits_of, bits_value, only}
+use Rattle.rpki_der.specs.Prelude.{TagName, sequence, Accepts, Refuses, SpellsNothing}
+use Rattle.rpki_der.specs.Prelude.{SpellsBoth, Format, IsSection}
+use Rattle.rpki_der.specs.Prelude.{SpellsContents}
 use Rattle.rpki_der.specs.Prelude.{SpellsSome, RepeatedFault, SpellsValue, IsValue, IsCaptureFault, Then}
 use Rattle.rpki_time.specs.Serial.{serial_number}
 use Rattle.rpki_time.specs.Validity.{Period}
@@ -25,15 +24,12 @@ use Rattle.rpki_cert.specs.declared.read.cert_part.CertPart.TheVariants.{Validit
 use Rattle.rpki_cert.specs.declared.read.cert_part.CertPart.TheVariants.{ExtensionCount, ExtensionIdentifiers}
 use Rattle.rpki_cert.specs.declared.read.cert_part.CertPart.TheVariants.{SameAlgorithm}
 use Rattle.rpki_cert.specs.declared.read.cert_error.CertError.{CertError}
-use Rattle.rpki_der.specs.declared.section.Section.{Section}
 use Rattle.rpki_cert.specs.declared.extension.table.Passed.{Passed}
-use Rattle.rpki_x509.specs.declared.signed_parts.Parts.{Parts}
 use Rattle.rpki_x509.specs.declared.signed_parts.SignedError.{SignedError}
 use Rattle.rpki_x509.specs.declared.signed_parts.SignedPart.{SignedPart}
 use Rattle.rpki_x509.specs.Frame.{IsFrameFault}
 use Rattle.rpki_x509.specs.Signed.{SpellsRpkiAlgorithm, rpki_algorithm}
-use Rattle.rpki_x509.specs.SignedParts.{ArePartsIn, ArePartsAt, AreMalformed}
-pub use Rattle.rpki_cert.specs.ExtensionTable.{behind_first}
+use Rattle.rpki_x509.specs.SignedParts.{ArePartsIn, AreMalformed}
 use Rattle.rpki_cert.specs.ExtensionTable.{OfListed}
 use Rattle.rpki_cert.specs.declared.read.fields.Keyed.{Keyed}
 use Rattle.rpki_cert.specs.declared.read.fields.Named.{Named}

@@ -13,7 +13,6 @@ pub mod kind;
 pub mod known_part;
 pub mod known_view;
 pub mod list;
-pub mod listed_extension;
 pub mod policy;
 pub mod purposes;
 pub mod source;

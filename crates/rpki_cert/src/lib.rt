@@ -22,7 +22,6 @@ pub use extension::kind::ExtensionKind;
 pub use extension::known_part::KnownPart;
 pub use extension::known_view::KnownView;
 pub use extension::list::find as find_extension;
-pub use extension::listed_extension::ListedExtension;
 pub use extension::policy::Overclaim;
 pub use extension::source::are_understood;
 pub use extension::table::ExtensionTable;

@@ -4,12 +4,11 @@ ghost use Rattle.std.specs.Prelude.{◌≡◌, IfOk, IfErr};
 ghost use Rattle.rpki_der.specs.Cursor.{left};
 ghost use Rattle.rpki_cert.specs.Cert.{find};
 ghost use Rattle.rpki_cert.specs.Known.{are_understood};
-ghost use Rattle.rpki_cert.specs.ExtensionTable.{OfListed, identifier_of, FindsListed, IsListed};
+ghost use Rattle.rpki_cert.specs.ExtensionTable.{OfListed, identifier_of};
 ghost use Rattle.rpki_cert.specs.View.{IsPassed, IsNotListed};
 
 use crate::extension::kind::{ExtensionKind, is_understood_in, slot_of};
-use crate::extension::listed_extension::ListedExtension;
-use rpki::der::{Constructed, DecodeError, Section};
+use rpki::der::{Constructed, DecodeError};
 use rpki::repository::x509::ExtensionView;
 use std::marker::Model;
 
@@ -17,7 +16,8 @@ use std::marker::Model;
 #[derive(Drop)]
 pub struct ExtensionTable<'a> {
     list: &'a [u8],
-    slots: [Option<ListedExtension<'a>>; 14],
+    contents: [Option<&'a [u8]>; 14],
+    critical: [bool; 14],
     understood: bool,
 }
 
@@ -29,7 +29,7 @@ impl<'a> Model for ExtensionTable<'a> {
 
     ghost view = { λ t. t.list.now };
 
-    ghost invariant = { λ t. IsTable t.list.now t.slots t.understood };
+    ghost invariant = { λ t. IsTable t.list.now t.contents t.critical t.understood };
 }
 
 /// Extensions that were read, in sequence.
@@ -43,19 +43,6 @@ pub struct Passed<'a> {
     pub apart: bool,
 }
 
-/// What is kept of an extension, which is followed by the rest.
-fn listed_of<'a>(extension: &ExtensionView<'a>, rest: Constructed<'a>) -> ListedExtension<'a>
-    ensures { IsListed extension.now (left rest.entry) result }
-{
-    ListedExtension {
-        critical: extension.critical(),
-        contents: Section {
-            octets: extension.octets(),
-            following: rest.rest().len(),
-        },
-    }
-}
-
 /// Reads extensions, in sequence, and one at least.
 ///
 /// The error is `Content` with the text `no extensions` where there is none; else that of the first that isn't one.
@@ -66,7 +53,8 @@ pub fn pass<'a>(list: Constructed<'a>) -> Result<Passed<'a>, DecodeError>
     if list.is_empty() {
         return Err(DecodeError::content("no extensions"));
     }
-    let mut slots = [None; 14];
+    let mut contents = [None; 14];
+    let mut critical = [false; 14];
     let mut understood = true;
     let mut count = 0;
     let mut apart = true;
@@ -78,10 +66,11 @@ pub fn pass<'a>(list: Constructed<'a>) -> Result<Passed<'a>, DecodeError>
                 let slot = slot_of(extension.id());
                 let known = is_understood_in(extension.critical(), slot);
                 understood = understood && known;
-                if slots[slot].is_some() {
+                if contents[slot].is_some() {
                     apart = false;
                 } else {
-                    slots[slot] = Some(listed_of(&extension, rest));
+                    contents[slot] = Some(extension.octets());
+                    critical[slot] = extension.critical();
                 }
             }
             Err(e) => return Err(e),
@@ -90,7 +79,8 @@ pub fn pass<'a>(list: Constructed<'a>) -> Result<Passed<'a>, DecodeError>
     Ok(Passed {
         table: ExtensionTable {
             list: list.rest(),
-            slots,
+            contents,
+            critical,
             understood,
         },
         count,
@@ -106,23 +96,13 @@ impl<'a> ExtensionTable<'a> {
         self.list
     }
 
-    /// The extension of this kind, and how many octets follow it.
-    pub fn listed(&self, kind: ExtensionKind) -> Option<ListedExtension<'a>>
-        ensures { FindsListed (identifier_of kind) self.now result }
-    {
-        self.slots[kind.slot()]
-    }
-
     /// The extension of this kind.
     pub fn find(&self, kind: ExtensionKind) -> Option<ExtensionView<'a>>
         ensures { OfListed self.now (λ xs. result ≡ find (identifier_of kind) xs) }
     {
-        match self.listed(kind) {
-            Some(found) => Some(ExtensionView::of_parts(
-                kind.id(),
-                found.critical,
-                found.contents.octets,
-            )),
+        let slot = kind.slot();
+        match self.contents[slot] {
+            Some(octets) => Some(ExtensionView::of_parts(kind.id(), self.critical[slot], octets)),
             None => None,
         }
     }

@@ -20,7 +20,7 @@ returns-then-is_empty-clause-err c =
     rw c.content.ensures (nothing-there _ end, inl (end, refl))
 
 pub extensions-init : goal.extensions-init
-extensions-init c = rw (c.from_slice-rest.ensures, c.rest.ensures) (passing-all _ _ refl, faults-all _)
+extensions-init c = rw (c.from_slice-rest.ensures, c.rest.ensures) (passing-all _ _ _ refl refl, faults-all _)
 
 pub overflow_add-count : goal.overflow_add-count
 unfolding left
@@ -42,7 +42,7 @@ extensions-preserved-then-is_some c =
       | else-understood w ↦ one-unknown _ _ _ w.if-understood.false (w.understood-is ∙ w.if-understood.false)
     ] in
     let full = full-slot _ (sym c.is_some.ensures ∙ c.if-is_some.true) in (
-      passing-again _ _ _ x _ _ _ _ some c.in-Ok.ensures c.extensions.invariant.0 _ _ is here full,
+      passing-again _ _ _ x _ _ _ _ _ some c.in-Ok.ensures c.extensions.invariant.0 _ _ is here full,
       faults-on _ _ _ x some c.in-Ok.ensures c.extensions.invariant.1,
     )
 
@@ -59,8 +59,8 @@ extensions-preserved c =
       | else-understood w ↦ one-unknown _ _ _ w.if-understood.false (w.understood-is ∙ w.if-understood.false)
     ] in
     let free = free-slot _ (sym c.is_some.ensures ∙ c.if-is_some.false) in (
-      passing-first _ _ _ x _ _ _ _ some c.in-Ok.ensures c.extensions.invariant.0 _ _ is here _
-          c.slot_of-slot.ensures.few free c.listed_of.ensures,
+      passing-first _ _ _ x _ _ _ _ _ some c.in-Ok.ensures c.extensions.invariant.0 _ _ is here _ _
+          c.slot_of-slot.ensures.few free c.octets.ensures c.critical-else-is_some.ensures,
       faults-on _ _ _ x some c.in-Ok.ensures c.extensions.invariant.1,
     )
 
@@ -68,7 +68,7 @@ pub returns-in-Err-clause-err : goal.returns-in-Err-clause-err
 returns-in-Err-clause-err c =
     let some = iff_false c.is_empty-in-extensions.ensures c.extensions-test.true in
     let h = c.in-Err.ensures in (
-      passing-none _ _ _ _ _ _ some c.extensions.invariant.0 (extension-refused _ _ _ h),
+      passing-none _ _ _ _ _ _ _ some c.extensions.invariant.0 (extension-refused _ _ _ h),
       inr (
         iff_false c.is_empty.ensures c.if-is_empty.false,
         c.extensions.invariant.1.kept _
@@ -79,10 +79,10 @@ returns-in-Err-clause-err c =
 pub invariant_of-result : goal.invariant_of-result
 invariant_of-result c =
     let end = c.is_empty-in-extensions.ensures.0 c.extensions-test.false in
-    rw c.rest-2.ensures (passing-table _ _ _ _ _ _ end c.extensions.invariant.0)
+    rw c.rest-2.ensures (passing-table _ _ _ _ _ _ _ end c.extensions.invariant.0)
 
 pub returns-clause-ok : goal.returns-clause-ok
 returns-clause-ok c =
     let some = iff_false c.is_empty.ensures c.if-is_empty.false in
     let end = c.is_empty-in-extensions.ensures.0 c.extensions-test.false in
-    passing-end _ _ _ _ _ _ end c.extensions.invariant.0 _ some c.rest-2.ensures refl refl
+    passing-end _ _ _ _ _ _ _ end c.extensions.invariant.0 _ some c.rest-2.ensures refl refl

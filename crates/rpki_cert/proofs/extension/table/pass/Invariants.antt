@@ -6,7 +6,7 @@ use Rattle.rpki_cert.proofs.extension.table.pass.Given as goal
 
 abbrev pub invariant-extensions : goal.invariant-extensions
 invariant-extensions l =
-    Passing (left l.fn.list) (left l.rest) l.slots l.understood l.count l.apart
+    Passing (left l.fn.list) (left l.rest) l.contents l.critical l.understood l.count l.apart
     × KeepsFault (left l.fn.list) (left l.rest)
 
 abbrev pub decreases-extensions : goal.decreases-extensions
