@@ -1,5 +1,6 @@
 """Certificates of algorithms that the RPKI doesn't use: the roots that the machine trusts, and some that openssl makes,
 beside what openssl says of them and what a reader of DER finds in them."""
+import functools
 import glob
 import hashlib
 import json
@@ -46,17 +47,28 @@ def name_text(contents):
     return ", ".join(parts)
 
 
-def told(path, *words):
-    """What `openssl x509` says of a file in PEM after the sign of equality."""
-    return openssl("x509", "-in", path, "-noout", *words).decode().strip().split("=", 1)[1]
+@functools.lru_cache(maxsize=None)
+def said_of(text):
+    """What `openssl x509` says of a certificate in PEM: its text, what is after each sign of equality before that, and
+    its octets."""
+    words = ["-serial", "-startdate", "-enddate", "-dateopt", "iso_8601", "-fingerprint", "-sha256"]
+    said = openssl("x509", "-noout", *words, "-text", input=text).decode(errors="replace")
+    before, _, whole = said.partition("\nCertificate:\n")
+    facts = dict(line.split("=", 1) for line in before.split("\n"))
+    return whole, facts, openssl("x509", "-outform", "DER", input=text)
+
+
+def told(path):
+    """The same of the certificate in a file. Of each certificate openssl is asked once."""
+    with open(path, "rb") as file:
+        return said_of(file.read())
 
 
 def read(path):
-    """The parts of what is signed of a certificate, and its octets."""
-    der = openssl("x509", "-in", path, "-outform", "DER")
-    (_, contents, _), = values(der)
+    """The parts of what is signed of a certificate."""
+    (_, contents, _), = values(told(path)[2])
     (_, signed, _), _, _ = values(contents)
-    return list(values(signed)), der
+    return list(values(signed))
 
 
 def said_of_key(text, algorithm):
@@ -70,8 +82,8 @@ def said_of_key(text, algorithm):
 
 def expected_fields(path):
     """The fields of a certificate, by openssl and by the reader above."""
-    parts, der = read(path)
-    text = openssl("x509", "-in", path, "-noout", "-text").decode(errors="replace")
+    parts = read(path)
+    text, facts, _ = told(path)
     signature = re.search(r"Signature Algorithm: (\S+)", text)[1]
     algorithm = re.search(r"Public Key Algorithm: (\S+)", text)[1]
     key = said_of_key(text, algorithm)
@@ -79,11 +91,10 @@ def expected_fields(path):
     (_, _, _), (_, bits, _) = values(parts[6][1])
     fields = [
         ("Type", "certificate"),
-        ("Version", re.search(r"Version: (\d+)", text)[1]), ("Cert Serial", told(path, "-serial")),
+        ("Version", re.search(r"Version: (\d+)", text)[1]), ("Cert Serial", facts["serial"]),
         ("Signature Algorithm", signature), ("RPKI Profile", f"{objection}, which the RPKI doesn't use"),
         ("Cert Issuer", name_text(parts[3][1])),
-        ("Valid Since", told(path, "-startdate", "-dateopt", "iso_8601")),
-        ("Valid Until", told(path, "-enddate", "-dateopt", "iso_8601")),
+        ("Valid Since", facts["notBefore"]), ("Valid Until", facts["notAfter"]),
         ("Subject", name_text(parts[5][1])), *key,
         ("Public Key SHA-1", ":".join(f"{octet:02X}" for octet in hashlib.sha1(bits[1:]).digest()))]
     for tag, contents, _ in parts[7:]:
@@ -93,12 +104,12 @@ def expected_fields(path):
                 identifier, *others = values(extension)
                 critical = "critical" if others[0][0] == 1 and others[0][1] == b"\xff" else "not critical"
                 fields += [("Extension " + EXTENSIONS.get(arcs(identifier[1]), arcs(identifier[1])), critical)]
-    return fields + [("SHA-256 Fingerprint", told(path, "-fingerprint", "-sha256"))], objection
+    return fields + [("SHA-256 Fingerprint", facts["sha256 Fingerprint"])], objection
 
 
 def is_rpki(path):
     """Whether both algorithms are those of the RPKI (RFC 7935 2, 3, RFC 8608 3)."""
-    text = openssl("x509", "-in", path, "-noout", "-text").decode(errors="replace")
+    text, _, _ = told(path)
     key = re.search(r"Public Key Algorithm: (\S+)", text)[1]
     signed = re.search(r"Signature Algorithm: (\S+)", text)[1] == "sha256WithRSAEncryption"
     return signed and (key == "rsaEncryption" or key == "id-ecPublicKey" and "ASN1 OID: prime256v1" in text)
@@ -107,7 +118,7 @@ def is_rpki(path):
 def of_other(program, name, path):
     """A certificate of other algorithms: as lines, as JSON, checked, and held to a profile."""
     fields, objection = expected_fields(path)
-    fields = [forms.hash_id(openssl("x509", "-in", path, "-outform", "DER")), ("Signature", "not checked")] + fields
+    fields = [forms.hash_id(told(path)[2]), ("Signature", "not checked")] + fields
     status, output, faults = ran(program, path)
     yield f"{name}", (status, lines_of(output), faults), (0, [("File", path)] + fields, b"")
     status, output, faults = ran(program, "--json", path)
