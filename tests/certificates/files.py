@@ -9,6 +9,8 @@ from openssl import openssl, said_of
 from programs import octets_of, ran, write
 
 MOST = 4000000
+# What is said of octets, and of a text, that begin as no object, and have none in PEM.
+OTHER = "neither DER nor PEM of an object"
 
 
 def others(program, folder):
@@ -19,11 +21,18 @@ def others(program, folder):
     malformed, none = "malformed PEM", "not a certificate: "
     end = b"-----END CERTIFICATE-----\n"
     rows = [
-        ("empty", b"", 1, none + "truncated value"),
+        ("empty", b"", 1, "empty"),
         ("cut", der[:-1], 1, none + "truncated value"),
         ("with an octet after it", der + b"\0", 1, none + "trailing data"),
-        ("another type", b"\x02\x01\x01", 1, none + "unexpected value"),
-        ("a text", b"hello\n", 1, None),
+        ("one octet", b"0", 1, none + "truncated value"),
+        ("another type", b"\x02\x01\x01", 1, OTHER),
+        ("a text", b"hello\n", 1, OTHER),
+        ("a line feed", b"\n", 1, OTHER),
+        ("DER behind a line feed", b"\n" + der, 1, OTHER),
+        ("base 64 alone", b"".join(pem.split(b"\n")[1:-2]), 1, OTHER),
+        ("a last line alone", end, 1, OTHER),
+        ("four hyphens", pem[1:], 1, OTHER),
+        ("the beginning of PEM", b"-----BEGIN", 1, malformed),
         ("PEM without its end", pem[:-len(end)], 1, malformed),
         ("PEM cut in its end", pem[:-3], 1, malformed),
         ("PEM and a text after it", pem + b"x", 0, None),
@@ -45,6 +54,7 @@ def others(program, folder):
         ("PEM and empty lines", pem + b"\n \t\r\n", 0, None),
         ("as large as may be", der + bytes(MOST - len(der)), 1, none + "trailing data"),
         ("an octet more", der + bytes(MOST + 1 - len(der)), 2, "larger than 4000000 octets"),
+        ("as many as may be, of no form", bytes(MOST), 1, OTHER),
         ("much larger", bytes(20 * MOST), 2, "larger than 4000000 octets"),
     ]
     for number, (name, octets, wanted, text) in enumerate(rows):

@@ -5,6 +5,7 @@ import json
 
 from der import bits, oid, sequence, tlv, unsigned
 from fields import UNASKED
+from files import OTHER
 from judges import contents as judged_contents, lists as judged_lists, objects as judged_objects
 from makers import payloads, signing
 from makers.certificate import CERTIFICATE
@@ -81,11 +82,18 @@ def part(octets):
     return PARTS.get(status_of(*calls[of_kind])[0], "") if of_kind in calls else ""
 
 
+def beginning(octets):
+    """How what is said of octets begins that are none, by their front."""
+    if octets[:1] == b"\x30":
+        return f"not a {KINDS[kind(octets)]}: {'' if kind(octets) == 'certificate' else part(octets)}"
+    return OTHER if octets else "empty"
+
+
 def said_of_octets(program, text, octets, expected):
     """What is said of octets: that all is well, or that they are no such object, and why."""
     status, output, faults = ran(program, "--check", "-", octets=octets)
     if expected is None:
-        start = f"-: not a {KINDS[kind(octets)]}: {'' if kind(octets) == 'certificate' else part(octets)}".encode()
+        start = f"-: {beginning(octets)}".encode()
         return text, (status, output.startswith(start), faults), (1, True, b"")
     if expected[0].startswith("rejected "):
         said = f"not a {KINDS[kind(octets)]}: {part(octets)}{expected[0][len('rejected '):]}"

@@ -66,12 +66,17 @@ UNREAD = {"content": "in the content: |in the content's |in the manifest's |in t
           "certificate's signature": "in the signer's certificate", "signature": "none"}
 
 
+def is_none(said):
+    """Whether octets are said to be no object, of their kind or of any."""
+    return said.startswith(("not a ", "neither DER nor PEM"))
+
+
 def is_of(part, said):
     """Whether this may be said of a change in the part, before two values that disagree."""
     if said.split("; found ")[0] in SAID[part]:
         return True
-    if said.startswith("not a "):
-        told = said.split(": ", 1)[1]
+    if is_none(said):
+        told = said.split(": ", 1)[-1]
         return part == "else" or any(told.startswith(front) for front in UNREAD[part].split("|"))
     resources = (OF_ORIGIN, OF_MANIFEST, OF_PROVIDERS)
     return part == "certificate" and (said.startswith("violates the profile: RFC ") or said.startswith(resources))
@@ -108,7 +113,7 @@ def octets_of_objects(program, folder):
             part = where.get(at, "else")
             yield f"{name}, octet {at} of its {part}: {told}", is_of(part, told), True
         alone = verdicts(program, folder, octets[:max(of_object(octets)["content"]) + 1])
-        yield f"{name}, by itself: a beginning", all(told.startswith("not a ") for told in alone), True
+        yield f"{name}, by itself: a beginning", all(is_none(told) for told in alone), True
 
 
 def octets_of_others(program, folder):
@@ -126,13 +131,13 @@ def octets_of_others(program, folder):
         yield f"{name}: so many", len(said), len(octets)
         for at, told in enumerate(said):
             good = told == clause + BAD or at not in signed_bits(octets, 0) and (
-                told.startswith("not a ") or told.startswith("RFC 7935 2, 3: "))
+                is_none(told) or told.startswith("RFC 7935 2, 3: "))
             yield f"{name}, octet {at}: {told}", good, True
     octets = octets_of(base, "ta/ta.cer")
     for at, told in enumerate(verdicts(program, folder, octets)):
         # By itself: a change of a name makes it another's certificate, whose issuer isn't asked for.
         if told != UNASKED:
-            good = told == "RFC 8630 2.3: " + BAD or told.startswith("not a ") or told.endswith("the RPKI doesn't use")
+            good = told == "RFC 8630 2.3: " + BAD or is_none(told) or told.endswith("the RPKI doesn't use")
             yield f"an anchor, octet {at}: {told}", good, True
 
 

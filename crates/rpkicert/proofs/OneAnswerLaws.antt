@@ -11,10 +11,12 @@ use Rattle.rpki_fields.specs.Sheet.{SheetParts, sheet_behind}
 use Rattle.rpki_fields.specs.declared.object.Object.{Object}
 use Rattle.rpkicert.specs.declared.fault.Fault.{Fault}
 use Rattle.rpkicert.specs.declared.fault.Fault.TheVariants.{Unreadable, TooLarge, OutOfMemory, Malformed, Refused}
+use Rattle.rpkicert.specs.declared.fault.Fault.TheVariants.{Empty, Neither}
 use Rattle.rpkicert.specs.declared.fault.Fault.TheVariants.{Violated, Unverified, NoCertificate, OtherAlgorithm}
 use Rattle.rpki_fields.specs.declared.rendering.Form.{Form}
 use Rattle.rpkicert.specs.Fault.{status_of}
 use Rattle.rpkicert.specs.Outcome.{OutcomeParts, found_parts, Finding, IsHeld, IsJudged, HoldsTo, FindsIn, Finds}
+use Rattle.rpkicert.specs.Outcome.{form_fault, FindsFormed, FindsBy}
 use Rattle.rpkicert.specs.declared.signature.Signature.{Signature}
 use Rattle.rpkicert.specs.Signature.{signature_found}
 use Rattle.rpkicert.specs.Request.{Asked}
@@ -68,6 +70,8 @@ held-alone terms x (Some (Refused kind place e)) g h = absurd h
 held-alone terms x (Some OutOfMemory) g h = absurd h
 held-alone terms x (Some (Unreadable cause)) g h = absurd h
 held-alone terms x (Some TooLarge) g h = absurd h
+held-alone terms x (Some Empty) g h = absurd h
+held-alone terms x (Some Neither) g h = absurd h
 held-alone terms x (Some Malformed) g h = absurd h
 
 one-held : (terms : TermParts) (octets : List ℕ) (found : OutcomeParts) (f : Finding) → found.fault ≡ None
@@ -86,17 +90,28 @@ one-held terms octets found (Err (Unverified clause e)) n g h = absurd h
 one-held terms octets found (Err OtherAlgorithm) n g h = absurd h
 one-held terms octets found (Err (Unreadable cause)) n g h = absurd h
 one-held terms octets found (Err TooLarge) n g h = absurd h
+one-held terms octets found (Err Empty) n g h = absurd h
+one-held terms octets found (Err Neither) n g h = absurd h
 one-held terms octets found (Err Malformed) n g h = absurd h
+
+one-formed : (terms : TermParts) (input : List ℕ) (found : OutcomeParts) (f : Finding) → found.fault ≡ None
+    → FindsFormed terms input (Ok found) → FindsFormed terms input f → IsAlone found f
+one-formed terms input found f n (inl g) (inl h) =
+    let same : h.0 ≡ g.0 = cc in
+    one-held terms g.0 found f n g.2 (subst (λ (octets : List ℕ). HoldsTo terms octets f) same h.2)
+one-formed terms input found f n (inl g) (inr (inl h)) = absurd (let a = g.1 in let b = h.0 in cc)
+one-formed terms input found f n (inl g) (inr (inr h)) = inr h
+one-formed terms input found f n (inr (inl g)) h = absurd (let a = g.1 in cc)
+one-formed terms input found f n (inr (inr g)) h = absurd cc
+
+one-by-form : (wrong : Option Fault) (terms : TermParts) (input : List ℕ) (found : OutcomeParts) (f : Finding)
+    → found.fault ≡ None → FindsBy wrong terms input (Ok found) → FindsBy wrong terms input f → IsAlone found f
+one-by-form None terms input found f n g h = one-formed terms input found f n g h
+one-by-form (Some fault) terms input found f n g h = absurd cc
 
 one-found-in : (terms : TermParts) (input : List ℕ) (found : OutcomeParts) (f : Finding) → found.fault ≡ None
     → FindsIn terms input (Ok found) → FindsIn terms input f → IsAlone found f
-one-found-in terms input found f n (inl g) (inl h) =
-    let same : h.0 ≡ g.0 = cc in
-    one-held terms g.0 found f n g.2 (subst (λ (octets : List ℕ). HoldsTo terms octets f) same h.2)
-one-found-in terms input found f n (inl g) (inr (inl h)) = absurd (let a = g.1 in let b = h.0 in cc)
-one-found-in terms input found f n (inl g) (inr (inr h)) = inr h
-one-found-in terms input found f n (inr (inl g)) h = absurd (let a = g.1 in cc)
-one-found-in terms input found f n (inr (inr g)) h = absurd cc
+one-found-in terms input found f n g h = one-by-form (form_fault input) terms input found f n g h
 
 pub one-finding : (terms : TermParts) (source : Option (List ℕ)) (found : OutcomeParts) → found.fault ≡ None
     → Finds terms source (Ok found) → (f : Finding) → Finds terms source f
@@ -144,6 +159,8 @@ fault-status : (fault : Fault) → status_of fault ≡ 0 → ⊥
 fault-status (Unreadable cause) e = omega arith
 fault-status TooLarge e = omega arith
 fault-status OutOfMemory e = omega arith
+fault-status Empty e = omega arith
+fault-status Neither e = omega arith
 fault-status Malformed e = omega arith
 fault-status (Refused kind place x) e = omega arith
 fault-status (Violated x) e = omega arith
@@ -163,6 +180,8 @@ some-status form terms name x (Violated v) s g = ap (λ (w : OutputParts). w.sta
 some-status form terms name x (Unreadable cause) s g = ap (λ (w : OutputParts). w.status) g.2
 some-status form terms name x TooLarge s g = ap (λ (w : OutputParts). w.status) g.2
 some-status form terms name x OutOfMemory s g = ap (λ (w : OutputParts). w.status) g.2
+some-status form terms name x Empty s g = ap (λ (w : OutputParts). w.status) g.2
+some-status form terms name x Neither s g = ap (λ (w : OutputParts). w.status) g.2
 some-status form terms name x Malformed s g = ap (λ (w : OutputParts). w.status) g.2
 some-status form terms name x (Refused kind place e) s g = ap (λ (w : OutputParts). w.status) g.2
 some-status form terms name x (Unverified clause e) s g = ap (λ (w : OutputParts). w.status) g.2

@@ -15,12 +15,13 @@ use Rattle.rpkicert.specs.declared.fault.Fault.{Fault}
 use Rattle.rpkicert.specs.declared.outcome.Outcome.{Outcome}
 use Rattle.rpkicert.specs.OutcomeView.{finding_of, wrong_finding}
 use Rattle.rpkicert.specs.declared.fault.Fault.TheVariants.{Unreadable, TooLarge, OutOfMemory, Malformed, Refused}
+use Rattle.rpkicert.specs.declared.fault.Fault.TheVariants.{Empty, Neither}
 use Rattle.rpkicert.specs.declared.fault.Fault.TheVariants.{Violated, Unverified, NoCertificate, OtherAlgorithm}
 use Rattle.rpkicert.specs.Fault.{refusal}
 use Rattle.rpkicert.specs.Requirements.{TermParts, IsVerified, IsUnverifiedBy}
 use Rattle.rpkicert.specs.Outcome.{Finding, IsObject, IsRefusal, IsHeld, IsWrong, HoldsTo, FindsIn, Finds, IsRead}
 use Rattle.rpkicert.specs.Profiled.{Meets, IsUnmet, asked_inspection, own_inspection, IsProfiled, IsUnprofiled}
-use Rattle.rpkicert.specs.Outcome.{is_outside}
+use Rattle.rpkicert.specs.Outcome.{is_outside, form_fault, FindsBy}
 
 -- why octets are no object
 pub refusal-of : (octets : List ℕ) (place : Option Part) (e : DecodeError) → IsNone (kind_of octets) octets e
@@ -103,7 +104,11 @@ wrong-holds terms octets x (Unreadable cause) h (inl e) = absurd cc
 wrong-holds terms octets x (Unreadable cause) h (inr w) = absurd w
 wrong-holds terms octets x TooLarge h (inl e) = absurd cc
 wrong-holds terms octets x TooLarge h (inr w) = absurd w
+wrong-holds terms octets x Empty h (inl e) = absurd cc
+wrong-holds terms octets x Neither h (inl e) = absurd cc
 wrong-holds terms octets x Malformed h (inl e) = absurd cc
+wrong-holds terms octets x Empty h (inr w) = absurd w
+wrong-holds terms octets x Neither h (inr w) = absurd w
 wrong-holds terms octets x Malformed h (inr w) = absurd w
 
 -- a file that was not read
@@ -112,6 +117,8 @@ pub not-read : (terms : TermParts) (source : Option (List ℕ)) (f : Fault) → 
 not-read terms (Some octets) (Unreadable cause) h = absurd h
 not-read terms (Some octets) TooLarge h = inr (inl (h, refl))
 not-read terms (Some octets) OutOfMemory h = inr (inr refl)
+not-read terms (Some octets) Empty h = absurd h
+not-read terms (Some octets) Neither h = absurd h
 not-read terms (Some octets) Malformed h = absurd h
 not-read terms (Some octets) (Refused kind place e) h = absurd h
 not-read terms (Some octets) (Violated v) h = absurd h
@@ -121,6 +128,8 @@ not-read terms (Some octets) OtherAlgorithm h = absurd h
 not-read terms None (Unreadable cause) h = inl (cause, refl)
 not-read terms None TooLarge h = absurd h
 not-read terms None OutOfMemory h = inr refl
+not-read terms None Empty h = absurd h
+not-read terms None Neither h = absurd h
 not-read terms None Malformed h = absurd h
 not-read terms None (Refused kind place e) h = absurd h
 not-read terms None (Violated v) h = absurd h
@@ -140,3 +149,8 @@ pub was-read-of : (terms : TermParts) (held : Option (Option (List ℕ))) (input
     → IfSome held (λ source. Finds terms source finding)
 was-read-of terms None input finding h k = tt
 was-read-of terms (Some source) input finding h k = was-read terms source input finding h k
+
+-- by what is wrong with the form
+pub by-form : (terms : TermParts) (input : List ℕ) (wrong : Option Fault) (f : Finding) → wrong ≡ form_fault input
+    → FindsBy wrong terms input f → FindsIn terms input f
+by-form terms input wrong f e h = subst (λ (w : Option Fault). FindsBy w terms input f) e h

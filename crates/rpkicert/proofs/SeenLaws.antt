@@ -8,6 +8,7 @@ use Rattle.std.specs.Prelude.{IfOk, IfSome}
 use Rattle.rpki_fields.specs.declared.rendering.Form.{Form}
 use Rattle.rpkicert.specs.declared.fault.Fault.{Fault}
 use Rattle.rpkicert.specs.declared.fault.Fault.TheVariants.{Unreadable, TooLarge, OutOfMemory, Malformed, Refused}
+use Rattle.rpkicert.specs.declared.fault.Fault.TheVariants.{Empty, Neither}
 use Rattle.rpkicert.specs.declared.fault.Fault.TheVariants.{Violated, Unverified, NoCertificate, OtherAlgorithm}
 use Rattle.rpkicert.specs.declared.output.Output.{Output}
 use Rattle.rpkicert.specs.Fault.{most_octets}
@@ -116,6 +117,8 @@ unread-seen check form terms name (Some octets) TooLarge s h k =
     OfAll (large-none octets h) (inl (Err TooLarge, not-read terms (Some octets) TooLarge h, k))
 unread-seen check form terms name (Some octets) OutOfMemory s h k = OfNone (inl k)
 unread-seen check form terms name (Some octets) (Unreadable cause) s h k = absurd h
+unread-seen check form terms name (Some octets) Empty s h k = absurd h
+unread-seen check form terms name (Some octets) Neither s h k = absurd h
 unread-seen check form terms name (Some octets) Malformed s h k = absurd h
 unread-seen check form terms name (Some octets) (Refused kind place e) s h k = absurd h
 unread-seen check form terms name (Some octets) (Violated e) s h k = absurd h

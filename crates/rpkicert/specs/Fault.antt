@@ -18,6 +18,7 @@ use Rattle.rpkicert.specs.declared.fault.Cause.{Cause}
 use Rattle.rpkicert.specs.declared.fault.Cause.TheVariants.{Absent, Denied, Folder, Other}
 use Rattle.rpkicert.specs.declared.fault.Fault.{Fault}
 use Rattle.rpkicert.specs.declared.fault.Fault.TheVariants.{Unreadable, TooLarge, OutOfMemory, Malformed, Refused}
+use Rattle.rpkicert.specs.declared.fault.Fault.TheVariants.{Empty, Neither}
 use Rattle.rpkicert.specs.declared.fault.Fault.TheVariants.{Violated, Unverified, NoCertificate, OtherAlgorithm}
 use Rattle.rpkicert.specs.declared.fault.Clause.{Clause}
 use Rattle.rpkicert.specs.declared.fault.Clause.TheVariants as C
@@ -73,6 +74,8 @@ abbrev pub fault_text : Fault → List ℕ
 fault_text (Unreadable cause) = unreadable_text cause
 fault_text TooLarge = codes "larger than 4000000 octets"
 fault_text OutOfMemory = codes "out of memory"
+fault_text Empty = codes "empty"
+fault_text Neither = codes "neither DER nor PEM of an object"
 fault_text Malformed = codes "malformed PEM"
 fault_text (Refused kind place e) = codes "not a " ++ kind_text kind ++ codes ": " ++ text_of_part place ++ error_text e
 fault_text (Violated v) = codes "violates the profile: " ++ violation_text v
@@ -85,6 +88,8 @@ abbrev pub status_of : Fault → ℕ
 status_of (Unreadable cause) = 2
 status_of TooLarge = 2
 status_of OutOfMemory = 2
+status_of Empty = 1
+status_of Neither = 1
 status_of Malformed = 1
 status_of (Refused kind place e) = 1
 status_of (Violated v) = 1

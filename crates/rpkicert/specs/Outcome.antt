@@ -1,5 +1,7 @@
 -- What is found of a file.
-use Rattle.std.specs.Prelude.{◌≡◌, ◌≢◌, ◌⊎◌, ◌<◌, ◌≤◌, ◌&&◌, ◌||◌, ℕ, Bool, true, false, List, length, Option}
+use Rattle.std.specs.Prelude.{◌≡◌, ◌≢◌, ◌⊎◌, ◌<◌, ◌≤◌, ◌&&◌, ◌||◌, ◌==◌, ℕ, nat_eq, not, Bool, true, false}
+use Rattle.std.specs.Prelude.{if◌then◌else◌, List, [], ◌∷◌, length, Option}
+use Rattle.std.specs.List.{starts_with}
 use Rattle.std.specs.Prelude.{Some, None, is_some, Result, Ok, Err}
 use Rattle.rpki_der.specs.declared.error.DecodeError.{DecodeError}
 use Rattle.rpki_der.specs.declared.error.DecodeError.TheVariants as der
@@ -12,10 +14,11 @@ use Rattle.rpki_fields.specs.declared.part.Part.{Part}
 use Rattle.rpkicert.specs.declared.fault.Cause.{Cause}
 use Rattle.rpkicert.specs.declared.fault.Fault.{Fault}
 use Rattle.rpkicert.specs.declared.fault.Fault.TheVariants.{Unreadable, TooLarge, OutOfMemory, Malformed, Refused}
+use Rattle.rpkicert.specs.declared.fault.Fault.TheVariants.{Empty, Neither}
 use Rattle.rpkicert.specs.declared.fault.Fault.TheVariants.{Violated, Unverified, NoCertificate, OtherAlgorithm}
 use Rattle.rpkicert.specs.Requirements.{TermParts, IsVerified, IsUnverified}
 use Rattle.rpkicert.specs.Profiled.{IsProfiled, IsUnprofiled}
-use Rattle.rpkicert.specs.Pem.{octets_of}
+use Rattle.rpkicert.specs.Pem.{is_pem, octets_of}
 use Rattle.rpkicert.specs.Fault.{most_octets}
 
 -- the object is checked against something, and is a certificate of an algorithm that the RPKI doesn't use
@@ -53,6 +56,8 @@ IsRefusal octets (Refused kind place e) = IsNoObject octets kind place e
 IsRefusal octets OutOfMemory = Unit {0}
 IsRefusal octets (Unreadable cause) = ⊥
 IsRefusal octets TooLarge = ⊥
+IsRefusal octets Empty = ⊥
+IsRefusal octets Neither = ⊥
 IsRefusal octets Malformed = ⊥
 IsRefusal octets (Violated v) = ⊥
 IsRefusal octets (Unverified clause e) = ⊥
@@ -75,6 +80,8 @@ IsWrong terms x (Refused kind place e) = ⊥
 IsWrong terms x OutOfMemory = ⊥
 IsWrong terms x (Unreadable cause) = ⊥
 IsWrong terms x TooLarge = ⊥
+IsWrong terms x Empty = ⊥
+IsWrong terms x Neither = ⊥
 IsWrong terms x Malformed = ⊥
 
 -- the object holds, or this is why it doesn't
@@ -89,11 +96,28 @@ HoldsTo terms octets (Ok found) =
     (found.octets ≡ octets) × IsObject octets found.object × IsJudged terms found.object found.fault
 HoldsTo terms octets (Err fault) = IsRefusal octets fault
 
--- The same of an input, which may be a text that stands for octets, or for none.
-abbrev pub FindsIn : TermParts → List ℕ → Finding → Type 0
-FindsIn terms input finding =
+-- it has octets, and neither begins with the identifier octet of a SEQUENCE (X.690 8.9), as each object in DER does,
+-- nor is a text of RFC 7468
+abbrev pub is_other : List ℕ → Bool
+is_other input = not (length input == 0 || starts_with nat_eq input (48 ∷ []) || is_pem input)
+
+-- what is wrong with an input by its form alone
+abbrev pub form_fault : List ℕ → Option Fault
+form_fault input = if length input == 0 then Some Empty else if is_other input then Some Neither else None
+
+-- The same of an input in one of these forms, which may be a text that stands for octets, or for none.
+abbrev pub FindsFormed : TermParts → List ℕ → Finding → Type 0
+FindsFormed terms input finding =
     ((octets : List ℕ) × (octets_of input ≡ Some octets) × HoldsTo terms octets finding)
     ⊎ ((octets_of input ≡ None) × (finding ≡ Err Malformed)) ⊎ (finding ≡ Err OutOfMemory)
+
+-- The same of an input whose form is wrong, or isn't.
+abbrev pub FindsBy : Option Fault → TermParts → List ℕ → Finding → Type 0
+FindsBy None terms input finding = FindsFormed terms input finding
+FindsBy (Some fault) terms input finding = finding ≡ Err fault
+
+abbrev pub FindsIn : TermParts → List ℕ → Finding → Type 0
+FindsIn terms input finding = FindsBy (form_fault input) terms input finding
 
 -- The same of a file, which may not be there, or have too many octets.
 abbrev pub Finds : TermParts → Option (List ℕ) → Finding → Type 0
@@ -114,6 +138,8 @@ IsRead (Some octets) (Ok read) = (read ≡ octets) × (length octets ≤ most_oc
 IsRead (Some octets) (Err (Unreadable cause)) = ⊥
 IsRead (Some octets) (Err TooLarge) = most_octets < length octets
 IsRead (Some octets) (Err OutOfMemory) = Unit {0}
+IsRead (Some octets) (Err Empty) = ⊥
+IsRead (Some octets) (Err Neither) = ⊥
 IsRead (Some octets) (Err Malformed) = ⊥
 IsRead (Some octets) (Err (Refused kind place e)) = ⊥
 IsRead (Some octets) (Err (Violated v)) = ⊥
@@ -124,6 +150,8 @@ IsRead None (Ok read) = ⊥
 IsRead None (Err (Unreadable cause)) = Unit {0}
 IsRead None (Err TooLarge) = ⊥
 IsRead None (Err OutOfMemory) = Unit {0}
+IsRead None (Err Empty) = ⊥
+IsRead None (Err Neither) = ⊥
 IsRead None (Err Malformed) = ⊥
 IsRead None (Err (Refused kind place e)) = ⊥
 IsRead None (Err (Violated v)) = ⊥
@@ -137,6 +165,8 @@ IsReadFrom octets (Ok read) = (read ≡ octets) × (length octets ≤ most_octet
 IsReadFrom octets (Err (Unreadable cause)) = Unit {0}
 IsReadFrom octets (Err TooLarge) = most_octets < length octets
 IsReadFrom octets (Err OutOfMemory) = Unit {0}
+IsReadFrom octets (Err Empty) = ⊥
+IsReadFrom octets (Err Neither) = ⊥
 IsReadFrom octets (Err Malformed) = ⊥
 IsReadFrom octets (Err (Refused kind place e)) = ⊥
 IsReadFrom octets (Err (Violated v)) = ⊥

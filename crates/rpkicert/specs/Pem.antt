@@ -1,6 +1,6 @@
 -- Certificates and revocation lists in the textual encoding of RFC 7468.
 use Rattle.std.specs.Prelude.{ℕ, nat_eq, nat_lt, ◌-◌, ◌==◌, ◌||◌, ◌&&◌, not, Bool, if◌then◌else◌, List, [], ◌∷◌, length}
-use Rattle.std.specs.Prelude.{take, drop, map, filter, take_while, codes, Option, Some, None}
+use Rattle.std.specs.Prelude.{take, drop, map, filter, take_while, codes, Option, Some, None, is_some}
 use Rattle.std.specs.List.{starts_with}
 use Rattle.std.specs.Option.{is_none}
 use Rattle.std.specs.Result.{result_ok}
@@ -60,6 +60,10 @@ pem_octets text =
     let tail = drop (length body) rest in
     if starts_with nat_eq tail (end_of text) && is_none (from_begin (drop (end_size text) tail))
     then result_ok (decode_of standard (without_space body)) else None
+
+-- it begins as a text of RFC 7468, or has the first line of a certificate or a list
+abbrev pub is_pem : List ℕ → Bool
+is_pem text = is_some (from_begin text) || starts_with nat_eq text (codes "-----BEGIN")
 
 -- the octets of a text, and of its end from the line on that begins a certificate or a list, where it has one
 abbrev pub text_octets : List ℕ → Option (List ℕ) → Option (List ℕ)

@@ -111,6 +111,10 @@ pub enum Fault {
     TooLarge,
     /// Allocation failed.
     OutOfMemory,
+    /// It has no octets.
+    Empty,
+    /// It begins neither as an object in DER, which is a SEQUENCE, nor has a certificate or a list in PEM.
+    Neither,
     /// It begins as a text of RFC 7468, and isn't exactly one certificate in that encoding.
     Malformed,
     /// Its octets are of this kind, and no such object: wrong in this place, where one is known.
@@ -179,7 +183,8 @@ impl Fault {
     {
         match self {
             Fault::Unreadable(_) | Fault::TooLarge | Fault::OutOfMemory => 2,
-            Fault::Malformed | Fault::Refused(..) | Fault::Violated(_) => 1,
+            Fault::Empty | Fault::Neither | Fault::Malformed => 1,
+            Fault::Refused(..) | Fault::Violated(_) => 1,
             Fault::Unverified(..) | Fault::NoCertificate | Fault::OtherAlgorithm => 1,
         }
     }
@@ -194,6 +199,8 @@ impl Fault {
             Fault::Unreadable(cause) => String::from_str(alloc, cause.text()),
             Fault::TooLarge => String::from_str(alloc, "larger than 4000000 octets"),
             Fault::OutOfMemory => String::from_str(alloc, "out of memory"),
+            Fault::Empty => String::from_str(alloc, "empty"),
+            Fault::Neither => String::from_str(alloc, "neither DER nor PEM of an object"),
             Fault::Malformed => String::from_str(alloc, "malformed PEM"),
             Fault::Refused(kind, place, e) => refused_text(alloc, kind, place, e),
             Fault::Violated(violation) => violated_text(alloc, violation),

@@ -2,13 +2,14 @@
 
 ghost use Rattle.std.specs.Prelude.{IfSome, MatchResult, ◌≡◌, ◌⊎◌};
 ghost use Rattle.rpkicert.specs.Outcome.{IsObject, IsRefusal, IsHeld, IsWrong, HoldsTo, FindsIn, Finds, is_outside};
+ghost use Rattle.rpkicert.specs.Outcome.{is_other, form_fault, FindsFormed};
 ghost use Rattle.rpkicert.specs.OutcomeView.{finding_of, wrong_finding};
 ghost use Rattle.rpkicert.specs.Requirements.{no_terms};
 ghost use Rattle.rpkicert.specs.RequirementsView.{terms_of};
 ghost use Rattle.rpkicert.specs.declared.fault.Fault.TheVariants.{OutOfMemory};
 
 use crate::fault::{Fault, refusal};
-use crate::pem::octets_of;
+use crate::pem::{is_pem, octets_of};
 use crate::profile::profiled;
 use crate::requirements::{Requirements, verify};
 use crate::sources::Sources;
@@ -115,17 +116,48 @@ fn held(alloc: Global, terms: &Requirements<'_>, octets: Vec<u8>) -> Result<Outc
     }
 }
 
-/// The object that an input stands for, and why it doesn't hold, where it doesn't. The profile is that of the
-/// certificate: of a signed object that of its signer; a revocation list has none.
-///
-/// Returns `Malformed` for a text that isn't one certificate; `Refused` for octets that are no object of the kind that
-/// they tell; `OutOfMemory` if allocation fails.
-pub fn found_in(alloc: Global, terms: &Requirements<'_>, input: Vec<u8>) -> Result<Outcome, Fault>
-    ensures { FindsIn (terms_of terms.now) input.items (finding_of result) }
+/// Whether an input has octets, and neither begins as an object in DER, with a SEQUENCE, nor is a text of RFC 7468.
+fn is_other(input: &[u8]) -> bool
+    ensures { result ≡ is_other input.now }
+{
+    !(input.is_empty() || input.starts_with(b"0") || is_pem(input))
+}
+
+/// What is wrong with an input by its form alone. None if nothing is.
+fn form_fault(input: &[u8]) -> Option<Fault>
+    ensures { result ≡ form_fault input.now }
+{
+    if input.is_empty() {
+        return Some(Fault::Empty);
+    }
+    if is_other(input) {
+        return Some(Fault::Neither);
+    }
+    None
+}
+
+/// The object that an input in one of these forms stands for, and why it doesn't hold, where it doesn't.
+fn found_formed(alloc: Global, terms: &Requirements<'_>, input: Vec<u8>) -> Result<Outcome, Fault>
+    ensures { FindsFormed (terms_of terms.now) input.items (finding_of result) }
 {
     match octets_of(alloc, input)? {
         Some(octets) => held(alloc, terms, octets),
         None => Err(Fault::Malformed),
+    }
+}
+
+/// The object that an input stands for, and why it doesn't hold, where it doesn't. The profile is that of the
+/// certificate: of a signed object that of its signer; a revocation list has none.
+///
+/// Returns `Empty` and `Neither` for what has no octets, or begins neither as DER nor is PEM; `Malformed` for a text
+/// that isn't one certificate; `Refused` for octets that are no object of the kind that they tell; `OutOfMemory` if
+/// allocation fails.
+pub fn found_in(alloc: Global, terms: &Requirements<'_>, input: Vec<u8>) -> Result<Outcome, Fault>
+    ensures { FindsIn (terms_of terms.now) input.items (finding_of result) }
+{
+    match form_fault(input.as_slice()) {
+        Some(fault) => Err(fault),
+        None => found_formed(alloc, terms, input),
     }
 }
 

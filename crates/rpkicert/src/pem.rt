@@ -1,6 +1,7 @@
 //! Certificates and revocation lists in the textual encoding of RFC 7468.
 
 ghost use Rattle.std.specs.Prelude.{◌≡◌, drop, map, IfOk};
+ghost use Rattle.rpkicert.specs.Pem.{is_pem};
 ghost use Rattle.std.specs.Option.{option_map};
 ghost use Rattle.rpkicert.specs.Pem.{begins, begin_size, end_of, end_size, is_space, from_begin, before_hyphen};
 ghost use Rattle.rpkicert.specs.Pem.{without_space, pem_octets, octets_of, up_to, certificate_texts, bundle_in};
@@ -72,6 +73,13 @@ fn from_begin(text: &[u8]) -> Option<&[u8]>
         }
     }
     None
+}
+
+/// Whether the text begins as one of RFC 7468, or has the first line of a certificate or a list.
+pub fn is_pem(text: &[u8]) -> bool
+    ensures { result ≡ is_pem text.now }
+{
+    from_begin(text).is_some() || text.starts_with(b"-----BEGIN")
 }
 
 /// What is before the first hyphen.
