@@ -9,8 +9,9 @@ from openssl import openssl, said_of
 from programs import octets_of, ran, write
 
 MOST = 4000000
-# What is said of octets, and of a text, that begin as no object, and have none in PEM.
-OTHER = "neither DER nor PEM of an object"
+# What is said of octets, and of a text, that begin as no object, and have none in PEM: why they are no locator either.
+NO_LOCATOR = "neither DER nor PEM of an object, nor a trust anchor locator: "
+OTHER, NOTHING = NO_LOCATOR + "line 1: not a URI of a trust anchor", NO_LOCATOR + "line 1: no URI"
 
 
 def others(program, folder):
@@ -27,8 +28,8 @@ def others(program, folder):
         ("one octet", b"0", 1, none + "truncated value"),
         ("another type", b"\x02\x01\x01", 1, OTHER),
         ("a text", b"hello\n", 1, OTHER),
-        ("a line feed", b"\n", 1, OTHER),
-        ("DER behind a line feed", b"\n" + der, 1, OTHER),
+        ("a line feed", b"\n", 1, NOTHING),
+        ("DER behind a line feed", b"\n" + der, 1, NOTHING),
         ("base 64 alone", b"".join(pem.split(b"\n")[1:-2]), 1, OTHER),
         ("a last line alone", end, 1, OTHER),
         ("four hyphens", pem[1:], 1, OTHER),

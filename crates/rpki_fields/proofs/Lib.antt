@@ -4,7 +4,8 @@
 -- MemoryLaws. Certificates of any algorithms: OtherCertLaws, OtherPartsLaws, OtherSizeLaws. Lists whose items are in
 -- a relation: EachIsLaws; blocks of resources: ResourceItemLaws. That a certificate has one list of fields, an object
 -- one sheet, and octets one object: OneTextLaws, OtherTextLaws, OneSheetLaws, OneObjectLaws; what a reader of
--- certificates says: OtherObjectLaws. Checklists, trust anchor keys and Ghostbusters records: RecordLaws.
+-- certificates says: OtherObjectLaws. Checklists, trust anchor keys and Ghostbusters records: RecordLaws. Trust
+-- anchor locators: LocatorLaws.
 
 pub mod NameLaws
 pub mod IdentifierLaws
@@ -21,3 +22,4 @@ pub mod OtherObjectLaws
 pub mod RecordLaws
 pub mod OneSheetLaws
 pub mod OneObjectLaws
+pub mod LocatorLaws

@@ -97,7 +97,7 @@ one-middle validity name xs ys g h =
     let subject = one-name-text name g.0 h.0 g.1 h.1 in
     (rw subject at g.2) ∙ sym h.2
 
-one-key : (k : KeyParts) (xs ys : List FieldParts) → AreKey k xs → AreKey k ys → xs ≡ ys
+pub one-key : (k : KeyParts) (xs ys : List FieldParts) → AreKey k xs → AreKey k ys → xs ≡ ys
 one-key k xs ys g h =
     let size = one-size-of k.format k.bits.octets g.0 h.0 g.1 h.1 in
     (rw size at g.2) ∙ sym h.2

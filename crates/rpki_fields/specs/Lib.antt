@@ -25,5 +25,6 @@ pub mod ObjectText
 pub mod Record
 pub mod RecordText
 pub mod CardText
+pub mod LocatorText
 pub mod Rendering
 pub mod View

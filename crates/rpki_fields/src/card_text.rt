@@ -52,7 +52,9 @@ fn octets_of<'a>(alloc: Global, texts: &'a [Vec<u8>]) -> Result<Vec<&'a [u8]>, A
 }
 
 /// Adds a field of these texts, where there is one.
-fn push_texts_if(fields: &mut Vec<Field>, label: &[u8], all: &[&[u8]]) -> Result<(), AllocError>
+///
+/// Returns `AllocError` if allocation fails.
+pub fn push_texts_if(fields: &mut Vec<Field>, label: &[u8], all: &[&[u8]]) -> Result<(), AllocError>
     ensures { OnOk result (fields.new.items
         ≡ fields.old.items ++ texts_if label.now (map (λ each. each.now) all.now)) }
 {

@@ -81,11 +81,12 @@ fn key_fields(alloc: Global, key: &PublicKey, size: &[u8]) -> Result<Vec<Field>,
     Ok(fields)
 }
 
-/// The key.
-fn key(alloc: Global, tbs: &TbsCert) -> Result<Vec<Field>, AllocError>
-    ensures { IfOk result (λ fields. AreKey tbs.now.key fields.items) }
+/// The fields of a key.
+///
+/// Returns `AllocError` if allocation fails.
+pub fn key(alloc: Global, key: &PublicKey) -> Result<Vec<Field>, AllocError>
+    ensures { IfOk result (λ fields. AreKey key.now fields.items) }
 {
-    let key = tbs.subject_public_key_info();
     let size = size_text(alloc, key)?;
     key_fields(alloc, key, size.as_slice())
 }
@@ -190,7 +191,7 @@ pub fn fields(alloc: Global, octets: &[u8], tbs: &TbsCert) -> Result<Vec<Field>,
     let mut identifiers = identifiers(alloc, tbs)?;
     let mut head = head(alloc, tbs)?;
     let mut middle = middle(alloc, tbs.validity(), tbs.subject())?;
-    let mut key = key(alloc, tbs)?;
+    let mut key = key(alloc, tbs.subject_public_key_info())?;
     let mut issuer = issuer_places(alloc, tbs)?;
     let mut subject = subject_places(alloc, tbs)?;
     let mut resources = resources(alloc, tbs)?;

@@ -4,6 +4,7 @@ ghost use Rattle.std.specs.Prelude.{◌≡◌, ◌↔◌, ℕ, List, IsTrue};
 ghost use Rattle.rpki_fields.specs.AtMostOne.{AtMostOne};
 ghost use Rattle.rpki_fields.specs.ObjectType.{kind_of};
 ghost use Rattle.rpki_fields.specs.Object.{IsOf};
+ghost use Rattle.rpki_fields.specs.LocatorText.{IsSheetOfLocator};
 ghost use Rattle.rpki_fields.specs.ObjectText.{IsSheet};
 ghost use Rattle.rpki_fields.specs.declared.object.Object.{Object};
 ghost use Rattle.rpki_fields.specs.declared.object_type.ObjectType.{ObjectType as ToldKind};
@@ -18,6 +19,11 @@ use crate::rendering::Form;
 pub fn one_sheet()
     ensures object { (octets : List ℕ) → AtMostOne (IsOf (kind_of octets) octets) }
     ensures sheet { (octets : List ℕ) (x : Object) → AtMostOne (IsSheet octets x) }
+{}
+
+/// A text is one trust anchor locator at most, which has one sheet under each name.
+pub fn one_locator_sheet()
+    ensures { (name text : List ℕ) → AtMostOne (IsSheetOfLocator name text) }
 {}
 
 /// Kinds, forms and places are equal exactly where they are one.

@@ -3,7 +3,8 @@ use Rattle.std.proofs.Common.{◌≡◌, ℕ, suc, List, [], ◌∷◌, refl, sy
 use Rattle.std.proofs.lemmas.Bool.{false≢true}
 use Rattle.std.proofs.lemmas.List.Elements.{All-tail}
 use Rattle.std.specs.Io.KnownBytes.{Appends}
-use Rattle.std.specs.Prelude.{◌⊎◌, codes, Bool, true, false, is_some, Option, Some, None, Ok, Err, IsSome, IfSome}
+use Rattle.std.specs.Prelude.{◌⊎◌, codes, Bool, true, false, is_some, Option, Some, None, Result, Ok, Err, IsSome}
+use Rattle.std.specs.Prelude.{IfSome}
 use Rattle.rpki_fields.specs.ObjectType.{kind_of}
 use Rattle.rpki_fields.specs.Field.{field_parts}
 use Rattle.rpki_fields.specs.Rendering.{rendering}
@@ -11,12 +12,12 @@ use Rattle.rpki_fields.specs.Sheet.{SheetParts, sheet_behind}
 use Rattle.rpki_fields.specs.declared.object.Object.{Object}
 use Rattle.rpkicert.specs.declared.fault.Fault.{Fault}
 use Rattle.rpkicert.specs.declared.fault.Fault.TheVariants.{Unreadable, TooLarge, OutOfMemory, Malformed, Refused}
-use Rattle.rpkicert.specs.declared.fault.Fault.TheVariants.{Empty, Neither}
+use Rattle.rpkicert.specs.declared.fault.Fault.TheVariants.{Empty, Neither, NoLocator}
 use Rattle.rpkicert.specs.declared.fault.Fault.TheVariants.{Violated, Unverified, NoCertificate, OtherAlgorithm}
 use Rattle.rpki_fields.specs.declared.rendering.Form.{Form}
 use Rattle.rpkicert.specs.Fault.{status_of}
 use Rattle.rpkicert.specs.Outcome.{OutcomeParts, found_parts, Finding, IsHeld, IsJudged, HoldsTo, FindsIn, Finds}
-use Rattle.rpkicert.specs.Outcome.{form_fault, FindsFormed, FindsBy}
+use Rattle.rpkicert.specs.Outcome.{is_other, form_fault, FindsFormed, FindsBy}
 use Rattle.rpkicert.specs.declared.signature.Signature.{Signature}
 use Rattle.rpkicert.specs.Signature.{signature_found}
 use Rattle.rpkicert.specs.Request.{Asked}
@@ -24,8 +25,10 @@ use Rattle.rpkicert.specs.Requirements.{TermParts, term_parts, no_terms}
 use Rattle.rpkicert.specs.Output.{file_text, hashed, marked, IsTextOf, OutputParts, shown_parts, IsOutput, IsSeen}
 use Rattle.rpkicert.specs.Output.{IsChecked, fault_line, status_in}
 use Rattle.rpkicert.specs.Output.{LacksMemory, AreSeen, outputs, faults, worst, IsRun}
+use Rattle.rpkicert.specs.Locator.{name_of, ReadsLocator}
+use Rattle.rpkicert.specs.Output.{locator_shown, IsLocatorOutput, IsLocatorSeen, IsSeenAs}
 use Rattle.rpkicert.specs.Output.{joined, numbered, IsSeenIn, AreSeenFrom, IsSeenEach, IsSeenOf}
-use Rattle.rpkicert.specs.Output.IsSeenOf.{OfAll, OfEach, OfNone}
+use Rattle.rpkicert.specs.Output.IsSeenOf.{OfAll, OfLocator, OfEach, OfNone}
 use Rattle.rpkicert.specs.Output.IsRun.{Whole, Cut}
 use Rattle.rpkicert.specs.Moment.{Clock, is_now, NamesBy, IsMoment}
 use Rattle.rpkicert.specs.Run.{Holds, issuer_in, issuer_or, IsIssuerOf, AreRequirements, Sees, IsRunOf}
@@ -35,6 +38,7 @@ use Rattle.rpkicert.specs.Values.{ToldParts}
 use Rattle.rpkicert.specs.Words.{Prints}
 use Rattle.rpki_fields.proofs.OneObjectLaws.{one-of, none-of}
 use Rattle.rpki_fields.proofs.OneSheetLaws.{one-sheet}
+use Rattle.rpki_fields.proofs.LocatorLaws.{one-locator-sheet}
 use Rattle.rpki_cert.specs.Cert.{TbsParts}
 use Rattle.jiff.specs.Types.{DateTime}
 use Rattle.jiff.specs.Words.{civil_nanos}
@@ -72,6 +76,7 @@ held-alone terms x (Some (Unreadable cause)) g h = absurd h
 held-alone terms x (Some TooLarge) g h = absurd h
 held-alone terms x (Some Empty) g h = absurd h
 held-alone terms x (Some Neither) g h = absurd h
+held-alone terms x (Some (NoLocator e)) g h = absurd h
 held-alone terms x (Some Malformed) g h = absurd h
 
 one-held : (terms : TermParts) (octets : List ℕ) (found : OutcomeParts) (f : Finding) → found.fault ≡ None
@@ -92,6 +97,7 @@ one-held terms octets found (Err (Unreadable cause)) n g h = absurd h
 one-held terms octets found (Err TooLarge) n g h = absurd h
 one-held terms octets found (Err Empty) n g h = absurd h
 one-held terms octets found (Err Neither) n g h = absurd h
+one-held terms octets found (Err (NoLocator e)) n g h = absurd h
 one-held terms octets found (Err Malformed) n g h = absurd h
 
 one-formed : (terms : TermParts) (input : List ℕ) (found : OutcomeParts) (f : Finding) → found.fault ≡ None
@@ -161,6 +167,7 @@ fault-status TooLarge e = omega arith
 fault-status OutOfMemory e = omega arith
 fault-status Empty e = omega arith
 fault-status Neither e = omega arith
+fault-status (NoLocator y) e = omega arith
 fault-status Malformed e = omega arith
 fault-status (Refused kind place x) e = omega arith
 fault-status (Violated x) e = omega arith
@@ -182,6 +189,7 @@ some-status form terms name x TooLarge s g = ap (λ (w : OutputParts). w.status)
 some-status form terms name x OutOfMemory s g = ap (λ (w : OutputParts). w.status) g.2
 some-status form terms name x Empty s g = ap (λ (w : OutputParts). w.status) g.2
 some-status form terms name x Neither s g = ap (λ (w : OutputParts). w.status) g.2
+some-status form terms name x (NoLocator e) s g = ap (λ (w : OutputParts). w.status) g.2
 some-status form terms name x Malformed s g = ap (λ (w : OutputParts). w.status) g.2
 some-status form terms name x (Refused kind place e) s g = ap (λ (w : OutputParts). w.status) g.2
 some-status form terms name x (Unverified clause e) s g = ap (λ (w : OutputParts). w.status) g.2
@@ -251,13 +259,45 @@ unless-lacking check form terms name s t (inr g) z =
 
 one-inside : (check : Bool) (form : Form) (terms : TermParts) (name input : List ℕ) (f : Finding) (s t : OutputParts)
     → FindsIn terms input f → IsOutput check form terms name f s
-    → IsSeenIn check form terms name input t → s.status ≡ 0 → t.status ≡ 0 → t ≡ s
+    → IsSeenAs false check form terms name input t → s.status ≡ 0 → t.status ≡ 0 → t ≡ s
 one-inside check form terms name input (Err fault) s t g k h y z =
     absurd (fault-status fault (sym (shown-status check form terms name fault s k) ∙ y))
 one-inside check form terms name input (Ok found) s t g k h y z =
     let none = well-shown check form terms name found s k y in
     unless-lacking check form terms name s t
     (other-shown check form terms name found h.0 s t none (one-found-in terms input found h.0 none g h.1) k h.2) z
+
+-- ---- a locator
+
+locator-fault : {P : Type 0} (check : Bool) (form : Form) (terms : TermParts) (name text : List ℕ) (fault : Fault)
+    (s : OutputParts) → IsLocatorOutput check form terms name text (Err fault) s → s.status ≡ 0 → P
+locator-fault check form terms name text fault s g z =
+    absurd (fault-status fault (sym (shown-status check form terms name fault s g) ∙ z))
+
+one-read : (check : Bool) (form : Form) (terms : TermParts) (name text : List ℕ) (r q : Result SheetParts Fault)
+    (s t : OutputParts) → ReadsLocator terms name text r → IsLocatorOutput check form terms name text r s
+    → ReadsLocator terms name text q → IsLocatorOutput check form terms name text q t → s.status ≡ 0 → t.status ≡ 0
+    → t ≡ s
+one-read check form terms name text (Ok a) (Ok b) s t g k h l y z =
+    l ∙ ap (λ (w : SheetParts). shown_parts (locator_shown check form name text w) [] 0)
+    (one-locator-sheet (name_of name) text b a h.1 g.1) ∙ sym k
+one-read check form terms name text (Ok a) (Err f) s t g k h l y z = locator-fault check form terms name text f t l z
+one-read check form terms name text (Err f) q s t g k h l y z = locator-fault check form terms name text f s k y
+
+one-locator-seen : (check : Bool) (form : Form) (terms : TermParts) (name text : List ℕ) (s t : OutputParts)
+    → IsLocatorSeen check form terms name text s → IsLocatorSeen check form terms name text t → s.status ≡ 0
+    → t.status ≡ 0 → t ≡ s
+one-locator-seen check form terms name text s t g h y z =
+    one-read check form terms name text g.0 h.0 s t g.1 g.2 h.1 h.2 y z
+
+-- ---- an input
+
+one-as : (other : Bool) (check : Bool) (form : Form) (terms : TermParts) (name input : List ℕ) (s t : OutputParts)
+    → IsSeenAs other check form terms name input s → IsSeenAs other check form terms name input t → s.status ≡ 0
+    → t.status ≡ 0 → t ≡ s
+one-as true check form terms name input s t g h y z = one-locator-seen check form terms name input s t g h y z
+one-as false check form terms name input s t g h y z =
+    one-inside check form terms name input g.0 s t g.1 g.2 h y z
 
 one-each : (check : Bool) (form : Form) (terms : TermParts) (name : List ℕ) (number : ℕ) (texts : List (List ℕ))
     (all others : List OutputParts) → AreSeenFrom (IsSeenIn check form terms) name number texts all
@@ -268,7 +308,7 @@ one-each check form terms name number [] (s ∷ ss) others g h y z = absurd g
 one-each check form terms name number (text ∷ texts) [] others g h y z = absurd g
 one-each check form terms name number (text ∷ texts) (s ∷ ss) [] g h y z = absurd h
 one-each check form terms name number (text ∷ texts) (s ∷ ss) (t ∷ ts) g h y z =
-    let first = one-inside check form terms (numbered name number) text g.0.0 s t g.0.1 g.0.2 h.0 (omega arith)
+    let first = one-as (is_other text) check form terms (numbered name number) text s t g.0 h.0 (omega arith)
     (omega arith) in
     let rest = one-each check form terms name (suc number) texts ss ts g.1 h.1 (omega arith) (omega arith) in
     rw (first, rest) refl
@@ -288,15 +328,25 @@ lacks-none check form terms name s g z = absurd (let e = lacking-status check fo
 pub one-of-file : (check : Bool) (form : Form) (terms : TermParts) (name : List ℕ) (source : Option (List ℕ))
     (s t : OutputParts) → IsSeenOf check form terms name source s → s.status ≡ 0
     → IsSeenOf check form terms name source t → t.status ≡ 0 → t ≡ s
-one-of-file check form terms name source s t (OfAll e g) y (OfAll f h) z =
+one-of-file check form terms name source s t (OfAll e o g) y (OfAll f p h) z =
     unless-lacking check form terms name s t (one-seen check form terms name source s t g y h) z
-one-of-file check form terms name source s t (OfAll e g) y (OfEach texts f h) z = absurd cc
-one-of-file check form terms name source s t (OfEach texts e g) y (OfAll f h) z = absurd cc
+one-of-file check form terms name source s t (OfAll e o g) y (OfLocator text f p h) z = absurd cc
+one-of-file check form terms name source s t (OfAll e o g) y (OfEach texts f h) z = absurd cc
+one-of-file check form terms name source s t (OfLocator text e o g) y (OfAll f p h) z = absurd cc
+one-of-file check form terms name source s t (OfLocator text e o g) y (OfLocator other f p h) z =
+    let same : other ≡ text = cc in
+    one-locator-seen check form terms name text s t g
+    (subst (λ (w : List ℕ). IsLocatorSeen check form terms name w t) same h) y z
+one-of-file check form terms name source s t (OfLocator text e o g) y (OfEach texts f h) z = absurd cc
+one-of-file check form terms name source s t (OfEach texts e g) y (OfLocator text f p h) z = absurd cc
+one-of-file check form terms name source s t (OfEach texts e g) y (OfAll f p h) z = absurd cc
 one-of-file check form terms name source s t (OfEach texts e g) y (OfEach others f h) z =
     let same : others ≡ texts = cc in one-joined check form terms name texts others s t same g h y z
 one-of-file check form terms name source s t (OfNone g) y h z =
     lacks-none check form terms name s g y
-one-of-file check form terms name source s t (OfAll e g) y (OfNone h) z =
+one-of-file check form terms name source s t (OfAll e o g) y (OfNone h) z =
+    lacks-none check form terms name t h z
+one-of-file check form terms name source s t (OfLocator text e o g) y (OfNone h) z =
     lacks-none check form terms name t h z
 one-of-file check form terms name source s t (OfEach texts e g) y (OfNone h) z =
     lacks-none check form terms name t h z

@@ -15,7 +15,7 @@ use Rattle.rpkicert.specs.declared.fault.Fault.{Fault}
 use Rattle.rpkicert.specs.declared.outcome.Outcome.{Outcome}
 use Rattle.rpkicert.specs.OutcomeView.{finding_of, wrong_finding}
 use Rattle.rpkicert.specs.declared.fault.Fault.TheVariants.{Unreadable, TooLarge, OutOfMemory, Malformed, Refused}
-use Rattle.rpkicert.specs.declared.fault.Fault.TheVariants.{Empty, Neither}
+use Rattle.rpkicert.specs.declared.fault.Fault.TheVariants.{Empty, Neither, NoLocator}
 use Rattle.rpkicert.specs.declared.fault.Fault.TheVariants.{Violated, Unverified, NoCertificate, OtherAlgorithm}
 use Rattle.rpkicert.specs.Fault.{refusal}
 use Rattle.rpkicert.specs.Requirements.{TermParts, IsVerified, IsUnverifiedBy}
@@ -106,9 +106,11 @@ wrong-holds terms octets x TooLarge h (inl e) = absurd cc
 wrong-holds terms octets x TooLarge h (inr w) = absurd w
 wrong-holds terms octets x Empty h (inl e) = absurd cc
 wrong-holds terms octets x Neither h (inl e) = absurd cc
+wrong-holds terms octets x (NoLocator y) h (inl e) = absurd cc
 wrong-holds terms octets x Malformed h (inl e) = absurd cc
 wrong-holds terms octets x Empty h (inr w) = absurd w
 wrong-holds terms octets x Neither h (inr w) = absurd w
+wrong-holds terms octets x (NoLocator e) h (inr w) = absurd w
 wrong-holds terms octets x Malformed h (inr w) = absurd w
 
 -- a file that was not read
@@ -119,6 +121,7 @@ not-read terms (Some octets) TooLarge h = inr (inl (h, refl))
 not-read terms (Some octets) OutOfMemory h = inr (inr refl)
 not-read terms (Some octets) Empty h = absurd h
 not-read terms (Some octets) Neither h = absurd h
+not-read terms (Some octets) (NoLocator e) h = absurd h
 not-read terms (Some octets) Malformed h = absurd h
 not-read terms (Some octets) (Refused kind place e) h = absurd h
 not-read terms (Some octets) (Violated v) h = absurd h
@@ -130,6 +133,7 @@ not-read terms None TooLarge h = absurd h
 not-read terms None OutOfMemory h = inr refl
 not-read terms None Empty h = absurd h
 not-read terms None Neither h = absurd h
+not-read terms None (NoLocator e) h = absurd h
 not-read terms None Malformed h = absurd h
 not-read terms None (Refused kind place e) h = absurd h
 not-read terms None (Violated v) h = absurd h

@@ -8,14 +8,15 @@ use Rattle.std.specs.Prelude.{IfOk, IfSome}
 use Rattle.rpki_fields.specs.declared.rendering.Form.{Form}
 use Rattle.rpkicert.specs.declared.fault.Fault.{Fault}
 use Rattle.rpkicert.specs.declared.fault.Fault.TheVariants.{Unreadable, TooLarge, OutOfMemory, Malformed, Refused}
-use Rattle.rpkicert.specs.declared.fault.Fault.TheVariants.{Empty, Neither}
+use Rattle.rpkicert.specs.declared.fault.Fault.TheVariants.{Empty, Neither, NoLocator}
 use Rattle.rpkicert.specs.declared.fault.Fault.TheVariants.{Violated, Unverified, NoCertificate, OtherAlgorithm}
 use Rattle.rpkicert.specs.declared.output.Output.{Output}
 use Rattle.rpkicert.specs.Fault.{most_octets}
-use Rattle.rpkicert.specs.Outcome.{IsRead}
+use Rattle.rpkicert.specs.Outcome.{is_other, IsRead}
 use Rattle.rpkicert.specs.Pem.{bundle_in}
-use Rattle.rpkicert.specs.Output.{OutputParts, numbered, AreSeenFrom, joined, bundle_of, IsOutput, IsSeenOf}
-use Rattle.rpkicert.specs.Output.IsSeenOf.{OfAll, OfEach, OfNone}
+use Rattle.rpkicert.specs.Output.{OutputParts, numbered, AreSeenFrom, joined, bundle_of, other_of, IsOutput, IsSeenAs}
+use Rattle.rpkicert.specs.Output.{IsSeenIn, IsSeenOf}
+use Rattle.rpkicert.specs.Output.IsSeenOf.{OfAll, OfLocator, OfEach, OfNone}
 use Rattle.rpkicert.specs.OutputView.{parts_of, seen_of, and_also, IsSeenBy}
 use Rattle.rpkicert.specs.Requirements.{TermParts}
 use Rattle.rpkicert.proofs.OutcomeLaws.{not-read}
@@ -78,11 +79,37 @@ bundle-read input le =
     let e : nat_lt most_octets (length input) ≡ false = le-ltb most_octets (length input) le in
     rw e refl
 
+-- what was read, by whether it is a locator, or none
+other-read : (input : List ℕ) → length input ≤ most_octets → is_other input ≡ true → other_of (Some input) ≡ Some input
+other-read input le other =
+    let e : nat_lt most_octets (length input) ≡ false = le-ltb most_octets (length input) le in
+    rw (e, other) refl
+
+object-read : (input : List ℕ) → length input ≤ most_octets → is_other input ≡ false → other_of (Some input) ≡ None
+object-read input le none =
+    let e : nat_lt most_octets (length input) ≡ false = le-ltb most_octets (length input) le in
+    rw (e, none) refl
+
+-- what is seen of an input, by whether it is neither DER nor PEM
+pub seen-as : (other : Bool) (check : Bool) (form : Form) (terms : TermParts) (name input : List ℕ) (s : OutputParts)
+    → is_other input ≡ other → IsSeenAs other check form terms name input s
+    → IsSeenIn check form terms name input s
+seen-as other check form terms name input s e h =
+    subst (λ (b : Bool). IsSeenAs b check form terms name input s) (sym e) h
+
+read-as : (other : Bool) (check : Bool) (form : Form) (terms : TermParts) (name input : List ℕ) (s : OutputParts)
+    → length input ≤ most_octets → is_other input ≡ other → bundle_in input ≡ None
+    → IsSeenAs other check form terms name input s → IsSeenOf check form terms name (Some input) s
+read-as true check form terms name input s le o e h =
+    OfLocator input (bundle-read input le ∙ e) (other-read input le o) h
+read-as false check form terms name input s le o e h =
+    OfAll (bundle-read input le ∙ e) (object-read input le o) (inl (h.0, inl (le, h.1), h.2))
+
 read-by : (check : Bool) (form : Form) (terms : TermParts) (name input : List ℕ) (bundle : Option (List (List ℕ)))
     (s : OutputParts) → length input ≤ most_octets → bundle_in input ≡ bundle
     → IsSeenBy check form terms name input bundle s → IsSeenOf check form terms name (Some input) s
 read-by check form terms name input None s le e h =
-    OfAll (bundle-read input le ∙ e) (inl (h.0, inl (le, h.1), h.2))
+    read-as (is_other input) check form terms name input s le refl e h
 read-by check form terms name input (Some texts) s le e h = OfEach texts (bundle-read input le ∙ e) h
 
 read-seen : (check : Bool) (form : Form) (terms : TermParts) (name input : List ℕ) (source : Option (List ℕ))
@@ -108,17 +135,24 @@ large-none octets h =
     let e : nat_lt most_octets (length octets) ≡ true = lt-ltb most_octets (length octets) h in
     rw e refl
 
+large-no-other : (octets : List ℕ) → most_octets < length octets → other_of (Some octets) ≡ None
+large-no-other octets h =
+    let e : nat_lt most_octets (length octets) ≡ true = lt-ltb most_octets (length octets) h in
+    rw e refl
+
 -- what wasn't read
 unread-seen : (check : Bool) (form : Form) (terms : TermParts) (name : List ℕ) (source : Option (List ℕ)) (f : Fault)
     (s : OutputParts) → IsRead source (Err f) → IsOutput check form terms name (Err f) s
     → IsSeenOf check form terms name source s
-unread-seen check form terms name None f s h k = OfAll refl (inl (Err f, not-read terms None f h, k))
+unread-seen check form terms name None f s h k = OfAll refl refl (inl (Err f, not-read terms None f h, k))
 unread-seen check form terms name (Some octets) TooLarge s h k =
-    OfAll (large-none octets h) (inl (Err TooLarge, not-read terms (Some octets) TooLarge h, k))
+    OfAll (large-none octets h) (large-no-other octets h)
+    (inl (Err TooLarge, not-read terms (Some octets) TooLarge h, k))
 unread-seen check form terms name (Some octets) OutOfMemory s h k = OfNone (inl k)
 unread-seen check form terms name (Some octets) (Unreadable cause) s h k = absurd h
 unread-seen check form terms name (Some octets) Empty s h k = absurd h
 unread-seen check form terms name (Some octets) Neither s h k = absurd h
+unread-seen check form terms name (Some octets) (NoLocator e) s h k = absurd h
 unread-seen check form terms name (Some octets) Malformed s h k = absurd h
 unread-seen check form terms name (Some octets) (Refused kind place e) s h k = absurd h
 unread-seen check form terms name (Some octets) (Violated e) s h k = absurd h

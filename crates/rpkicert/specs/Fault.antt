@@ -1,5 +1,5 @@
 -- What is wrong with a file.
-use Rattle.std.specs.Prelude.{ℕ, nat_eq, Bool, if◌then◌else◌, List, [], ◌++◌, codes, unwrap_or, Option}
+use Rattle.std.specs.Prelude.{ℕ, nat_eq, Bool, if◌then◌else◌, List, [], ◌++◌, codes, decimal, unwrap_or, Option}
 use Rattle.std.specs.List.{ends_with}
 use Rattle.rpki_der.specs.declared.error.DecodeError.{DecodeError}
 use Rattle.rpki_der.specs.declared.error.DecodeError.TheVariants.{Truncated, BadTag, BadLength, Unexpected, Content}
@@ -8,6 +8,8 @@ use Rattle.rpki_der.specs.declared.error.DecodeError.TheVariants as der
 use Rattle.rpki_der.specs.ErrorText.{error_text}
 use Rattle.rpki.specs.ErrorContent.{validation_text}
 use Rattle.rpki.specs.declared.repository.error.ValidationError.{ValidationError}
+use Rattle.rpki_locator.specs.declared.error.LocatorError.{LocatorError}
+use Rattle.rpki_locator.specs.declared.error.LocatorError.TheVariants as L
 use Rattle.rpki_fields.specs.declared.object_type.ObjectType.{ObjectType}
 use Rattle.rpki_fields.specs.ObjectType.{kind_text}
 use Rattle.rpki_fields.specs.PartText.{text_of_part}
@@ -18,7 +20,7 @@ use Rattle.rpkicert.specs.declared.fault.Cause.{Cause}
 use Rattle.rpkicert.specs.declared.fault.Cause.TheVariants.{Absent, Denied, Folder, Other}
 use Rattle.rpkicert.specs.declared.fault.Fault.{Fault}
 use Rattle.rpkicert.specs.declared.fault.Fault.TheVariants.{Unreadable, TooLarge, OutOfMemory, Malformed, Refused}
-use Rattle.rpkicert.specs.declared.fault.Fault.TheVariants.{Empty, Neither}
+use Rattle.rpkicert.specs.declared.fault.Fault.TheVariants.{Empty, Neither, NoLocator}
 use Rattle.rpkicert.specs.declared.fault.Fault.TheVariants.{Violated, Unverified, NoCertificate, OtherAlgorithm}
 use Rattle.rpkicert.specs.declared.fault.Clause.{Clause}
 use Rattle.rpkicert.specs.declared.fault.Clause.TheVariants as C
@@ -70,12 +72,22 @@ is_bad_signature e = ends_with nat_eq (text_in e) bad_text
 abbrev pub clause_told : Clause → List ℕ → List ℕ
 clause_told clause said = if has_section said then said else clause_text clause ++ codes ": " ++ said
 
+-- what is wrong with a text that is no trust anchor locator, and on which line; where memory fails, no text is made
+abbrev pub line_text : LocatorError → List ℕ
+line_text (L.OtherUri n) = codes "line " ++ (decimal n ++ codes ": not a URI of a trust anchor")
+line_text (L.NoUri n) = codes "line " ++ (decimal n ++ codes ": no URI")
+line_text (L.NoKey n) = codes "line " ++ (decimal n ++ codes ": no empty line before the key")
+line_text (L.OtherText n) = codes "line " ++ (decimal n ++ codes ": not base 64")
+line_text (L.OtherKey n e) = codes "line " ++ (decimal n ++ (codes ": not a public key: " ++ error_text e))
+line_text L.OutOfMemory = []
+
 abbrev pub fault_text : Fault → List ℕ
 fault_text (Unreadable cause) = unreadable_text cause
 fault_text TooLarge = codes "larger than 4000000 octets"
 fault_text OutOfMemory = codes "out of memory"
 fault_text Empty = codes "empty"
 fault_text Neither = codes "neither DER nor PEM of an object"
+fault_text (NoLocator e) = codes "neither DER nor PEM of an object, nor a trust anchor locator: " ++ line_text e
 fault_text Malformed = codes "malformed PEM"
 fault_text (Refused kind place e) = codes "not a " ++ kind_text kind ++ codes ": " ++ text_of_part place ++ error_text e
 fault_text (Violated v) = codes "violates the profile: " ++ violation_text v
@@ -90,6 +102,7 @@ status_of TooLarge = 2
 status_of OutOfMemory = 2
 status_of Empty = 1
 status_of Neither = 1
+status_of (NoLocator e) = 1
 status_of Malformed = 1
 status_of (Refused kind place e) = 1
 status_of (Violated v) = 1

@@ -7,6 +7,7 @@ pub mod Chosen
 pub mod Profiled
 pub mod Broken
 pub mod Outcome
+pub mod Locator
 pub mod Signature
 pub mod Values
 pub mod Output

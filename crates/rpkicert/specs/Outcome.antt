@@ -14,7 +14,7 @@ use Rattle.rpki_fields.specs.declared.part.Part.{Part}
 use Rattle.rpkicert.specs.declared.fault.Cause.{Cause}
 use Rattle.rpkicert.specs.declared.fault.Fault.{Fault}
 use Rattle.rpkicert.specs.declared.fault.Fault.TheVariants.{Unreadable, TooLarge, OutOfMemory, Malformed, Refused}
-use Rattle.rpkicert.specs.declared.fault.Fault.TheVariants.{Empty, Neither}
+use Rattle.rpkicert.specs.declared.fault.Fault.TheVariants.{Empty, Neither, NoLocator}
 use Rattle.rpkicert.specs.declared.fault.Fault.TheVariants.{Violated, Unverified, NoCertificate, OtherAlgorithm}
 use Rattle.rpkicert.specs.Requirements.{TermParts, IsVerified, IsUnverified}
 use Rattle.rpkicert.specs.Profiled.{IsProfiled, IsUnprofiled}
@@ -58,6 +58,7 @@ IsRefusal octets (Unreadable cause) = ⊥
 IsRefusal octets TooLarge = ⊥
 IsRefusal octets Empty = ⊥
 IsRefusal octets Neither = ⊥
+IsRefusal octets (NoLocator e) = ⊥
 IsRefusal octets Malformed = ⊥
 IsRefusal octets (Violated v) = ⊥
 IsRefusal octets (Unverified clause e) = ⊥
@@ -82,6 +83,7 @@ IsWrong terms x (Unreadable cause) = ⊥
 IsWrong terms x TooLarge = ⊥
 IsWrong terms x Empty = ⊥
 IsWrong terms x Neither = ⊥
+IsWrong terms x (NoLocator e) = ⊥
 IsWrong terms x Malformed = ⊥
 
 -- the object holds, or this is why it doesn't
@@ -140,6 +142,7 @@ IsRead (Some octets) (Err TooLarge) = most_octets < length octets
 IsRead (Some octets) (Err OutOfMemory) = Unit {0}
 IsRead (Some octets) (Err Empty) = ⊥
 IsRead (Some octets) (Err Neither) = ⊥
+IsRead (Some octets) (Err (NoLocator e)) = ⊥
 IsRead (Some octets) (Err Malformed) = ⊥
 IsRead (Some octets) (Err (Refused kind place e)) = ⊥
 IsRead (Some octets) (Err (Violated v)) = ⊥
@@ -152,6 +155,7 @@ IsRead None (Err TooLarge) = ⊥
 IsRead None (Err OutOfMemory) = Unit {0}
 IsRead None (Err Empty) = ⊥
 IsRead None (Err Neither) = ⊥
+IsRead None (Err (NoLocator e)) = ⊥
 IsRead None (Err Malformed) = ⊥
 IsRead None (Err (Refused kind place e)) = ⊥
 IsRead None (Err (Violated v)) = ⊥
@@ -167,6 +171,7 @@ IsReadFrom octets (Err TooLarge) = most_octets < length octets
 IsReadFrom octets (Err OutOfMemory) = Unit {0}
 IsReadFrom octets (Err Empty) = ⊥
 IsReadFrom octets (Err Neither) = ⊥
+IsReadFrom octets (Err (NoLocator e)) = ⊥
 IsReadFrom octets (Err Malformed) = ⊥
 IsReadFrom octets (Err (Refused kind place e)) = ⊥
 IsReadFrom octets (Err (Violated v)) = ⊥

@@ -19,9 +19,11 @@ use Rattle.rpki_fields.specs.Sheet.{SheetParts, listing_parts, plain_sheet, shee
 use Rattle.rpki_fields.specs.declared.object.Object.{Object}
 use Rattle.rpkicert.specs.Pem.{bundle_in}
 use Rattle.rpkicert.specs.Fault.{most_octets, fault_text, status_of}
-use Rattle.rpkicert.specs.Outcome.{Finding, FindsIn, Finds}
+use Rattle.rpkicert.specs.Locator.{ReadsLocator}
+use Rattle.rpkicert.specs.Outcome.{is_other, Finding, FindsIn, Finds}
 use Rattle.rpkicert.specs.declared.fault.Fault.{Fault}
 use Rattle.rpkicert.specs.declared.signature.Signature.{Signature}
+use Rattle.rpkicert.specs.declared.signature.Signature.TheVariants.{Unchecked}
 use Rattle.rpkicert.specs.declared.violation.Violation.{Violation}
 use Rattle.rpkicert.specs.Violation.{violation_text}
 use Rattle.rpkicert.specs.Broken.{AreViolations}
@@ -166,10 +168,42 @@ IsSeen check form terms name source s =
     ((finding : Finding) × Finds terms source finding × IsOutput check form terms name finding s)
     ⊎ (s ≡ shown_parts [] memory_text 2)
 
+-- ---- a trust anchor locator (RFC 8630)
+
+-- that a locator is well; the certificate that it names isn't looked at
+abbrev pub locator_verdict : List ℕ
+locator_verdict = codes "OK, certificate not checked"
+
+-- its file and the digest, and then this sheet, in one form or the other; or only the verdict
+abbrev pub locator_shown : (check : Bool) → Form → (name text : List ℕ) → SheetParts → List ℕ
+locator_shown true form name text s = verdict form Unchecked name locator_verdict
+locator_shown false form name text s =
+    rendering form (sheet_behind (field_parts (codes "File") (file_text form name)) (hashed text (marked Unchecked s)))
+
+-- a locator as it is shown, and a fault as of an object
+abbrev pub IsLocatorOutput : (check : Bool) → Form → TermParts → (name text : List ℕ) → Result SheetParts Fault
+    → OutputParts → Type 0
+IsLocatorOutput check form terms name text (Ok sheet) s =
+    s ≡ shown_parts (locator_shown check form name text sheet) [] 0
+IsLocatorOutput check form terms name text (Err fault) s = IsOutput check form terms name (Err fault) s
+
+-- what is seen of a text that is neither DER nor PEM: it is read as a locator
+abbrev pub IsLocatorSeen : (check : Bool) → Form → TermParts → (name text : List ℕ) → OutputParts → Type 0
+IsLocatorSeen check form terms name text s =
+    (r : Result SheetParts Fault) × ReadsLocator terms name text r × IsLocatorOutput check form terms name text r s
+
+-- ---- an input
+
+-- what is seen of an input that was read, which is neither DER nor PEM, or is one of these
+abbrev pub IsSeenAs : (other : Bool) → (check : Bool) → Form → TermParts → List ℕ → (input : List ℕ) → OutputParts
+    → Type 0
+IsSeenAs true check form terms name input s = IsLocatorSeen check form terms name input s
+IsSeenAs false check form terms name input s =
+    (finding : Finding) × FindsIn terms input finding × IsOutput check form terms name finding s
+
 -- what is seen of an input that was read, as it is shown
 abbrev pub IsSeenIn : (check : Bool) → Form → TermParts → List ℕ → (input : List ℕ) → OutputParts → Type 0
-IsSeenIn check form terms name input s =
-    (finding : Finding) × FindsIn terms input finding × IsOutput check form terms name finding s
+IsSeenIn check form terms name input s = IsSeenAs (is_other input) check form terms name input s
 
 -- there was no memory to find what is shown, or to show it
 abbrev pub LacksMemory : (check : Bool) → Form → TermParts → List ℕ → OutputParts → Type 0
@@ -221,10 +255,19 @@ abbrev pub bundle_of : Option (List ℕ) → Option (List (List ℕ))
 bundle_of None = None
 bundle_of (Some input) = if nat_lt most_octets (length input) then None else bundle_in input
 
--- What is seen of a file: of all of it; of each of the certificates in it, if it has several; or there was no memory.
+-- the text of a file that is neither DER nor PEM, and isn't too large
+abbrev pub other_of : Option (List ℕ) → Option (List ℕ)
+other_of None = None
+other_of (Some input) = if nat_lt most_octets (length input) then None else if is_other input then Some input else None
+
+-- What is seen of a file: of all of it, as of an object or as of a locator; of each of the certificates in it, if it
+-- has several; or there was no memory.
 pub data IsSeenOf (check : Bool) (form : Form) (terms : TermParts) (name : List ℕ) (source : Option (List ℕ))
     (s : OutputParts) : Type 0 where
-  OfAll : bundle_of source ≡ None → IsSeen check form terms name source s → IsSeenOf check form terms name source s
+  OfAll : bundle_of source ≡ None → other_of source ≡ None → IsSeen check form terms name source s
+      → IsSeenOf check form terms name source s
+  OfLocator : (text : List ℕ) → bundle_of source ≡ None → other_of source ≡ Some text
+      → IsLocatorSeen check form terms name text s → IsSeenOf check form terms name source s
   OfEach : (texts : List (List ℕ)) → bundle_of source ≡ Some texts → IsSeenEach check form terms name texts s
       → IsSeenOf check form terms name source s
   OfNone : LacksMemory check form terms name s → IsSeenOf check form terms name source s

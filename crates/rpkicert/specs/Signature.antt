@@ -9,7 +9,7 @@ use Rattle.rpkicert.specs.declared.fault.Clause.{Clause}
 use Rattle.rpkicert.specs.declared.fault.Clause.TheVariants as C
 use Rattle.rpkicert.specs.declared.fault.Fault.{Fault}
 use Rattle.rpkicert.specs.declared.fault.Fault.TheVariants.{Unreadable, TooLarge, OutOfMemory, Malformed, Refused}
-use Rattle.rpkicert.specs.declared.fault.Fault.TheVariants.{Empty, Neither}
+use Rattle.rpkicert.specs.declared.fault.Fault.TheVariants.{Empty, Neither, NoLocator}
 use Rattle.rpkicert.specs.declared.fault.Fault.TheVariants.{Violated, Unverified, NoCertificate, OtherAlgorithm}
 use Rattle.rpkicert.specs.declared.signature.Signature.{Signature}
 use Rattle.rpkicert.specs.declared.signature.Signature.TheVariants.{Good, Own, Bad, Unchecked}
@@ -78,6 +78,7 @@ signature_in TooLarge = Unchecked
 signature_in OutOfMemory = Unchecked
 signature_in Empty = Unchecked
 signature_in Neither = Unchecked
+signature_in (NoLocator e) = Unchecked
 signature_in Malformed = Unchecked
 signature_in (Refused kind place e) = Unchecked
 signature_in (Violated v) = Unchecked

@@ -5,13 +5,14 @@ ghost use Rattle.rpki_der.specs.ErrorText.{error_text};
 ghost use Rattle.rpki_fields.specs.ObjectType.{kind_text};
 ghost use Rattle.rpki_fields.specs.PartText.{text_of_part};
 ghost use Rattle.rpkicert.specs.Fault.{cause_of, unreadable_text, clause_text, fault_text, status_of, refusal};
-ghost use Rattle.rpkicert.specs.Fault.{is_bad_signature, clause_told, text_in};
+ghost use Rattle.rpkicert.specs.Fault.{is_bad_signature, clause_told, text_in, line_text};
 ghost use Rattle.rpkicert.specs.Violation.{violation_text};
 
 use crate::violation::{Violation, has_section};
 use rpki::der::DecodeError;
 use rpki::repository::error::ValidationError;
 use rpki_fields::{ObjectType, Part, text_of_part};
+use rpki_locator::LocatorError;
 use std::alloc::{AllocError, AllocFailed, Global};
 use std::io::ErrorKind;
 
@@ -103,7 +104,7 @@ impl Clause {
 }
 
 /// What is wrong with a file: it has no object, or one that doesn't hold.
-#[derive(Clone, Copy, Debug, PartialEq, Eq)]
+#[derive(Clone, Copy, Debug)]
 pub enum Fault {
     /// There is no such file, or it could not be read to its end.
     Unreadable(Cause),
@@ -115,6 +116,8 @@ pub enum Fault {
     Empty,
     /// It begins neither as an object in DER, which is a SEQUENCE, nor has a certificate or a list in PEM.
     Neither,
+    /// The same, and it is no trust anchor locator: what is wrong with its first malformed line.
+    NoLocator(LocatorError),
     /// It begins as a text of RFC 7468, and isn't exactly one certificate in that encoding.
     Malformed,
     /// Its octets are of this kind, and no such object: wrong in this place, where one is known.
@@ -143,6 +146,31 @@ fn refused_text(
     let name = kind.text();
     let place = text_of_part(place);
     format!(in alloc; "not a {name}: {place}{e}")
+}
+
+/// Which line of a text that is no locator is wrong, and what is wrong with it.
+fn line_text(alloc: Global, e: LocatorError) -> Result<String, AllocError>
+    ensures { IfOk result (λ text. string_bytes text ≡ line_text e) }
+{
+    match e {
+        LocatorError::OtherUri(line) => format!(in alloc;
+            "line {line}: not a URI of a trust anchor"
+        ),
+        LocatorError::NoUri(line) => format!(in alloc; "line {line}: no URI"),
+        LocatorError::NoKey(line) => format!(in alloc; "line {line}: no empty line before the key"),
+        LocatorError::OtherText(line) => format!(in alloc; "line {line}: not base 64"),
+        LocatorError::OtherKey(line, e) => format!(in alloc; "line {line}: not a public key: {e}"),
+        LocatorError::OutOfMemory => Err(AllocError),
+    }
+}
+
+/// That a text is no object and no locator, and why it is no locator.
+fn no_locator_text(alloc: Global, e: LocatorError) -> Result<String, AllocError>
+    ensures { IfOk result (λ text. string_bytes text
+        ≡ codes "neither DER nor PEM of an object, nor a trust anchor locator: " ++ line_text e) }
+{
+    let said = line_text(alloc, e)?;
+    format!(in alloc; "neither DER nor PEM of an object, nor a trust anchor locator: {said}")
 }
 
 /// That the profile is violated, and how.
@@ -183,7 +211,7 @@ impl Fault {
     {
         match self {
             Fault::Unreadable(_) | Fault::TooLarge | Fault::OutOfMemory => 2,
-            Fault::Empty | Fault::Neither | Fault::Malformed => 1,
+            Fault::Empty | Fault::Neither | Fault::NoLocator(_) | Fault::Malformed => 1,
             Fault::Refused(..) | Fault::Violated(_) => 1,
             Fault::Unverified(..) | Fault::NoCertificate | Fault::OtherAlgorithm => 1,
         }
@@ -201,6 +229,7 @@ impl Fault {
             Fault::OutOfMemory => String::from_str(alloc, "out of memory"),
             Fault::Empty => String::from_str(alloc, "empty"),
             Fault::Neither => String::from_str(alloc, "neither DER nor PEM of an object"),
+            Fault::NoLocator(e) => no_locator_text(alloc, e),
             Fault::Malformed => String::from_str(alloc, "malformed PEM"),
             Fault::Refused(kind, place, e) => refused_text(alloc, kind, place, e),
             Fault::Violated(violation) => violated_text(alloc, violation),

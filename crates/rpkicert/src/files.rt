@@ -7,7 +7,8 @@ ghost use Rattle.rpkicert.specs.Output.{numbered, IsSeenIn, IsSeenEach};
 ghost use Rattle.rpkicert.specs.OutputView.{parts_of, seen_of, and_also, IsSeenBy};
 ghost use Rattle.rpkicert.specs.RequirementsView.{terms_of};
 
-use crate::outcome::found_in;
+use crate::locator::seen_locator;
+use crate::outcome::{found_in, is_other};
 use crate::output::{Output, show};
 use crate::pem::bundle_in;
 use crate::requirements::Requirements;
@@ -15,7 +16,7 @@ use crate::sources::Sources;
 use rpki_fields::Form;
 use std::alloc::{AllocError, Global};
 
-/// What is shown of the object that an input stands for, whose file has this name.
+/// What is shown of the object that an input stands for, or of the locator that it is, whose file has this name.
 fn seen_in(
     alloc: Global,
     check: bool,
@@ -26,6 +27,9 @@ fn seen_in(
 ) -> Result<Output, AllocError>
     ensures { IfOk result (λ s. IsSeenIn check form (terms_of terms.now) name.now input.items (parts_of s)) }
 {
+    if is_other(input.as_slice()) {
+        return seen_locator(alloc, check, form, terms, name, input.as_slice());
+    }
     let found = found_in(alloc, terms, input);
     show(alloc, check, form, terms, name, found)
 }

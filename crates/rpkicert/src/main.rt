@@ -12,6 +12,7 @@ mod files;
 mod input;
 mod issuer;
 mod laws;
+mod locator;
 mod moment;
 mod outcome;
 mod output;

@@ -117,7 +117,7 @@ fn held(alloc: Global, terms: &Requirements<'_>, octets: Vec<u8>) -> Result<Outc
 }
 
 /// Whether an input has octets, and neither begins as an object in DER, with a SEQUENCE, nor is a text of RFC 7468.
-fn is_other(input: &[u8]) -> bool
+pub fn is_other(input: &[u8]) -> bool
     ensures { result ≡ is_other input.now }
 {
     !(input.is_empty() || input.starts_with(b"0") || is_pem(input))

@@ -78,7 +78,9 @@ pub fn push_line(text: &mut Vec<u8>, name: &str, said: &[u8]) -> Result<(), Allo
 }
 
 /// The name of an object's file, in this form.
-fn file_text(alloc: Global, form: Form, name: &str) -> Result<Vec<u8>, AllocError>
+///
+/// Returns `AllocError` if allocation fails.
+pub fn file_text(alloc: Global, form: Form, name: &str) -> Result<Vec<u8>, AllocError>
     ensures { IfOk result (λ text. text.items ≡ file_text form name.now) }
 {
     match form {
@@ -92,7 +94,9 @@ fn file_text(alloc: Global, form: Form, name: &str) -> Result<Vec<u8>, AllocErro
 }
 
 /// The sheet with a field in front that says what was checked of the signatures.
-fn marked(alloc: Global, signature: Signature, sheet: Sheet) -> Result<Sheet, AllocError>
+///
+/// Returns `AllocError` if allocation fails.
+pub fn marked(alloc: Global, signature: Signature, sheet: Sheet) -> Result<Sheet, AllocError>
     ensures { IfOk result (λ s. s ≡ marked signature sheet) }
 {
     sheet.behind(alloc, b"Signature", signature.text())
@@ -106,7 +110,9 @@ fn hash_text(alloc: Global, octets: &[u8]) -> Result<String, AllocError>
 }
 
 /// The sheet with a field in front that has the digest of the file.
-fn hashed(alloc: Global, octets: &[u8], sheet: Sheet) -> Result<Sheet, AllocError>
+///
+/// Returns `AllocError` if allocation fails.
+pub fn hashed(alloc: Global, octets: &[u8], sheet: Sheet) -> Result<Sheet, AllocError>
     ensures { IfOk result (λ s. s ≡ hashed octets.now sheet) }
 {
     let text = hash_text(alloc, octets)?;
@@ -183,7 +189,9 @@ fn member_of(
 }
 
 /// The verdict on a file, in this form.
-fn verdict(
+///
+/// Returns `AllocError` if allocation fails.
+pub fn verdict(
     alloc: Global,
     form: Form,
     signature: Signature,

@@ -34,8 +34,9 @@ signed checklists (RFC 9323), trust anchor keys (RFC 9691), Ghostbusters records
 (RFC 6493) and other contents. Its octets tell which one a FILE has, not its
 name. It has at most 4000000 octets, as DER; certificates and lists may be in
 the textual encoding of RFC 7468 (PEM) with other text around them, and of
-several each is printed as of a file of its own: FILE (1), FILE (2) .. - is
-standard input.
+several each is printed as of a file of its own: FILE (1), FILE (2) .. What is
+neither is read as a trust anchor locator (RFC 8630), whose certificate isn't
+looked at. - is standard input.
 
 An object is held to all that it says by itself, and where it breaks a rule,
 that is told beside its fields: of a signed object the type and the digest of
@@ -47,7 +48,8 @@ disagree both are told: the one that was found, and the one that is expected.
 
   --json       print an object of JSON a line
   --check      print a verdict a line and file: its name, and OK, OK, issuer not
-               checked, or what is wrong; of a profile each rule that is broken,
+               checked, of a locator OK, certificate not checked, or what is
+               wrong; of a profile each rule that is broken,
                a line each; with --json as an object of JSON, with file,
                signature, verdict, found and expected, and violations.
                --profile auto holds certificates to all that is known of

@@ -5,6 +5,6 @@ pub returns : goal.returns
 returns c =
     IfOk-weaker c.key_fields.result _ _ (λ fields e. (
       c.in_ok-size.size.items,
-      rw c.subject_public_key_info-key.ensures at c.in_ok-size.ensures,
-      rw (c.subject_public_key_info-key.ensures, c.as_slice.ensures.value) at e,
+      c.in_ok-size.ensures,
+      rw c.as_slice.ensures.value at e,
     )) c.key_fields.ensures
