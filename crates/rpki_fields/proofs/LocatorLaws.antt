@@ -1,7 +1,7 @@
 -- A text is one locator at most, which has one sheet.
 use Rattle.std.proofs.Common.{◌≡◌, ℕ, true, false, List, [], refl, sym, ap, subst, ◌∙◌}
 use Rattle.std.specs.Prelude.{Result, Ok, Err}
-use Rattle.rpki_der.specs.Prelude.{bit_string, oid, sequence, SpellsLeaf, Bits, IsBits, IsOnly}
+use Rattle.rpki_der.specs.Prelude.{bit_string, oid, sequence, SpellsLeaf, IsBits, IsOnly}
 use Rattle.rpki_der.proofs.LeavesLaws.{bits-one}
 use Rattle.rpki.specs.declared.crypto.keys.PublicKeyFormat.{PublicKeyFormat}
 use Rattle.rpki.specs.declared.crypto.keys.PublicKeyFormat.TheVariants.{Rsa, EcdsaP256}
