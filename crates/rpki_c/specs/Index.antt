@@ -1,6 +1,6 @@
 -- What a status says of the index of the value at the front of octets.
-use Rattle.std.specs.Prelude.{◌≡◌, ◌≤◌, ◌<◌, ◌⊎◌, ◌++◌, ◌-◌, ◌+◌, ◌^◌, ℕ, List, map, take, drop, length, Option, Some}
-use Rattle.std.specs.Prelude.{None}
+use Rattle.std.specs.Prelude.{◌≡◌, ◌≢◌, ◌≤◌, ◌<◌, ◌⊎◌, ◌-◌, ◌+◌, ◌^◌, ℕ, List, [], ◌∷◌, map, take, drop, length}
+use Rattle.std.specs.Prelude.{Option, Some, None, slice_get}
 use Rattle.rpki_der.specs.declared.tag.Header.{Header}
 use Rattle.rpki_der.specs.Header.{class_number}
 use Rattle.rpki_der.specs.Reading.{Accepts, OrMemoryWhere}
@@ -9,7 +9,7 @@ use Rattle.rpki_der.specs.NestedFault.{IsCaptureFault}
 use Rattle.rpki_der.specs.Walk.{HasConstructed}
 use Rattle.rpki_der.specs.Index.{Entry as IndexEntry, IsIndex}
 use Rattle.rpki_c.specs.declared.index.Entry.{Entry}
-use Rattle.rpki_c.specs.Status.{too_small}
+use Rattle.rpki_c.specs.Filled.{IsFilled, IsUnfilled}
 use Rattle.rpki_c.specs.Whole.{IsFrontRefused}
 
 -- the number of the entry of the value around; SIZE_MAX where there is none
@@ -41,6 +41,20 @@ slot_at place size h parent = record {
   constructed = h.constructed;
 }
 
+-- From the entry of this number up through those of the values around it, each of which ends at this place, to one that
+-- doesn't, or past the outermost.
+abbrev pub Climbs : List Entry → ℕ → ℕ → List Entry → ℕ → Type 0
+Climbs es place number [] q =
+    (number ≡ q) × ((e : Entry) → number < 2 ^ 64 - 1 → slice_get es number ≡ Some e → e.end ≢ place)
+Climbs es place number (e ∷ ended) q =
+    (slice_get es number ≡ Some e) × (e.end ≡ place) × ((e.parent ≡ 2 ^ 64 - 1) ⊎ (e.parent < number))
+    × Climbs es place e.parent ended q
+
+-- of the entry of this number and those around it, the innermost that doesn't end at this place is q
+pub record Closes (es : List Entry) (place number q : ℕ) : Type 0 where
+  pub ended : List Entry
+  pub climbs : Climbs es place number ended q
+
 -- a value begins s, and this is the index of exactly its octets
 pub record IsFrontIndex (s : List ℕ) (index : List IndexEntry) : Type 0 where
   pub size : ℕ
@@ -48,34 +62,10 @@ pub record IsFrontIndex (s : List ℕ) (index : List IndexEntry) : Type 0 where
   pub read : Accepts SpellsValue s (take size s) (drop size s)
   pub is : IsIndex (take size s) index
 
--- the index of the value at the front was written, what follows it in the array still is there, and the count is
--- that of the entries
-pub record IsIndexWritten (s : List ℕ) (old new : List Entry) (count : ℕ) : Type 0 where
-  pub index : List IndexEntry
-  pub front : IsFrontIndex s index
-  pub room : length index ≤ length old
-  pub entries : new ≡ map passed index ++ drop (length index) old
-  pub counted : count ≡ length index
-
--- the array has no room for the index of the value at the front, nothing was written to it, and the count is that of
--- the entries
-pub record IsIndexTooLong (s : List ℕ) (old new : List Entry) (count : ℕ) : Type 0 where
-  pub index : List IndexEntry
-  pub front : IsFrontIndex s index
-  pub small : length old < length index
-  pub entries : new ≡ old
-  pub counted : count ≡ length index
-
--- neither the array nor the count was written
-pub record IsIndexUnwritten (old new : List Entry) (before after : ℕ) : Type 0 where
-  pub entries : new ≡ old
-  pub counted : after ≡ before
-
--- Status 0: the index of the value at the front was written. 9: it has more entries than the array has room for. Else
--- the number of the error, the leftmost.
+-- Status 0 or 9: the index of the value at the front is filled in. Else the number of the error, the leftmost, and
+-- nothing is written.
 abbrev pub IsIndexed : List ℕ → ℕ → List Entry → List Entry → ℕ → ℕ → Type 0
 IsIndexed s status old new before after =
-    ((status ≡ 0) × IsIndexWritten s old new after)
-    ⊎ ((status ≡ too_small) × IsIndexTooLong s old new after)
+    ((index : List IndexEntry) × IsFrontIndex s index × IsFilled (map passed index) status old new after)
     ⊎ (IsFrontRefused SpellsValue (OrMemoryWhere HasConstructed IsCaptureFault) s status
-    × IsIndexUnwritten old new before after)
+    × IsUnfilled old new before after)

@@ -1,8 +1,8 @@
 //! The index of headers.
 
-ghost use Rattle.std.specs.Prelude.{◌≡◌, ◌≤◌, ◌<◌, ◌+◌, ◌^◌, ◌++◌, List, Some, map, drop, length, slice_get};
+ghost use Rattle.std.specs.Prelude.{◌≡◌, ◌≤◌, ◌<◌, ◌+◌, ◌^◌, ◌++◌, ℕ, List, map, drop, length};
 ghost use Rattle.rpki_der.specs.Index.{Entry as IndexEntry, IsIndex};
-ghost use Rattle.rpki_c.specs.Index.{passed, slot_at, IsIndexed};
+ghost use Rattle.rpki_c.specs.Index.{passed, slot_at, Closes, IsIndexed};
 
 use crate::headers::class_number;
 use crate::status::TOO_SMALL;
@@ -46,27 +46,17 @@ fn entry_at(place: usize, size: usize, header: &Header, parent: usize) -> Entry
     }
 }
 
-/// The entry of this number.
+/// The number of the entry of the innermost value that doesn't end at this place: this one, or one around it.
 #[inline(always)]
-fn entry_of(entries: &[Entry], number: usize) -> Entry
-    requires { number < length entries.now }
-    ensures { slice_get entries.now number ≡ Some result }
+fn innermost(entries: &[Entry], place: usize, number: usize) -> usize
+    requires { (q : ℕ) × Closes entries.now place number q }
+    ensures { (q : ℕ) → Closes entries.now place number q → result ≡ q }
 {
-    entries[number]
-}
-
-/// Where the innermost open value ends, of which this is the entry; all of the octets where none is open.
-#[inline(always)]
-fn end_of(octets: &[u8], entries: &[Entry], depth: usize, number: usize) -> usize
-    requires { 0 < depth → number < length entries.now }
-    ensures outer { depth ≡ 0 → result ≡ length octets.now }
-    ensures inner { (e : Entry) → 0 < depth → slice_get entries.now number ≡ Some e → result ≡ e.end }
-{
-    if depth == 0 {
-        octets.len()
-    } else {
-        entry_of(entries, number).end
+    let mut parent = number;
+    'ended: while parent < entries.len() && entries[parent].end == place {
+        parent = entries[parent].parent;
     }
+    parent
 }
 
 /// Writes the index of values that are all of the octets, and have so many headers, to the front of the array. It keeps
@@ -79,29 +69,20 @@ fn write_index(octets: &[u8], count: usize, entries: &mut [Entry])
 {
     let mut place = 0;
     let mut number = 0;
-    let mut parent = usize::MAX;
-    let mut depth = 0;
-    let mut end = octets.len();
+    let mut last = usize::MAX;
     'values: while number < count {
-        if place == end {
-            parent = entry_of(entries, parent).parent;
-            depth -= 1;
-            end = end_of(octets, entries, depth, parent);
-            continue;
-        }
-        let (found, size) = match read_header(&octets[place..end]) {
+        let (found, size) = match read_header(&octets[place..]) {
             Ok(found) => found,
             Err(_) => return,
         };
+        let parent = innermost(&entries[..number], place, last);
         entries[number] = entry_at(place, size, &found, parent);
-        let past = place + size + found.length as usize;
+        place += size;
         if found.constructed {
-            parent = number;
-            depth += 1;
-            end = past;
-            place += size;
+            last = number;
         } else {
-            place = past;
+            last = parent;
+            place += found.length as usize;
         }
         number += 1;
     }

@@ -1,4 +1,6 @@
-use Rattle.std.proofs.Common.{inl, inr, refl, arith}
+use Rattle.std.proofs.Common.{◌++◌, ◌∙◌, drop, map, inl, inr, refl, sym, ap, arith}
+use Rattle.std.proofs.lemmas.List.{length-map}
+use Rattle.rpki_c.specs.Index.{passed}
 use Rattle.rpki_c.proofs.FillingLaws.{front-index}
 use Rattle.rpki_c.proofs.index.rpki_index.Goals as goal
 
@@ -13,13 +15,34 @@ returns-then-entries-headers c =
     let h = c.in-Ok.ensures in
     let x = front-index c.args.octets.now c.in-Ok.size _ c.count-headers.result h.accepted h.counted
     (omega (arith, c.count-headers.ensures, c.new-steps.ensures)) in
-    inr (inl (
-      refl,
-      record {
-        index = x.0;
-        front = record { size = c.in-Ok.size; within = h.within; read = h.accepted; is = x.1 };
-        small = omega (arith, x.2, c.if-entries-headers.true);
-        entries = refl;
-        counted = omega (arith, x.2);
-      },
-    ))
+    let size = length-map x.0 passed in
+    inl (
+      x.0,
+      record { size = c.in-Ok.size; within = h.within; read = h.accepted; is = x.1 },
+      inr (
+        refl,
+        record {
+          short = omega (arith, x.2, size, c.if-entries-headers.true);
+          array = refl;
+          size = omega (arith, x.2, size);
+        },
+      ),
+    )
+
+pub returns : goal.returns
+returns c =
+    let h = c.in-Ok.ensures in
+    let (index, is, counted, array) = c.write_index.ensures in
+    let size = length-map index passed in
+    inl (
+      index,
+      record { size = c.in-Ok.size; within = h.within; read = h.accepted; is = is },
+      inl (
+        refl,
+        record {
+          room = omega (arith, size, counted, c.if-entries-headers.false);
+          array = array ∙ ap (λ n. map passed index ++ drop n c.args.entries.now) (sym (size ∙ counted));
+          size = omega (arith, size, counted);
+        },
+      ),
+    )
