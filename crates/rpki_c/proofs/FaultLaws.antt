@@ -2,15 +2,18 @@
 use Rattle.std.proofs.Common.{◌≡◌, ℕ, ◌+◌, ◌-◌, ◌≤◌, Bool, true, false, not, List, [], ◌∷◌, ◌++◌, length, take, drop}
 use Rattle.std.proofs.Common.{reverse, Some, refl, sym, ap, ◌∙◌, subst, arith, append_assoc, append-nil, length-append}
 use Rattle.std.specs.List.{between}
-use Rattle.std.specs.Prelude.{slice_get}
 use Rattle.std.proofs.lemmas.List.{reverse-append}
 use Rattle.rpki_der.specs.declared.error.DecodeError.{DecodeError}
+use Rattle.rpki_der.specs.declared.tag.Header.{Header}
 use Rattle.rpki_der.specs.TagName.{TagName}
 use Rattle.rpki_der.specs.Header.{tlv}
+use Rattle.rpki_der.specs.Reading.{Spells}
+use Rattle.rpki_der.specs.Values.{SpellsHeader}
 use Rattle.rpki_der.specs.Members.{Members, Empty, Primitive, Constructed, spell, HaveHeaders, IsValue}
 use Rattle.rpki_der.proofs.MembersLaws.{header, HasHeader}
-use Rattle.rpki_der.proofs.WalkingLaws.{BeginsWithHeader, AreMembers, length-part, front-at, first-value, top, at-true}
-use Rattle.rpki_der.proofs.WalkingLaws.{at-false}
+use Rattle.rpki_der.proofs.WalkingLaws as Walking
+use Rattle.rpki_der.proofs.WalkingLaws.{BeginsWithHeader, AreMembers, begins-with, length-part, front-at, first-value}
+use Rattle.rpki_der.proofs.WalkingLaws.{at-true, at-false}
 use Rattle.rpki_der.specs.NestedFault.{IsNestedFault, AtHeader as NestedHeader, AtContents as NestedContents}
 use Rattle.rpki_der.specs.NestedFault.{Inside as NestedInside}
 use Rattle.rpki_c.specs.Fault.{IsFaultAt, AtHeader, AtContents, Inside}
@@ -58,18 +61,6 @@ inside-at b c after t k e m is legal size x =
     subst (λ (n : ℕ). IsFaultAt b e n) sum (Inside t x.members (head ++ spell x.members) x.rest after legal'.0 legal'.1
     x.legal parts (is ∙ ap (λ (l : List ℕ). tlv t true l ++ after) x.is) x.fault)
 
--- a primitive value at the front
-pub value-primitive : (s : List ℕ) (t : TagName) (n k : ℕ) → BeginsWithHeader s t false n k → k + n ≤ length s
-    → IsValue (take (k + n) s)
-value-primitive s t n k h fits =
-    let p = first-value s t false n k h fits in
-    record {
-      members = Primitive t (between k (k + n) s) Empty;
-      legal = (p.legal, tt);
-      spelled = p.taken ∙ sym (append-nil (tlv t false (between k (k + n) s)));
-      counted = refl;
-    }
-
 -- a constructed value is opened
 pub open-first : (s : List ℕ) (t : TagName) (n k : ℕ) → BeginsWithHeader s t true n k → k + n ≤ length s
     → Open s ((k + n) ∷ []) k
@@ -82,12 +73,7 @@ open-first s t n k h fits =
       low = omega arith;
       high = fits;
       broken = λ e m b. inside-at s c (drop (k + n) s) t k e m p.is p.legal size b;
-      whole = λ vs st. record {
-        members = Constructed t vs Empty;
-        legal = (subst (λ (x : List ℕ). HasHeader t (length x)) st.is p.legal, st.legal, tt);
-        spelled = p.taken ∙ ap (λ (x : List ℕ). tlv t true x) st.is ∙ sym (append-nil (tlv t true (spell vs)));
-        counted = refl;
-      };
+      whole = λ vs st. ((Walking.open-first s t n k h fits).whole vs st).0;
     }
 
 -- the innermost value ends
@@ -194,74 +180,73 @@ open-fault s ends e place f o h =
     let sum : place + 0 ≡ place = omega arith in
     subst (λ (y : ℕ). IsFaultAt s f y) sum r
 
--- the octets up to a place, where the ends of the open values are on a stack, innermost last
-pub record IsOpen (s ends : List ℕ) (place : ℕ) : Type 0 where
-  pub opened : Open s (reverse ends) place
+-- the octets up to a place, where the ends of the values around the innermost open one are on a stack, innermost last
+pub record IsOpen (s around : List ℕ) (end place : ℕ) : Type 0 where
+  pub opened : Open s (end ∷ reverse around) place
 
--- the innermost value ends at `end`
-pub record IsLast (ends : List ℕ) (end : ℕ) : Type 0 where
-  pub last : slice_get ends (length ends - 1) ≡ Some end
+pub start-primitive : {s : List ℕ} {h : Header} (k : ℕ) → not h.constructed ≡ true
+    → Spells SpellsHeader s h (drop k s) → k + h.length ≤ length s → (m : ℕ) × IsValue (take m s)
+start-primitive {s} {h} k form sp fits =
+    (k + h.length, (Walking.start-primitive 1 form (begins-with k sp fits) fits refl).0)
 
-pub innermost : {s ends : List ℕ} {end place : ℕ} → IsLast ends end → IsOpen s ends place
-    → Open s (end ∷ reverse (take (length ends - 1) ends)) place
-innermost {s} {ends} {end} {place} h o = subst (λ (x : List ℕ). Open s x place) (top ends end h.last) o.opened
-
-pub part : {s ends : List ℕ} {end place : ℕ} → IsLast ends end → IsOpen s ends place → (place ≤ end) × (end ≤ length s)
-part h o = let l = innermost h o in (l.low, l.high)
-
-pub start-primitive : {s : List ℕ} {t : TagName} {f : Bool} {n k : ℕ} → not f ≡ true → BeginsWithHeader s t f n k
-    → k + n ≤ length s → (m : ℕ) × IsValue (take m s)
-start-primitive {s} {t} {f} {n} {k} form h fits = (k + n, value-primitive s t n k (at-false s t f n k form h) fits)
-
-pub start-constructed : {s : List ℕ} {t : TagName} {f : Bool} {n k : ℕ} (ends : List ℕ) → not f ≡ false
-    → BeginsWithHeader s t f n k → k + n ≤ length s → ends ≡ (k + n) ∷ [] → IsOpen s ends k
-start-constructed {s} {t} {f} {n} {k} ends form h fits is = record {
-  opened = subst (λ (x : List ℕ). Open s (reverse x) k) (sym is) (open-first s t n k (at-true s t f n k form h) fits);
+pub start-constructed : {s around : List ℕ} {h : Header} (k : ℕ) → not h.constructed ≡ false
+    → Spells SpellsHeader s h (drop k s) → k + h.length ≤ length s → around ≡ [] → IsOpen s around (k + h.length) k
+start-constructed {s} {around} {h} k form sp fits none = record {
+  opened = subst (λ (x : List ℕ). Open s ((k + h.length) ∷ reverse x) k) (sym none)
+      (open-first s h.tag h.length k (at-true s h.tag _ h.length k form (begins-with k sp fits)) fits);
 }
 
-pub step-end : {s ends : List ℕ} {end place : ℕ} (after : List ℕ) → IsLast ends end → IsOpen s ends place → place ≡ end
-    → after ≡ take (length ends - 1) ends → IsOpen s after place
-step-end {s} {ends} {end} {place} after h o same is =
-    let others : List ℕ = reverse (take (length ends - 1) ends) in
-    let closed : Open s others place = open-end s others place
-    (subst (λ (x : ℕ). Open s (x ∷ others) place) (sym same) (innermost h o)) in
-    record { opened = subst (λ (x : List ℕ). Open s (reverse x) place) (sym is) closed }
+-- the innermost value ends, and there is one around it, or none
+pub step-end : {s around after : List ℕ} {end place outer : ℕ} → IsOpen s around end place → place ≡ end
+    → around ≡ after ++ outer ∷ [] → IsOpen s after outer place
+step-end {s} {around} {after} {end} {place} {outer} o same is = record {
+  opened = subst (λ (x : List ℕ). Open s x place) (ap reverse is ∙ reverse-append after (outer ∷ []))
+      (open-end s (reverse around) place (subst (λ (x : ℕ). Open s (x ∷ reverse around) place) (sym same) o.opened));
+}
 
-pub step-fits : {s ends : List ℕ} {end place : ℕ} {t : TagName} {f : Bool} {n k : ℕ} → IsLast ends end
-    → IsOpen s ends place → BeginsWithHeader (between place end s) t f n k → k + n ≤ length (between place end s)
-    → (place + k + n ≤ length s) × (2 ≤ k)
-step-fits {s} {ends} {end} {place} {t} {f} {n} {k} h o b fits =
-    let l = innermost h o in
-    let p = front-at s place end t f n k l.low l.high b fits in
-    (omega (arith, p.fits, l.high), p.size)
+pub step-last : {s around : List ℕ} {end place : ℕ} → IsOpen s around end place → place ≡ end → length around ≡ 0
+    → (m : ℕ) × IsValue (take m s)
+step-last {s} {around} {end} {place} o same none = go around none o.opened
+  where
+    go : (xs : List ℕ) → length xs ≡ 0 → Open s (end ∷ reverse xs) place → (m : ℕ) × IsValue (take m s)
+    go [] z k = (place, open-end s [] place (subst (λ (x : ℕ). Open s (x ∷ []) place) (sym same) k))
+    go (x ∷ xs) z k = absurd (omega (arith, z))
 
-pub step-primitive : {s ends : List ℕ} {end place : ℕ} {t : TagName} {f : Bool} {n k : ℕ} → IsLast ends end
-    → IsOpen s ends place → not f ≡ true → BeginsWithHeader (between place end s) t f n k
-    → k + n ≤ length (between place end s) → IsOpen s ends (place + k + n)
-step-primitive {s} {ends} {end} {place} {t} {f} {n} {k} h o form b fits =
-    let others : List ℕ = reverse (take (length ends - 1) ends) in
-    let more = open-primitive s others end place t n k (innermost h o) (at-false (between place end s) t f n k form b)
-    fits in
-    record { opened = subst (λ (x : List ℕ). Open s x (place + k + n)) (sym (top ends end h.last)) more }
+-- a header is there with its contents
+pub record IsStep (s around : List ℕ) (end place : ℕ) (h : Header) (k : ℕ) : Type 0 where
+  pub fits : place + k + h.length ≤ end
+  pub high : end ≤ length s
+  pub some : 2 ≤ k
+  pub primitive : not h.constructed ≡ true → IsOpen s around end (place + k + h.length)
+  pub constructed : (after : List ℕ) → not h.constructed ≡ false → after ≡ around ++ end ∷ []
+      → IsOpen s after (place + k + h.length) (place + k)
 
-pub step-constructed : {s ends : List ℕ} {end place : ℕ} {t : TagName} {f : Bool} {n k : ℕ} (after : List ℕ)
-    → IsLast ends end → IsOpen s ends place → not f ≡ false → BeginsWithHeader (between place end s) t f n k
-    → k + n ≤ length (between place end s) → after ≡ ends ++ (place + k + n) ∷ [] → IsOpen s after (place + k)
-step-constructed {s} {ends} {end} {place} {t} {f} {n} {k} after h o form b fits is =
-    let others : List ℕ = reverse (take (length ends - 1) ends) in
-    let more = open-constructed s others end place t n k (innermost h o) (at-true (between place end s) t f n k form b)
-    fits in
-    let order : reverse after ≡ (place + k + n) ∷ end ∷ others =
-    ap reverse is ∙ reverse-append ends ((place + k + n) ∷ [])
-    ∙ ap (λ (x : List ℕ). (place + k + n) ∷ x) (top ends end h.last) in
-    record { opened = subst (λ (x : List ℕ). Open s x (place + k)) (sym order) more }
+pub step : {s around : List ℕ} {end place : ℕ} {h : Header} (k : ℕ) → IsOpen s around end place
+    → Spells SpellsHeader (between place end s) h (drop k (between place end s))
+    → k + h.length ≤ length (between place end s) → IsStep s around end place h k
+step {s} {around} {end} {place} {h} k o sp fits =
+    let b : List ℕ = between place end s in
+    let front = begins-with k sp fits in
+    let p = front-at s place end h.tag h.constructed h.length k o.opened.low o.opened.high front fits in
+    record {
+      fits = p.fits;
+      high = o.opened.high;
+      some = p.size;
+      primitive = λ form. record {
+        opened = open-primitive s (reverse around) end place h.tag h.length k o.opened
+            (at-false b h.tag h.constructed h.length k form front) fits;
+      };
+      constructed = λ after form is. record {
+        opened = subst (λ (x : List ℕ). Open s ((place + k + h.length) ∷ x) (place + k))
+            (sym (ap reverse is ∙ reverse-append around (end ∷ [])))
+            (open-constructed s (reverse around) end place h.tag h.length k o.opened
+            (at-true b h.tag h.constructed h.length k form front) fits);
+      };
+    }
 
-pub step-fault : {s ends : List ℕ} {end place : ℕ} → IsLast ends end → IsOpen s ends place
+pub step-fault : {s around : List ℕ} {end place : ℕ} → IsOpen s around end place
     → (e : DecodeError) × IsFaultAt (between place end s) e 0 → (e : DecodeError) × IsFaultAt s e place
-step-fault {s} {ends} {end} {place} h o x = (
-  x.0,
-  open-fault s (reverse (take (length ends - 1) ends)) end place x.0 (innermost h o) x.1,
-)
+step-fault {s} {around} {end} {place} o x = (x.0, open-fault s (reverse around) end place x.0 o.opened x.1)
 
 -- the fault is that of a walk
 pub nested : {s : List ℕ} {e : DecodeError} {n : ℕ} → IsFaultAt s e n → IsNestedFault s e

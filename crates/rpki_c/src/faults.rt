@@ -32,7 +32,8 @@ fn header_within(octets: &[u8]) -> Option<(Header, usize)>
 }
 
 /// The place of the leftmost fault of octets that no value begins: where the value begins that isn't one. None where a
-/// value begins them. The values that are still open are on a stack, innermost last, each by its end.
+/// value begins them. The end of the innermost open value is in a variable, and those of the values around it are on a
+/// stack, outermost first.
 fn fault_of(alloc: Global, octets: &[u8]) -> Result<Option<usize>, DecodeError>
     requires { 0 < length octets.now }
     ensures found { IfOk result (λ place. IfSome place (λ n. (e : DecodeError) × IsFaultAt octets.now e n)) }
@@ -43,16 +44,18 @@ fn fault_of(alloc: Global, octets: &[u8]) -> Result<Option<usize>, DecodeError>
         Some(found) => found,
         None => return Ok(Some(0)),
     };
-    let past = size + first.length as usize;
+    let mut end = size + first.length as usize;
     if !first.constructed {
         return Ok(None);
     }
-    let mut open = Vec::new(alloc);
-    open.push(past)?;
+    let mut around = Vec::new(alloc);
     let mut place = size;
-    'values: while let Some(end) = open.last().copied() {
+    'values: loop {
         if place == end {
-            open.pop();
+            end = match around.pop() {
+                Some(outer) => outer,
+                None => return Ok(None),
+            };
             continue;
         }
         let (found, size) = match header_within(&octets[place..end]) {
@@ -64,10 +67,10 @@ fn fault_of(alloc: Global, octets: &[u8]) -> Result<Option<usize>, DecodeError>
             place = past;
             continue;
         }
-        open.push(past)?;
+        around.push(end)?;
+        end = past;
         place += size;
     }
-    Ok(None)
 }
 
 /// Tells where the value at the front of the octets goes wrong: the place where the leftmost value begins that isn't
