@@ -18,13 +18,17 @@ use Rattle.rpki_c.specs.Status.{other_algorithm}
 use Rattle.rpki_c.specs.Identifier.{IsOther, HoldsFirst, FollowsValue}
 use Rattle.rpki_c.specs.Whole.{IsRefusedElse}
 
--- signed data of the RPKI; of the algorithm it is said whether it has parameters
+-- the algorithm of the RPKI, of which it is said whether it has parameters
+abbrev pub SpellsRpkiAlgorithm : Bool → List ℕ → Type 0
+SpellsRpkiAlgorithm = SpellsAlgorithm sha256_with_rsa_encryption
+
+-- signed data of the RPKI
 abbrev pub SpellsRpki : SignedParts Bool → List ℕ → Type 0
-SpellsRpki = SpellsSigned (SpellsAlgorithm sha256_with_rsa_encryption)
+SpellsRpki = SpellsSigned SpellsRpkiAlgorithm
 
 -- the three parts of it, and nothing else
 abbrev pub AreRpkiParts : SignedParts Bool → List ℕ → Type 0
-AreRpkiParts = IsSignedContents (SpellsAlgorithm sha256_with_rsa_encryption)
+AreRpkiParts = IsSignedContents SpellsRpkiAlgorithm
 
 -- the error of a value that is walked: allocation may fail where a constructed value begins
 abbrev pub IsWalkedFault : List ℕ → DecodeError → Type 0
@@ -46,7 +50,7 @@ IsWholeSignedFault = IsWholeFault SpellsRpki IsSignedFault
 
 -- a value, and after it the identifier of another algorithm; whatever follows
 abbrev pub AreOtherParts : List ℕ → Type 0
-AreOtherParts = FollowsValue (IsOther (SpellsAlgorithm sha256_with_rsa_encryption))
+AreOtherParts = FollowsValue (IsOther SpellsRpkiAlgorithm)
 
 -- the same in a SEQUENCE: signed data of another algorithm, as far as its identifier
 abbrev pub IsOtherSigned : List ℕ → Type 0

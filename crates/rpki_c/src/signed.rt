@@ -1,6 +1,8 @@
 //! Signed data.
 
-ghost use Rattle.std.specs.Prelude.{IfOk, IfSome};
+ghost use Rattle.std.specs.Prelude.{ℕ, List, IfOk, IfSome};
+ghost use Rattle.rpki_der.specs.Members.{SpellsValue};
+ghost use Rattle.rpki_der.specs.Reading.{Accepts};
 ghost use Rattle.rpki_c.specs.Whole.{DecodesElse};
 ghost use Rattle.rpki_c.specs.Signed.{SpellsRpki, AreOtherParts, IsOtherSigned, IsAllPartsFault, IsWholeSignedFault};
 ghost use Rattle.rpki_c.specs.Signed.{signed_in, AreInContents, AreInSigned, HasSigned, IsSignedRead, AreRpkiParts};
@@ -43,16 +45,19 @@ pub(crate) struct SignedView<'a> {
     pub(crate) signature: &'a [u8],
 }
 
-/// The parts that are all of these contents. None where the algorithm identifier after the value is another one.
+/// The parts of contents that are this value and then these octets. None where the algorithm identifier after the value
+/// is another one.
 ///
-/// The errors are those of the parts; then `Trailing`. Allocation can fail only if a constructed value begins the
-/// contents.
-fn read_parts<'a>(alloc: Global, contents: &'a [u8]) -> Result<Option<SignedView<'a>>, DecodeError>
-    ensures reads { DecodesElse AreOtherParts signed_in AreRpkiParts IsAllPartsFault contents.now result }
-    ensures parts { IfOk result (λ o. IfSome o (λ x. AreInContents contents.now x)) }
+/// The errors are those of the parts after the value; then `Trailing`.
+fn read_behind<'a>(
+    data: &'a [u8],
+    following: &'a [u8],
+) -> Result<Option<SignedView<'a>>, DecodeError>
+    ensures reads { (s : List ℕ) → Accepts SpellsValue s data.now following.now
+        → DecodesElse AreOtherParts signed_in AreRpkiParts IsAllPartsFault s result }
+    ensures parts { (s : List ℕ) → Accepts SpellsValue s data.now following.now
+        → IfOk result (λ o. IfSome o (λ x. AreInContents s x)) }
 {
-    let size = walk_octets(alloc, contents, &mut Steps::new())?;
-    let (data, following) = contents.split_at(size);
     let mut rest = Constructed::from_slice(following);
     let algorithm = match RpkiSignatureAlgorithm::x509_take_from(&mut rest) {
         Ok(algorithm) => algorithm,
@@ -64,15 +69,36 @@ fn read_parts<'a>(alloc: Global, contents: &'a [u8]) -> Result<Option<SignedView
         }
     };
     let behind = rest.rest();
-    let bits = rest.take_bits()?;
-    rest.finish()?;
-    Ok(Some(SignedView {
-        data,
-        algorithm: &following[..following.len() - behind.len()],
-        has_parameters: algorithm.has_parameters(),
-        unused: bits.unused(),
-        signature: bits.octet_slice(),
-    }))
+    let bits = match rest.take_bits() {
+        Ok(bits) => bits,
+        Err(e) => return Err(e),
+    };
+    match rest.finish() {
+        Ok(()) => Ok(Some(SignedView {
+            data,
+            algorithm: &following[..following.len() - behind.len()],
+            has_parameters: algorithm.has_parameters(),
+            unused: bits.unused(),
+            signature: bits.octet_slice(),
+        })),
+        Err(e) => Err(e),
+    }
+}
+
+/// The parts that are all of these contents. None where the algorithm identifier after the value is another one.
+///
+/// The errors are those of the parts; then `Trailing`. Allocation can fail only if a constructed value begins the
+/// contents.
+fn read_parts<'a>(alloc: Global, contents: &'a [u8]) -> Result<Option<SignedView<'a>>, DecodeError>
+    ensures reads { DecodesElse AreOtherParts signed_in AreRpkiParts IsAllPartsFault contents.now result }
+    ensures parts { IfOk result (λ o. IfSome o (λ x. AreInContents contents.now x)) }
+{
+    let size = match walk_octets(alloc, contents, &mut Steps::new()) {
+        Ok(size) => size,
+        Err(e) => return Err(e),
+    };
+    let (data, following) = contents.split_at(size);
+    read_behind(data, following)
 }
 
 /// The parts of signed data by an algorithm of the RPKI, and of nothing else, as they are in the octets. None where
@@ -85,12 +111,19 @@ pub(crate) fn read_signed<'a>(
     ensures parts { IfOk result (λ o. IfSome o (λ x. AreInSigned octets.now x)) }
 {
     let mut cons = Constructed::from_slice(octets);
-    let contents = cons.take_sequence()?;
-    let Some(found) = read_parts(alloc, contents.rest())? else {
-        return Ok(None);
+    let contents = match cons.take_sequence() {
+        Ok(contents) => contents,
+        Err(e) => return Err(e),
     };
-    cons.finish()?;
-    Ok(Some(found))
+    let found = match read_parts(alloc, contents.rest()) {
+        Ok(Some(found)) => found,
+        Ok(None) => return Ok(None),
+        Err(e) => return Err(e),
+    };
+    match cons.finish() {
+        Ok(()) => Ok(Some(found)),
+        Err(e) => Err(e),
+    }
 }
 
 /// Reads signed data of the RPKI (RFC 5280 4.1, RFC 7935 2), and says what its parts are.
