@@ -36,14 +36,6 @@ pub not-accepted : (k : KeyParts) (message signature : List ℕ) (e : KeyError) 
     → IsVerifiedBy k message signature 52
 not-accepted k message signature e h = inr (inl (refl, λ a. no-key k.bits.octets e a.key h a.spelled))
 
--- octets that are not a public key
-pub verification-refused : (s message signature : List ℕ) (e : DecodeError) (status : ℕ)
-    → UnlessMemory e (SpellsNothing SpellsKey s) × IsWholeKeyFault s e → IsKeyStatus s e status
-    → IsVerified s message signature status
-verification-refused s message signature e status k (inl h) = inr (inl (h.0, h.1))
-verification-refused s message signature e status k (inr h) =
-    inr (inr (h.1, record { error = e; number = h.0; nothing = k.0; kind = k.1 }))
-
 -- status 0: the key has signed the message
 pub verified-signed : (k : KeyParts) (message signature : List ℕ) → IsVerifiedBy k message signature 0
     → HasSigned k message signature

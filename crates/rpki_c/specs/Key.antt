@@ -8,7 +8,6 @@ use Rattle.rpki.specs.PublicKey.{KeyParts, SpellsKey}
 use Rattle.rpki.specs.KeyFormat.{SpellsFormat}
 use Rattle.rpki.specs.KeyFault.{key, key_view}
 use Rattle.rpki.specs.declared.crypto.keys.PublicKeyFormat.{PublicKeyFormat}
-use Rattle.rpki.specs.declared.crypto.keys.PublicKeyFormat.TheVariants.{Rsa, EcdsaP256}
 use Rattle.rpki_c.specs.declared.keys.KeyParts.{KeyParts as Parts}
 use Rattle.rpki_c.specs.Status.{other_algorithm}
 use Rattle.rpki_c.specs.Identifier.{IsOther, HoldsFirst}
@@ -31,10 +30,16 @@ abbrev pub IsKeyStatus : List ℕ → DecodeError → ℕ → Type 0
 IsKeyStatus s e status =
     ((status ≡ other_algorithm) × IsOtherKey s) ⊎ ((status ≡ error_number e) × (IsOtherKey s → ⊥))
 
+-- The octets are no public key. 13: the identifier of its algorithm is another one. Else the number of the error, which
+-- K says.
+abbrev pub IsNoKey : (List ℕ → DecodeError → Type 0) → List ℕ → ℕ → Type 0
+IsNoKey K s status =
+    ((status ≡ other_algorithm) × IsOtherKey s) ⊎ ((IsOtherKey s → ⊥) × IsRefused SpellsKey K s status)
+
 -- how a format is passed
 abbrev pub format_number : PublicKeyFormat → ℕ
-format_number Rsa = 0
-format_number EcdsaP256 = 1
+format_number PublicKeyFormat.Rsa = 0
+format_number PublicKeyFormat.EcdsaP256 = 1
 
 -- the octets are a public key: its format, its bits, and how many of them are unused
 pub record HasKey (s : List ℕ) (p : Parts) : Type 0 where
@@ -48,9 +53,7 @@ pub record HasKey (s : List ℕ) (p : Parts) : Type 0 where
 -- number of the error. Only with 0 is anything written.
 abbrev pub IsKeyRead : List ℕ → ℕ → Parts → Parts → Type 0
 IsKeyRead s status old new =
-    ((status ≡ 0) × HasKey s new)
-    ⊎ ((status ≡ other_algorithm) × IsOtherKey s × (new ≡ old))
-    ⊎ ((IsOtherKey s → ⊥) × IsRefused SpellsKey IsWholeKeyFault s status × (new ≡ old))
+    ((status ≡ 0) × HasKey s new) ⊎ (IsNoKey IsWholeKeyFault s status × (new ≡ old))
 
 -- the octets are a public key, and the twenty octets are the SHA-1 digest of its bits
 pub record HasIdentifier (s twenty : List ℕ) : Type 0 where
@@ -62,6 +65,4 @@ pub record HasIdentifier (s twenty : List ℕ) : Type 0 where
 -- one. Else the number of the error. Only with 0 is anything written.
 abbrev pub IsIdentified : List ℕ → ℕ → List ℕ → List ℕ → Type 0
 IsIdentified s status old new =
-    ((status ≡ 0) × HasIdentifier s new)
-    ⊎ ((status ≡ other_algorithm) × IsOtherKey s × (new ≡ old))
-    ⊎ ((IsOtherKey s → ⊥) × IsRefused SpellsKey IsWholeKeyFault s status × (new ≡ old))
+    ((status ≡ 0) × HasIdentifier s new) ⊎ (IsNoKey IsWholeKeyFault s status × (new ≡ old))

@@ -6,11 +6,11 @@ use Rattle.rpki.specs.declared.crypto.keys.PublicKeyFormat.TheVariants.{Rsa}
 use Rattle.rpki.specs.RsaPublicKey.{SpellsRsaNumbers, rsa_public_key}
 use Rattle.rpki.specs.PublicKey.{KeyParts, SpellsKey, IsRsaKey, key_contents, key_octets}
 use Rattle.rpki.specs.SubjectName.{subject_octets}
-use Rattle.rpki_c.specs.Status.{content, other_algorithm, out_of_memory, too_long}
+use Rattle.rpki_c.specs.Status.{content, out_of_memory, too_long}
 use Rattle.rpki_c.specs.Made.{IsMade}
 use Rattle.rpki_c.specs.Uri.{IsUnwritten}
 use Rattle.rpki_c.specs.Whole.{IsRefused, NeverMemory}
-use Rattle.rpki_c.specs.Key.{IsKeptKeyFault, IsOtherKey}
+use Rattle.rpki_c.specs.Key.{IsKeptKeyFault, IsNoKey}
 
 -- Where this condition holds, the octets are made. Else the status is 15, and nothing was written.
 abbrev pub IsMadeIf : Type 0 → List ℕ → ℕ → List ℕ → List ℕ → ℕ → ℕ → Type 0
@@ -27,8 +27,7 @@ IsShortKey k = (length (key_contents k) < 2 ^ 32) × (length (key_octets k) < 2 
 abbrev pub IsKeyWritten : List ℕ → ℕ → List ℕ → List ℕ → ℕ → ℕ → Type 0
 IsKeyWritten s status old new before after =
     ((k : KeyParts) × SpellsKey k s × IsMadeIf (IsShortKey k) (key_octets k) status old new before after)
-    ⊎ ((status ≡ other_algorithm) × IsOtherKey s × IsUnwritten old new before after)
-    ⊎ ((IsOtherKey s → ⊥) × IsRefused SpellsKey IsKeptKeyFault s status × IsUnwritten old new before after)
+    ⊎ (IsNoKey IsKeptKeyFault s status × IsUnwritten old new before after)
 
 -- an RSA key of these two numbers
 pub record IsRsaOf (modulus exponent : List ℕ) (k : KeyParts) : Type 0 where
@@ -63,5 +62,4 @@ IsBitsWritten bits status old new before after =
 abbrev pub IsNameWritten : List ℕ → ℕ → List ℕ → List ℕ → ℕ → ℕ → Type 0
 IsNameWritten s status old new before after =
     ((k : KeyParts) × SpellsKey k s × IsMade (subject_octets (sha1 k.bits.octets)) status old new before after)
-    ⊎ ((status ≡ other_algorithm) × IsOtherKey s × IsUnwritten old new before after)
-    ⊎ ((IsOtherKey s → ⊥) × IsRefused SpellsKey IsKeptKeyFault s status × IsUnwritten old new before after)
+    ⊎ (IsNoKey IsKeptKeyFault s status × IsUnwritten old new before after)

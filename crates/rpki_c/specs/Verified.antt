@@ -5,9 +5,8 @@ use Rattle.rpki.specs.declared.crypto.keys.PublicKeyFormat.TheVariants.{Rsa}
 use Rattle.rpki.specs.PublicKey.{KeyParts, SpellsKey}
 use Rattle.rpki_rsa.specs.Key.{SpellsKey as SpellsRsaKey, IsSignatureBy}
 use Rattle.rpki_rsa.specs.RsaKey.{RsaKey}
-use Rattle.rpki_c.specs.Key.{IsOtherKey, IsWholeKeyFault}
-use Rattle.rpki_c.specs.Status.{other_algorithm, key_not_accepted, bad_signature}
-use Rattle.rpki_c.specs.Whole.{IsRefused}
+use Rattle.rpki_c.specs.Key.{IsNoKey, IsWholeKeyFault}
+use Rattle.rpki_c.specs.Status.{key_not_accepted, bad_signature}
 
 -- a key that signatures are verified by: one by RSA, whose bits are those of a key that is accepted
 pub record IsAcceptedKey (k : KeyParts) : Type 0 where
@@ -32,6 +31,4 @@ IsVerifiedBy k message signature status =
 -- one. Else the number of the error.
 abbrev pub IsVerified : List ℕ → List ℕ → List ℕ → ℕ → Type 0
 IsVerified s message signature status =
-    ((k : KeyParts) × SpellsKey k s × IsVerifiedBy k message signature status)
-    ⊎ ((status ≡ other_algorithm) × IsOtherKey s)
-    ⊎ ((IsOtherKey s → ⊥) × IsRefused SpellsKey IsWholeKeyFault s status)
+    ((k : KeyParts) × SpellsKey k s × IsVerifiedBy k message signature status) ⊎ IsNoKey IsWholeKeyFault s status

@@ -1,6 +1,8 @@
 //! Extensions of certificates.
 
-ghost use Rattle.rpki_der.specs.Reading.{Decodes};
+ghost use Rattle.rpki_der.specs.Cursor.{left};
+ghost use Rattle.rpki_der.specs.Reading.{Reads, Decodes};
+ghost use Rattle.rpki.specs.ExtensionFault.{extension};
 ghost use Rattle.rpki.specs.ExtensionValue.{SpellsExtension};
 ghost use Rattle.rpki_c.specs.Extension.{IsWholeExtensionFault, IsExtensionRead};
 
@@ -24,10 +26,11 @@ pub struct ExtensionParts<'a> {
 fn read_extension(octets: &[u8]) -> Result<ExtensionView<'_>, DecodeError>
     ensures { Decodes (λ x. x) SpellsExtension IsWholeExtensionFault octets.now result }
 {
-    let mut cons = Constructed::from_slice(octets);
-    let found = ExtensionView::take_from(&mut cons)?;
-    cons.finish()?;
-    Ok(found)
+    Constructed::from_slice(octets).whole(
+        |cons|
+            ensures { Reads (λ x. x) SpellsExtension extension.fault (left cons.old) (left cons.new) result }
+        { ExtensionView::take_from(cons) },
+    )
 }
 
 /// Reads an extension of a certificate (RFC 5280 4.1, 4.2), and says what its parts are.

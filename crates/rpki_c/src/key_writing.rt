@@ -1,8 +1,10 @@
 //! Public keys, written.
 
+ghost use Rattle.std.specs.Prelude.{IfOk, IfErr};
 ghost use Rattle.rpki_der.specs.Prelude.{Decodes};
-ghost use Rattle.rpki.specs.PublicKey.{SpellsKey};
-ghost use Rattle.rpki_c.specs.Key.{IsKeptKeyFault};
+ghost use Rattle.rpki.specs.PublicKey.{SpellsKey, key_octets};
+ghost use Rattle.rpki_c.specs.Key.{IsKeptKeyFault, IsNoKey};
+ghost use Rattle.rpki_c.specs.MadeValues.{IsMadeIf, IsShortKey};
 ghost use Rattle.rpki_c.specs.MadeValues.{IsKeyWritten, IsRsaWritten, IsUncopied, IsBitsWritten, IsNameWritten};
 
 use crate::keys::key_status;
@@ -19,10 +21,28 @@ use std::alloc::Global;
 const MOST: usize = 1 << 31;
 
 /// A public key, and nothing else, whose bits are kept.
-fn kept_key(alloc: Global, octets: &[u8]) -> Result<PublicKey, DecodeError>
+fn whole_key(alloc: Global, octets: &[u8]) -> Result<PublicKey, DecodeError>
     ensures { Decodes (λ k. k) SpellsKey IsKeptKeyFault octets.now result }
 {
     Constructed::from_slice(octets).whole(|cons| PublicKey::take_from(alloc, cons))
+}
+
+/// The public key that the octets are, whose bits are kept, or their status.
+fn kept_key(alloc: Global, octets: &[u8]) -> Result<PublicKey, u8>
+    ensures ok { IfOk result (λ key. SpellsKey key octets.now) }
+    ensures err { IfErr result (λ status. IsNoKey IsKeptKeyFault octets.now status) }
+{
+    match whole_key(alloc, octets) {
+        Ok(key) => Ok(key),
+        Err(e) => Err(key_status(octets, e)),
+    }
+}
+
+/// Writes the value of a key. The status is as that of [store_if_short].
+fn store_key(alloc: Global, key: &PublicKey, out: &mut [u8], written: &mut usize) -> u8
+    ensures { IsMadeIf (IsShortKey key.now) (key_octets key.now) result out.old out.new written.old written.new }
+{
+    store_if_short(alloc, &key.encode_ref(), out, written)
 }
 
 /// Writes the public key (SubjectPublicKeyInfo, RFC 5280 4.1) that the octets are as it is written, with NULL for the
@@ -41,8 +61,8 @@ pub extern "C" fn rpki_public_key_write(
     ensures { IsKeyWritten octets.now result out.old out.new written.old written.new }
 {
     match kept_key(alloc, octets) {
-        Ok(key) => store_if_short(alloc, &key.encode_ref(), out, written),
-        Err(e) => key_status(octets, e),
+        Ok(key) => store_key(alloc, &key, out, written),
+        Err(status) => status,
     }
 }
 
@@ -66,7 +86,7 @@ pub extern "C" fn rpki_rsa_key_write(
         return TOO_LONG;
     }
     match PublicKey::rsa_from_components(alloc, modulus, exponent) {
-        Ok(key) => store_if_short(alloc, &key.encode_ref(), out, written),
+        Ok(key) => store_key(alloc, &key, out, written),
         Err(InvalidInteger::Empty) => CONTENT,
         Err(InvalidInteger::OutOfMemory) => OUT_OF_MEMORY,
     }
@@ -102,7 +122,7 @@ pub extern "C" fn rpki_rsa_key_of_bits(
         return uncopied(bits);
     };
     match PublicKey::rsa_from_bits_bytes(bytes) {
-        Ok(key) => store_if_short(alloc, &key.encode_ref(), out, written),
+        Ok(key) => store_key(alloc, &key, out, written),
         Err(e) => e.number(),
     }
 }
@@ -124,7 +144,7 @@ pub extern "C" fn rpki_name_of_key(
 {
     let key = match kept_key(alloc, octets) {
         Ok(key) => key,
-        Err(e) => return key_status(octets, e),
+        Err(status) => return status,
     };
     match Name::from_pub_key(alloc, &Digests, &key) {
         Ok(name) => store(name.view().octets(), out, written),

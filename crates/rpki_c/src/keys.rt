@@ -1,12 +1,14 @@
 //! Public keys.
 
-ghost use Rattle.std.specs.Prelude.{◌≡◌, ◌↔◌, IsTrue};
-ghost use Rattle.rpki_der.specs.Reading.{Decodes};
+ghost use Rattle.std.specs.Prelude.{◌≡◌, ◌↔◌, IsTrue, IfOk, IfErr};
+ghost use Rattle.rpki_der.specs.Cursor.{left};
+ghost use Rattle.rpki_der.specs.Reading.{Reads, Decodes};
+ghost use Rattle.rpki.specs.KeyFault.{key_view};
 ghost use Rattle.rpki.specs.PublicKey.{SpellsKey};
 ghost use Rattle.rpki.specs.KeyFormat.{SpellsFormat};
 ghost use Rattle.rpki_c.specs.Identifier.{IsOther};
 ghost use Rattle.rpki_c.specs.Key.{IsWholeKeyFault, IsOtherKey, IsKeyStatus, format_number, HasKey, IsKeyRead};
-ghost use Rattle.rpki_c.specs.Key.{HasIdentifier, IsIdentified};
+ghost use Rattle.rpki_c.specs.Key.{HasIdentifier, IsIdentified, IsNoKey};
 
 use crate::identifiers::begins_with_identifier;
 use crate::span::Span;
@@ -38,13 +40,14 @@ pub(crate) fn format_number(format: PublicKeyFormat) -> u8
 }
 
 /// A public key, and nothing else.
-pub(crate) fn read_key(octets: &[u8]) -> Result<PublicKeyView<'_>, DecodeError>
+fn whole_key(octets: &[u8]) -> Result<PublicKeyView<'_>, DecodeError>
     ensures { Decodes (λ k. k) SpellsKey IsWholeKeyFault octets.now result }
 {
-    let mut cons = Constructed::from_slice(octets);
-    let key = PublicKeyView::take_from(&mut cons)?;
-    cons.finish()?;
-    Ok(key)
+    Constructed::from_slice(octets).whole(
+        |cons|
+            ensures { Reads (λ k. k) SpellsKey key_view.fault (left cons.old) (left cons.new) result }
+        { PublicKeyView::take_from(cons) },
+    )
 }
 
 /// Whether the identifier of another algorithm than those of the formats begins the octets. Allocates nothing.
@@ -80,6 +83,17 @@ pub(crate) fn key_status(octets: &[u8], e: DecodeError) -> u8
     }
 }
 
+/// The public key that the octets are, or their status.
+pub(crate) fn read_key(octets: &[u8]) -> Result<PublicKeyView<'_>, u8>
+    ensures ok { IfOk result (λ key. SpellsKey key octets.now) }
+    ensures err { IfErr result (λ status. IsNoKey IsWholeKeyFault octets.now status) }
+{
+    match whole_key(octets) {
+        Ok(key) => Ok(key),
+        Err(e) => Err(key_status(octets, e)),
+    }
+}
+
 /// The parts of the key that the octets are.
 fn parts_of<'a>(octets: &'a [u8], key: &PublicKeyView<'a>) -> KeyParts<'a>
     requires { SpellsKey key.now octets.now }
@@ -106,7 +120,7 @@ pub extern "C" fn rpki_public_key<'a>(octets: &'a [u8], out: &mut KeyParts<'a>) 
             *out = parts_of(octets, &key);
             0
         }
-        Err(e) => key_status(octets, e),
+        Err(status) => status,
     }
 }
 
@@ -122,6 +136,6 @@ pub extern "C" fn rpki_key_identifier(octets: &[u8], out: &mut [u8; 20]) -> u8
             *out = <[u8; 20]>::from(key.key_identifier(&Digests));
             0
         }
-        Err(e) => key_status(octets, e),
+        Err(status) => status,
     }
 }

@@ -4,7 +4,7 @@ ghost use Rattle.std.specs.Prelude.{◌≡◌};
 ghost use Rattle.sha2.specs.Sha256.{sha256};
 ghost use Rattle.rpki_c.specs.Verified.{IsVerified, IsVerifiedBy};
 
-use crate::keys::{key_status, read_key};
+use crate::keys::read_key;
 use crate::status::{BAD_SIGNATURE, KEY_NOT_ACCEPTED};
 use rpki::crypto::{Provider, PublicKeyFormat, PublicKeyView};
 use rpki_digests::RsaProvider;
@@ -41,7 +41,7 @@ pub extern "C" fn rpki_verify(octets: &[u8], message: &[u8], signature: &[u8]) -
 {
     match read_key(octets) {
         Ok(key) => verified(&key, message, signature),
-        Err(e) => key_status(octets, e),
+        Err(status) => status,
     }
 }
 

@@ -1,9 +1,5 @@
-use Rattle.std.proofs.Common.{rules}
-use Rattle.rpki_der.proofs.InsideLaws.{read-whole}
-use Rattle.rpki.specs.PublicKey.{SpellsKey}
-use Rattle.rpki.specs.KeyFault.{key}
+use Rattle.rpki_c.proofs.KeyStatusLaws.{no-key}
 use Rattle.rpki_c.proofs.key_writing.kept_key.Goals as goal
 
-pub returns : goal.returns
-returns c = read-whole (λ k. k) SpellsKey key.fault _ (λ b a x h. search rules) _ _
-    (rw c.from_slice.ensures at c.whole.ensures)
+pub returns-in-Err-clause-err : goal.returns-in-Err-clause-err
+returns-in-Err-clause-err c = no-key c.in-Err.e c.in-Err.ensures c.key_status.ensures

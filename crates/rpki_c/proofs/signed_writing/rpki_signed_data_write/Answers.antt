@@ -1,4 +1,4 @@
-use Rattle.std.proofs.Common.{◌<◌, ◌^◌, List, ℕ, length, refl, inl, inr, sym, subst}
+use Rattle.std.proofs.Common.{refl, inl, inr}
 use Rattle.rpki_c.proofs.MadeLaws.{made-if}
 use Rattle.rpki_c.proofs.signed_writing.rpki_signed_data_write.Goals as goal
 
@@ -10,14 +10,7 @@ signed_of-requires c =
 pub returns-in-Some : goal.returns-in-Some
 returns-in-Some c =
     let h = rw c.in-Some.is at c.in-Ok.ensures.reads in
-    let e = c.signed_of.ensures.octets in
-    let s = c.signed_of.ensures.short in
-    inl (
-      _,
-      h.1.0,
-      made-if _ _ _ _ _ _ _ _ _ (λ p. (s.0 p.0, subst (λ (x : List ℕ). length x < 2 ^ 63) e p.1))
-          (λ q. (s.1 q.0, subst (λ (x : List ℕ). length x < 2 ^ 63) (sym e) q.1)) e c.store_if_short.ensures,
-    )
+    inl (_, h.1.0, made-if c.signed_of.ensures.short c.signed_of.ensures.octets c.store_if_short.ensures)
 
 pub returns-in-None : goal.returns-in-None
 returns-in-None c =
