@@ -13,12 +13,16 @@ use Rattle.rpki_c.specs.Status.{no_issuer, other_issuer, other_authority}
 abbrev pub NamesKeyOf : CertParts → KnownView → Type 0
 NamesKeyOf issuer known = known.authority_key_identifier ≡ Some (sha1 issuer.tbs.key.bits.octets)
 
--- both are certificates, and the first names the subject of the second, and its key
+-- the first names the subject of the second, and its key
+pub record NamesIssuer (x issuer : CertParts) (known : KnownView) : Type 0 where
+  pub name : x.tbs.issuer ≡ issuer.tbs.subject
+  pub authority : NamesKeyOf issuer known
+
+-- both are certificates, and the second may have issued the first
 pub record IsIssuedBy (s t : List ℕ) (x issuer : CertParts) (known : KnownView) : Type 0 where
   pub read : IsRead s x known
   pub spelled : SpellsCert issuer t
-  pub name : x.tbs.issuer ≡ issuer.tbs.subject
-  pub authority : NamesKeyOf issuer known
+  pub named : NamesIssuer x issuer known
 
 -- Both are certificates. 153: the issuer of the first has another name than the second's subject. 154: it has that
 -- name, and the first names another key, or none.
@@ -26,12 +30,6 @@ abbrev pub IsToldApart : CertParts → CertParts → KnownView → ℕ → Type 
 IsToldApart x issuer known status =
     ((status ≡ other_issuer) × (x.tbs.issuer ≢ issuer.tbs.subject))
     ⊎ ((status ≡ other_authority) × (x.tbs.issuer ≡ issuer.tbs.subject) × (NamesKeyOf issuer known → ⊥))
-
--- the same, or status 0: the first names the subject of the second, and its key
-abbrev pub AreNamesTold : CertParts → CertParts → KnownView → ℕ → Type 0
-AreNamesTold x issuer known status =
-    ((status ≡ 0) × (x.tbs.issuer ≡ issuer.tbs.subject) × NamesKeyOf issuer known)
-    ⊎ IsToldApart x issuer known status
 
 -- 64 to 84: the first isn't read. 152: it is, and the second is no certificate. Else both are.
 abbrev pub IsNotIssued : List ℕ → List ℕ → ℕ → Type 0

@@ -47,10 +47,6 @@ IsContentWrong x status =
     ((status ≡ other_type) × (HasSignedType x → ⊥))
     ⊎ ((status ≡ other_digest) × HasSignedType x × (HasSignedDigest x → ⊥))
 
--- the same, or status 0: both are
-abbrev pub IsContentTold : ObjectParts → ℕ → Type 0
-IsContentTold x status = ((status ≡ 0) × HasSignedContent x) ⊎ IsContentWrong x status
-
 -- Of the content; or it is as it is signed, and it is the certificate or the signer of which the status tells.
 abbrev pub IsToldOfObject : ObjectParts → ℕ → Type 0
 IsToldOfObject x status =

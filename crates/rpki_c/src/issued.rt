@@ -1,12 +1,12 @@
 //! Certificates of which one may have issued the other.
 
 ghost use Rattle.std.specs.Prelude.{◌≡◌, ◌↔◌, ℕ, List, IsTrue};
-ghost use Rattle.std.specs.Prelude.{Option};
+ghost use Rattle.std.specs.Prelude.{Option, MatchResult};
 ghost use Rattle.sha1.specs.Sha1.{sha1};
 ghost use Rattle.rpki_cert.specs.Cert.{CertParts};
 ghost use Rattle.rpki_cert.specs.View.{IsCertAt};
 ghost use Rattle.rpki_c.specs.KnownCert.{IsKnownAt};
-ghost use Rattle.rpki_c.specs.Issued.{AreNamesTold, IsIssuedRead, IsIssuerRead};
+ghost use Rattle.rpki_c.specs.Issued.{NamesIssuer, IsToldApart, IsIssuedRead, IsIssuerRead};
 
 use crate::known_cert::{KnownCert, known_cert};
 use crate::status::{NO_ISSUER, OTHER_AUTHORITY, OTHER_ISSUER};
@@ -38,18 +38,19 @@ pub(crate) struct IssuedCert<'a> {
     pub(crate) issuer: CertView<'a>,
 }
 
-/// Whether the second may have issued the first, by their names and keys: 0, `OTHER_ISSUER` or `OTHER_AUTHORITY`.
-fn names_told(subject: &KnownCert<'_>, issuer: &CertView<'_>) -> u8
+/// Tests that the second may have issued the first, by their names and keys. The error is `OTHER_ISSUER` or
+/// `OTHER_AUTHORITY`.
+fn test_names(subject: &KnownCert<'_>, issuer: &CertView<'_>) -> Result<(), u8>
     ensures { (s t : List ℕ) (x y : CertParts) → IsKnownAt s subject.now x → IsCertAt t issuer.now y
-        → AreNamesTold x y subject.now.known result }
+        → MatchResult result (λ _. NamesIssuer x y subject.now.known) (λ status. IsToldApart x y subject.now.known status) }
 {
     if !is_named(&subject.cert, issuer) {
-        return OTHER_ISSUER;
+        return Err(OTHER_ISSUER);
     }
     if !is_identifier(subject.known.authority_key_identifier, key_of(issuer)) {
-        return OTHER_AUTHORITY;
+        return Err(OTHER_AUTHORITY);
     }
-    0
+    Ok(())
 }
 
 /// Both certificates, where the second may have issued the first. The error is as the status of
@@ -65,14 +66,13 @@ pub(crate) fn read_issued<'a>(octets: &'a [u8], issuer: &'a [u8]) -> Result<Issu
         Ok(authority) => authority,
         Err(_) => return Err(NO_ISSUER),
     };
-    let status = names_told(&subject, &authority);
-    if status != 0 {
-        return Err(status);
+    match test_names(&subject, &authority) {
+        Ok(()) => Ok(IssuedCert {
+            subject,
+            issuer: authority,
+        }),
+        Err(status) => Err(status),
     }
-    Ok(IssuedCert {
-        subject,
-        issuer: authority,
-    })
 }
 
 /// Reads two resource certificates, and says whether the second may have issued the first (RFC 5280 6.1.3, RFC 6487

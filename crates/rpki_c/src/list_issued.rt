@@ -5,7 +5,7 @@ ghost use Rattle.rpki_cert.specs.Cert.{CertParts};
 ghost use Rattle.rpki_cert.specs.View.{IsCertAt};
 ghost use Rattle.rpki_crl.specs.Crl.{CrlParts};
 ghost use Rattle.rpki_crl.specs.CrlView.{IsCrlAt};
-ghost use Rattle.rpki_c.specs.ListIssued.{IsListToldOf, IsListRead};
+ghost use Rattle.rpki_c.specs.ListIssued.{IsListTold, IsListToldOf, IsListRead};
 ghost use Rattle.rpki_c.specs.Verified.{IsVerifiedBy};
 
 use crate::crl::crl_part_number;
@@ -59,6 +59,24 @@ fn list_verified(list: &CrlView<'_>, issuer: &CertView<'_>) -> u8
     )
 }
 
+/// Whether the subject of the certificate has issued the list, and whether it is in force at the moment.
+fn list_told(list: &CrlView<'_>, issuer: &CertView<'_>, moment: &Moment) -> u8
+    ensures { (s t : List ℕ) (x : CrlParts) (y : CertParts) → IsCrlAt s list.now x → IsCertAt t issuer.now y
+        → IsListTold x y moment.now result }
+{
+    if !is_list_named(list, issuer) {
+        return OTHER_ISSUER;
+    }
+    if !has_authority(list, key_of(issuer)) {
+        return OTHER_AUTHORITY;
+    }
+    let status = list_verified(list, issuer);
+    if status != 0 {
+        return status;
+    }
+    in_force(list, moment)
+}
+
 /// Reads a revocation list and a resource certificate, and says whether the subject of the certificate has issued the
 /// list (RFC 5280 6.3.3, RFC 6487 5), and whether it is in force at the moment: whether the issuer of the list has the
 /// name of the subject, octet for octet; its authority key identifier is that of the subject's key; that key has signed
@@ -80,15 +98,5 @@ pub extern "C" fn rpki_crl_issued_by(octets: &[u8], issuer: &[u8], moment: &Mome
         Ok(authority) => authority,
         Err(_) => return NO_ISSUER,
     };
-    if !is_list_named(&list, &authority) {
-        return OTHER_ISSUER;
-    }
-    if !has_authority(&list, key_of(&authority)) {
-        return OTHER_AUTHORITY;
-    }
-    let status = list_verified(&list, &authority);
-    if status != 0 {
-        return status;
-    }
-    in_force(&list, moment)
+    list_told(&list, &authority, moment)
 }

@@ -1,13 +1,13 @@
 //! Signed objects that the key of their certificate has signed.
 
-ghost use Rattle.std.specs.Prelude.{◌≡◌, ℕ, Bool, List};
+ghost use Rattle.std.specs.Prelude.{◌≡◌, ℕ, Bool, List, MatchResult};
 ghost use Rattle.sha2.specs.Sha256.{sha256};
 ghost use Rattle.rpki_attributes.specs.SignedAttributes.{message_of};
 ghost use Rattle.rpki_objects.specs.SignedObject.{ObjectParts};
 ghost use Rattle.rpki_objects.specs.SignedObjectView.{IsObjectAt};
 ghost use Rattle.rpki_cert.specs.Cert.{CertParts};
 ghost use Rattle.rpki_cert.specs.View.{IsCertAt};
-ghost use Rattle.rpki_c.specs.ObjectVerified.{IsContentTold, IsCertTold, IsObjectVerified};
+ghost use Rattle.rpki_c.specs.ObjectVerified.{HasSignedContent, IsContentWrong, IsCertTold, IsObjectVerified};
 ghost use Rattle.rpki_c.specs.Verified.{IsVerifiedBy};
 
 use crate::certificate_extensions::known_number;
@@ -57,22 +57,23 @@ fn attributes_verified(key: &PublicKeyView<'_>, attributes: &[u8], signature: &[
     }
 }
 
-/// Whether the type of the content and its digest are those that are signed: 0, `OTHER_TYPE` or `OTHER_DIGEST`.
-fn content_told(found: &SignedObjectView<'_>) -> u8
+/// Tests that the type of the content and its digest are those that are signed. The error is `OTHER_TYPE` or
+/// `OTHER_DIGEST`.
+fn test_content(found: &SignedObjectView<'_>) -> Result<(), u8>
     ensures { (strict : Bool) (s : List ℕ) (x : ObjectParts) → IsObjectAt strict s found.now x
-        → IsContentTold x result }
+        → MatchResult result (λ _. HasSignedContent x) (λ status. IsContentWrong x status) }
 {
     let values = &found.signer.signed_attrs.values;
     if !are_same(found.content.content_type.octets, values.content_type.0) {
-        return OTHER_TYPE;
+        return Err(OTHER_TYPE);
     }
     if !has_digest(
         found.content.content.octets,
         &values.message_digest.into_array(),
     ) {
-        return OTHER_DIGEST;
+        return Err(OTHER_DIGEST);
     }
-    0
+    Ok(())
 }
 
 /// The status of the certificate, as the one of the signer with this identifier, and of a signature of the attributes
@@ -113,15 +114,13 @@ pub extern "C" fn rpki_object_verify(octets: &[u8], strict: bool) -> u8
         Ok(found) => found,
         Err(part) => return object_part_number(part),
     };
-    let status = content_told(&found);
-    if status != 0 {
-        return status;
+    match test_content(&found) {
+        Ok(()) => signer_told(
+            &found.cert.parts,
+            found.signer.identifier,
+            found.signer.signed_attrs.octets.octets,
+            found.signer.signature.octets,
+        ),
+        Err(status) => status,
     }
-    let signer = &found.signer;
-    signer_told(
-        &found.cert.parts,
-        signer.identifier,
-        signer.signed_attrs.octets.octets,
-        signer.signature.octets,
-    )
 }

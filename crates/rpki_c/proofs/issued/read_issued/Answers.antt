@@ -1,19 +1,5 @@
-use Rattle.std.proofs.Common.{◌≡◌, ℕ, inl, inr, refl}
-use Rattle.rpki_cert.specs.Cert.{CertParts}
-use Rattle.rpki_cert.specs.declared.extension.known_view.KnownView.{KnownView}
-use Rattle.rpki_c.specs.Issued.{IsToldApart, AreNamesTold, NamesKeyOf}
+use Rattle.std.proofs.Common.{inl, inr, refl}
 use Rattle.rpki_c.proofs.issued.read_issued.Goals as goal
-
--- the names are right exactly where the status is 0
-right : (x y : CertParts) (k : KnownView) → AreNamesTold x y k 0 → (x.tbs.issuer ≡ y.tbs.subject) × NamesKeyOf y k
-right x y k (inl h) = (h.1, h.2)
-right x y k (inr (inl h)) = absurd (cc h.0)
-right x y k (inr (inr h)) = absurd (cc h.0)
-
-wrong : (x y : CertParts) (k : KnownView) (status : ℕ) → AreNamesTold x y k status → (status ≡ 0 → ⊥)
-    → IsToldApart x y k status
-wrong x y k status (inl h) other = absurd (other h.0)
-wrong x y k status (inr h) other = h
 
 pub returns-in-Err-read : goal.returns-in-Err-read
 returns-in-Err-read c =
@@ -26,12 +12,10 @@ returns-in-Err-read c =
       inl (refl, q.part, (q.error, c.in-Err-read.ensures.err)),
     )
 
-pub returns : goal.returns
-returns c =
+pub returns-in-Ok-test_names : goal.returns-in-Ok-test_names
+returns-in-Ok-test_names c =
     let (x, h) = c.in-Ok.ensures in
-    let (y, k) = c.in-Ok-read.ensures.ok in
-    let told = rw c.if-status-ne0.false at c.names_told-status.ensures c.args.octets.now c.args.issuer.now x y h k in
-    let names = right x y c.in-Ok.subject.known told in (
+    let (y, k) = c.in-Ok-read.ensures.ok in (
       x,
       y,
       record {
@@ -40,20 +24,18 @@ returns c =
         by = record {
           read = record { spelled = h.cert.spelled; says = h.says };
           spelled = k.spelled;
-          name = names.0;
-          authority = names.1;
+          named = c.in-Ok-test_names.ensures c.args.octets.now c.args.issuer.now x y h k;
         };
       },
     )
 
-pub returns-then-status-ne0 : goal.returns-then-status-ne0
-returns-then-status-ne0 c =
+pub returns-in-Err-test_names : goal.returns-in-Err-test_names
+returns-in-Err-test_names c =
     let (x, h) = c.in-Ok.ensures in
     let (y, k) = c.in-Ok-read.ensures.ok in
-    let told = c.names_told-status.ensures c.args.octets.now c.args.issuer.now x y h k in
     inr (
       x,
       c.in-Ok.subject.known,
       record { spelled = h.cert.spelled; says = h.says },
-      inr (y, k.spelled, wrong x y c.in-Ok.subject.known c.names_told-status.result told c.if-status-ne0.true),
+      inr (y, k.spelled, c.in-Err-test_names.ensures c.args.octets.now c.args.issuer.now x y h k),
     )

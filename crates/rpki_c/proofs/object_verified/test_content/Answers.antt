@@ -8,7 +8,7 @@ use Rattle.rpki_objects.specs.SignedObject.{ObjectParts}
 use Rattle.rpki_objects.specs.SignedObjectView.{IsObjectAt}
 use Rattle.rpki_c.specs.ObjectVerified.{HasSignedType, HasSignedDigest}
 use Rattle.rpki_c.proofs.SignedObjectLaws.{same-told}
-use Rattle.rpki_c.proofs.object_verified.content_told.Goals as goal
+use Rattle.rpki_c.proofs.object_verified.test_content.Goals as goal
 
 module _ (strict : Bool) (s : List ℕ) (x : ObjectParts) (v : SignedObjectView) (at : IsObjectAt strict s v x) (b : Bool)
   where
@@ -27,21 +27,21 @@ module _ (strict : Bool) (s : List ℕ) (x : ObjectParts) (v : SignedObjectView)
 
 pub returns-then-not-are_same : goal.returns-then-not-are_same
 returns-then-not-are_same c = λ strict s x at.
-    inr (inl (
+    inl (
       refl,
       iff_false (type-told strict s x c.args.found.now at c.are_same.result c.are_same.ensures) c.if-not-are_same.true,
-    ))
+    )
 
 pub returns-then-not-has_digest : goal.returns-then-not-has_digest
 returns-then-not-has_digest c = λ strict s x at.
     let v = c.args.found.now in
     let type = type-told strict s x v at c.are_same.result c.are_same.ensures in
     let digest = digest-told strict s x v at c.has_digest.result _ c.into_array.ensures c.has_digest.ensures in
-    inr (inr (refl, type.0 c.if-not-are_same.false, iff_false digest c.if-not-has_digest.true))
+    inr (refl, type.0 c.if-not-are_same.false, iff_false digest c.if-not-has_digest.true)
 
 pub returns : goal.returns
 returns c = λ strict s x at.
     let v = c.args.found.now in
     let type = type-told strict s x v at c.are_same.result c.are_same.ensures in
     let digest = digest-told strict s x v at c.has_digest.result _ c.into_array.ensures c.has_digest.ensures in
-    inl (refl, (type.0 c.if-not-are_same.false, digest.0 c.if-not-has_digest.false))
+    (type.0 c.if-not-are_same.false, digest.0 c.if-not-has_digest.false)
