@@ -1,6 +1,6 @@
 -- Blocks that a cursor gives, and entries that are written of them in sequence.
 use Rattle.std.proofs.Common.{◌≡◌, ◌≤◌, ◌<◌, ◌+◌, ℕ, suc, List, [], ◌∷◌, ◌++◌, length, take, drop, Some, None, refl}
-use Rattle.std.proofs.Common.{sym, ap, ◌∙◌, subst, arith, append_assoc, append-nil, length-set, take-append-drop}
+use Rattle.std.proofs.Common.{sym, ap, ◌∙◌, arith, append_assoc, append-nil, length-set, take-append-drop}
 use Rattle.std.proofs.Common.{take-suc-set, drop-set-lt, drop-drop}
 use Rattle.std.specs.Prelude.{set, map}
 use Rattle.std.proofs.lemmas.List.{length-map}
@@ -33,45 +33,43 @@ pub record IsFilling {E : Type 0} (p : Block → E) (from : ℕ) (bs : List Bloc
   pub size : length new ≡ length old
   pub room : from + length bs ≤ length old
 
-module _ {E : Type 0} (p : Block → E) (from : ℕ) (bs : List Block) (old : List E) where
-  pub filling-none : from + length bs ≤ length old → IsFilling p from bs old old from bs
-  filling-none room = record { front = refl; behind = refl; count = refl; size = refl; room = room }
+pub filling-none : {E : Type 0} {p : Block → E} {from : ℕ} {bs : List Block} {old : List E}
+    → from + length bs ≤ length old → IsFilling p from bs old old from bs
+filling-none room = record { front = refl; behind = refl; count = refl; size = refl; room = room }
 
-  module _ (new : List E) (number : ℕ) where
-    pub filling-within : (b : Block) (ds : List Block) → IsFilling p from bs old new number (b ∷ ds)
+module _ {E : Type 0} {p : Block → E} {from : ℕ} {bs : List Block} {old new : List E} {number : ℕ} {ds : List Block}
+  where
+    pub filling-within : {b : Block} {es : List Block} → ds ≡ b ∷ es → IsFilling p from bs old new number ds
         → number < length new
-    filling-within b ds h = omega (arith, h.count, h.size, h.room)
+    filling-within is h = omega (arith, ap length is, h.count, h.size, h.room)
 
     -- one entry more
-    pub filling-next : (b : Block) (ds : List Block) (n : ℕ) → n ≡ number + 1
-        → IsFilling p from bs old new number (b ∷ ds) → IsFilling p from bs old (set new number (p b)) n ds
-    filling-next b ds n is h =
-        let within = filling-within b ds h in
-        let next : suc number ≡ n = omega (arith, is) in
-        let one : take (suc number) (set new number (p b)) ++ map p ds ≡ take from old ++ map p bs =
-        ap (λ (l : List E). l ++ map p ds) (take-suc-set new number (p b) within)
-        ∙ append_assoc (take number new) (p b ∷ []) (map p ds) ∙ h.front in
-        let less : number < suc number = omega arith in
+    pub filling-next : {b : Block} {es : List Block} {e : E} → e ≡ p b → ds ≡ b ∷ es
+        → IsFilling p from bs old new number ds → IsFilling p from bs old (set new number e) (number + 1) es
+    filling-next {b} {es} {e} made is h =
         let more : number + 1 ≡ suc number = omega arith in
-        let two : drop (suc number) (set new number (p b)) ≡ drop (suc number) old =
-        drop-set-lt (suc number) new number (p b) less
+        let behind : drop (suc number) (set new number (p b)) ≡ drop (suc number) old =
+        drop-set-lt (suc number) new number (p b) (omega arith)
         ∙ ap (λ (k : ℕ). drop k new) (sym more) ∙ sym (drop-drop 1 number new)
         ∙ ap (drop 1) h.behind ∙ drop-drop 1 number old
         ∙ ap (λ (k : ℕ). drop k old) more in
-        record {
-          front = subst (λ (k : ℕ). take k (set new number (p b)) ++ map p ds ≡ take from old ++ map p bs) next one;
-          behind = subst (λ (k : ℕ). drop k (set new number (p b)) ≡ drop k old) next two;
-          count = omega (arith, h.count, is);
+        rw (made, more) (record {
+          front = ap (λ (l : List E). l ++ map p es) (take-suc-set new number (p b) (filling-within is h))
+              ∙ append_assoc (take number new) (p b ∷ []) (map p es)
+              ∙ ap (λ (l : List Block). take number new ++ map p l) (sym is) ∙ h.front;
+          behind = behind;
+          count = omega (arith, h.count, ap length is);
           size = length-set new number (p b) ∙ h.size;
           room = h.room;
-        }
+        })
 
     -- all are written
-    pub filling-all : IsFilling p from bs old new number [] → IsFilledAt from (map p bs) old new
-    filling-all h =
+    pub filling-all : ds ≡ [] → IsFilling p from bs old new number ds → IsFilledAt from (map p bs) old new
+    filling-all is h =
         let few : length (map p bs) ≡ length bs = length-map bs p in
-        let last : number ≡ from + length (map p bs) = omega (arith, h.count, few) in
-        let front : take number new ≡ take from old ++ map p bs = sym (append-nil (take number new)) ∙ h.front in
+        let last : number ≡ from + length (map p bs) = omega (arith, h.count, few, ap length is) in
+        let front : take number new ≡ take from old ++ map p bs =
+        sym (append-nil (take number new)) ∙ ap (λ (l : List Block). take number new ++ map p l) (sym is) ∙ h.front in
         record {
           room = omega (arith, h.room, few);
           array = sym (take-append-drop number new)

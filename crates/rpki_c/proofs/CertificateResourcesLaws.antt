@@ -4,9 +4,6 @@ use Rattle.rpki.specs.ExtensionValue.{ExtensionParts}
 use Rattle.rpki_resources.specs.declared.choice.ResourcesChoice.{ResourcesChoice}
 use Rattle.rpki_resources.specs.declared.choice.ResourcesChoice.TheVariants.{Missing, Inherit, Blocks}
 use Rattle.rpki_resources.specs.declared.choice_view.ChoiceView.{ChoiceView}
-use Rattle.rpki_resources.specs.declared.choice_view.ChoiceView.TheVariants.{Missing as NoneThere}
-use Rattle.rpki_resources.specs.declared.choice_view.ChoiceView.TheVariants.{Inherit as InheritThere}
-use Rattle.rpki_resources.specs.declared.choice_view.ChoiceView.TheVariants.{Blocks as BlocksThere}
 use Rattle.rpki_resources.specs.declared.ip_view.IpResourcesView.{IpResourcesView}
 use Rattle.rpki_resources.specs.declared.resources.IpResources.{IpResources}
 use Rattle.rpki_resources.specs.Extension.{SpellsIpResources, SpellsAsResources}
@@ -20,7 +17,7 @@ use Rattle.rpki_c.proofs.ViewCountLaws.{ip-kept, as-kept, as-fit}
 pub addresses-kept : (found : Option ExtensionParts) (said : Option IpResourcesView)
     → Says true SpellsIpResources found said → (v : IpResources) × AreIpResourcesOf v (claimed_addresses said)
 addresses-kept found None h = (ip_of Missing Missing, (tt, tt))
-addresses-kept found (Some x) h = ip-kept x h.0.content h.3
+addresses-kept found (Some x) h = let k = ip-kept x h.0.content h.3 in (k.0, k.1)
 
 pub numbers-kept : (found : Option ExtensionParts) (said : Option ChoiceView)
     → Says true SpellsAsResources found said → (v : ResourcesChoice) × IsChoiceOf v (claimed_numbers said)
@@ -29,15 +26,12 @@ numbers-kept found (Some x) h = as-kept x h.0.content h.3
 
 -- what is listed are numbers of autonomous systems
 fits : (x : ChoiceView) (s : List ℕ) → SpellsAsResources x s → (v : ResourcesChoice) → IsChoiceOf v x → AreFitting v
-fits x s h Missing k = tt
-fits x s h Inherit k = tt
-fits NoneThere s h (Blocks bs) k = absurd k
-fits InheritThere s h (Blocks bs) k = absurd k
-fits (BlocksThere x) s h (Blocks bs) k = as-fit x s h bs k
+fits (ChoiceView.Blocks x) s h (Blocks bs) k = as-fit x s h bs k
+fits x s h (Blocks bs) k = absurd k
+fits x s h v k = tt
 
 pub numbers-fit : (found : Option ExtensionParts) (said : Option ChoiceView) → Says true SpellsAsResources found said
     → (v : ResourcesChoice) → IsChoiceOf v (claimed_numbers said) → AreFitting v
 numbers-fit found None h Missing k = tt
-numbers-fit found None h Inherit k = absurd k
-numbers-fit found None h (Blocks bs) k = absurd k
+numbers-fit found None h v k = absurd k
 numbers-fit found (Some x) h v k = fits x h.0.content h.3 v k

@@ -5,9 +5,7 @@ use Rattle.std.proofs.Math.Seq.{take-append_seam, drop-append_seam}
 use Rattle.rpki_resources.specs.declared.block.Block.{Block}
 use Rattle.rpki_resources.specs.declared.family.AddressFamily.TheVariants.{Ipv4, Ipv6}
 use Rattle.rpki_resources.specs.declared.choice.ResourcesChoice.{ResourcesChoice}
-use Rattle.rpki_resources.specs.declared.choice.ResourcesChoice.TheVariants.{Missing, Inherit, Blocks}
 use Rattle.rpki_resources.specs.declared.choice_view.ChoiceView.{ChoiceView}
-use Rattle.rpki_resources.specs.declared.choice_view.ChoiceView.TheVariants.{Blocks as BlocksThere}
 use Rattle.rpki_resources.specs.declared.ip_view.IpResourcesView.{IpResourcesView}
 use Rattle.rpki_resources.specs.declared.resources.IpResources.{IpResources}
 use Rattle.rpki_resources.specs.InPlace.{Octets, Holds}
@@ -70,71 +68,59 @@ ip-count v x h =
       choice-count (inherited_ip Ipv6) (ip_entry Ipv6) v.v6 x.v6 h.1,
     )
 
-module _ (s : List ℕ) (x : IpResourcesView) (h : SpellsIpResources x s) (old : List IpEntry) (before told n : ℕ)
+module _ {s : List ℕ} {x : IpResourcesView} (h : SpellsIpResources x s) {old : List IpEntry} {before : ℕ} (told n : ℕ)
     (first : n ≡ view_count x.v4) (all : told ≡ n + view_count x.v6) where
   pub ip-too-many : length old < told → IsIpFilled s 9 old old before told
   ip-too-many short =
-      let k = ip-kept x s h in
-      let size = ip-count k.0 x k.1 in
+      let (v, k, few) = ip-kept x s h in
+      let size = ip-count v x k in
+      let told_is : told ≡ length (ip_entries v) = omega (arith, size, first, all) in
       inl (
-        k.0,
-        ip-spelled x k.0 s h k.1,
-        inr (
-          refl,
-          record {
-            short = omega (arith, short, size, first, all);
-            array = refl;
-            size =
-                omega (arith, size, first, all);
-          },
-        ),
+        v,
+        ip-spelled x v s h k,
+        inr (refl, record { short = omega (arith, short, told_is); array = refl; size = told_is }),
       )
 
-  pub ip-filled : (mid new : List IpEntry) → told ≤ length old
+  pub ip-filled : {mid new : List IpEntry} → told ≤ length old
       → ((v : ResourcesChoice) → IsChoiceOf v x.v4 → IsFilledAt 0 (family_entries Ipv4 v) old mid)
       → ((v : ResourcesChoice) → IsChoiceOf v x.v6 → IsFilledAt n (family_entries Ipv6 v) mid new)
       → IsIpFilled s 0 old new before told
-  ip-filled mid new room one two =
-      let k = ip-kept x s h in
-      let es = family_entries Ipv4 k.0.v4 in
-      let fs = family_entries Ipv6 k.0.v6 in
-      let four : n ≡ length es = first ∙ sym (choice-count (inherited_ip Ipv4) (ip_entry Ipv4) k.0.v4 x.v4 k.1.0) in
-      let six : told ≡ n + length fs =
-      omega (arith, all, choice-count (inherited_ip Ipv6) (ip_entry Ipv6) k.0.v6 x.v6 k.1.1) in
+  ip-filled {mid} {new} room one two =
+      let (v, k, few) = ip-kept x s h in
+      let four = choice-count (inherited_ip Ipv4) (ip_entry Ipv4) v.v4 x.v4 k.0 in
+      let six = choice-count (inherited_ip Ipv6) (ip_entry Ipv6) v.v6 x.v6 k.1 in
       inl (
-        k.0,
-        ip-spelled x k.0 s h k.1,
-        inl
-            (refl, two-filled es fs old mid new n told four six (one k.0.v4 k.1.0) (two k.0.v6 k.1.1) room),
+        v,
+        ip-spelled x v s h k,
+        inl (
+          refl,
+          two-filled (family_entries Ipv4 v.v4) (family_entries Ipv6 v.v6) old mid new n told (first ∙ sym four)
+              (omega (arith, all, six)) (one v.v4 k.0) (two v.v6 k.1) room,
+        ),
       )
 
-module _ (s : List ℕ) (x : ChoiceView) (h : SpellsAsResources x s) (old : List AsEntry) (before told : ℕ)
+module _ {s : List ℕ} {x : ChoiceView} (h : SpellsAsResources x s) {old : List AsEntry} {before told : ℕ}
     (all : told ≡ view_count x) where
   pub as-too-many : length old < told → IsAsFilled s 9 old old before told
   as-too-many short =
-      let k = as-kept x s h in
-      let size = choice-count inherited_as as_entry k.0 x k.1 in
-      inl (
-        as_of k.0,
-        as-spelled x k.0 s h k.1,
-        inr (refl, record { short = omega (arith, short, size, all); array = refl; size = omega (arith, size, all) }),
-      )
-
-  pub as-filled : (v : ResourcesChoice) (new : List AsEntry) → IsChoiceOf v x → IsFilledAt 0 (as_entries v) old new
-      → IsAsFilled s 0 old new before told
-  as-filled v new k f =
+      let (v, k) = as-kept x s h in
+      let told_is : told ≡ length (as_entries v) = all ∙ sym (choice-count inherited_as as_entry v x k) in
       inl (
         as_of v,
         as-spelled x v s h k,
-        inl
-            (refl, first-filled (as_entries v) old new told (all ∙ sym (choice-count inherited_as as_entry v x k)) f),
+        inr (refl, record { short = omega (arith, short, told_is); array = refl; size = told_is }),
       )
 
+  pub as-filled : {new : List AsEntry} (v : ResourcesChoice) → IsChoiceOf v x → IsFilledAt 0 (as_entries v) old new
+      → IsAsFilled s 0 old new before told
+  as-filled {new} v k f =
+      let told_is : told ≡ length (as_entries v) = all ∙ sym (choice-count inherited_as as_entry v x k) in
+      inl (as_of v, as-spelled x v s h k, inl (refl, first-filled (as_entries v) old new told told_is f))
+
 -- resources that list blocks
-pub blocks-kept : (x : Octets) (v : ResourcesChoice) → IsChoiceOf v (BlocksThere x) → (bs : List Block) × Holds x bs
-blocks-kept x Missing h = absurd h
-blocks-kept x Inherit h = absurd h
-blocks-kept x (Blocks bs) h = (bs, h)
+pub blocks-kept : (x : Octets) (v : ResourcesChoice) → IsChoiceOf v (ChoiceView.Blocks x) → (bs : List Block) × Holds x bs
+blocks-kept x (ResourcesChoice.Blocks bs) h = (bs, h)
+blocks-kept x v h = absurd h
 
 -- ---- resources that octets are
 

@@ -6,8 +6,6 @@ use Rattle.rpki_resources.specs.declared.choice.ResourcesChoice.{ResourcesChoice
 use Rattle.rpki_resources.specs.declared.choice.ResourcesChoice.TheVariants.{Missing, Inherit, Blocks}
 use Rattle.rpki_resources.specs.declared.kind.ResourceKind.TheVariants.{AsNumbers}
 use Rattle.rpki_resources.specs.declared.settlement.SettleError.{SettleError}
-use Rattle.rpki_resources.specs.declared.settlement.SettleError.TheVariants.{Overclaim as Overclaims, Inherits}
-use Rattle.rpki_resources.specs.declared.settlement.SettleError.TheVariants.{OutOfMemory}
 use Rattle.rpki_resources.specs.Blocks.{IsAmong, AreCanonical}
 use Rattle.rpki_resources.specs.Encoded.{AreBlocksOf}
 use Rattle.rpki_cert.specs.declared.extension.policy.Overclaim.{Overclaim}
@@ -16,11 +14,11 @@ use Rattle.rpki_c.specs.Settling.{IsSettledBy, AreFitting}
 
 -- ---- why nothing is settled
 
-pub refused-by : (O : Type 0) (e : SettleError) (n : ℕ) → (e ≡ Overclaims → n ≡ 58) → (e ≢ Overclaims → n ≡ 7)
-    → (e ≡ Overclaims → O) → ((n ≡ 58) × O) ⊎ (n ≡ 7)
-refused-by O Overclaims n h k o = inl (h refl, o refl)
-refused-by O Inherits n h k o = inr (k (λ is. cc))
-refused-by O OutOfMemory n h k o = inr (k (λ is. cc))
+pub refused-by : (O : Type 0) (e : SettleError) (n : ℕ) → (e ≡ SettleError.Overclaim → n ≡ 58)
+    → (e ≢ SettleError.Overclaim → n ≡ 7) → (e ≡ SettleError.Overclaim → O) → ((n ≡ 58) × O) ⊎ (n ≡ 7)
+refused-by O SettleError.Overclaim n h k o = inl (h refl, o refl)
+refused-by O SettleError.Inherits n h k o = inr (k (λ is. cc))
+refused-by O SettleError.OutOfMemory n h k o = inr (k (λ is. cc))
 
 -- ---- numbers of autonomous systems
 

@@ -1,14 +1,18 @@
 //! The resources that a certificate has under those of its issuer.
 
-ghost use Rattle.std.specs.Prelude.{◌≡◌};
-ghost use Rattle.rpki_c.specs.CertificateResources.{claimed_addresses, claimed_numbers, IsIpSettled, IsAsSettled};
+ghost use Rattle.std.specs.Prelude.{◌≡◌, IfOk, IfErr};
+ghost use Rattle.rpki_cert.specs.Cert.{CertParts};
+ghost use Rattle.rpki_cert.specs.View.{IsCertAt};
+ghost use Rattle.rpki_c.specs.CertificateResources.{claimed_addresses, claimed_numbers, HasPolicy, HasNoPolicy};
+ghost use Rattle.rpki_c.specs.CertificateResources.{IsIpSettled, IsAsSettled};
 
 use crate::as_blocks::AsEntry;
 use crate::held::{are_as_untold, are_untold};
 use crate::ip_blocks::IpEntry;
-use crate::known_cert::known_cert;
+use crate::known_cert::{KnownCert, known_cert};
 use crate::settling::{settle_addresses, settle_numbers};
 use crate::status::{NO_ANSWER, NO_POLICIES, WRONG_RESOURCES};
+use rpki_cert::Overclaim;
 use rpki_resources::{ChoiceView, IpResourcesView};
 use std::alloc::Global;
 
@@ -32,6 +36,23 @@ fn claimed_numbers<'a>(found: Option<ChoiceView<'a>>) -> ChoiceView<'a>
     match found {
         Some(claim) => claim,
         None => ChoiceView::Missing,
+    }
+}
+
+/// The certificate that the octets are, and its policy.
+///
+/// The error is the status of a certificate that isn't read, or else the rule that a certificate has policies.
+fn read_policy(octets: &[u8]) -> Result<(KnownCert<'_>, Overclaim), u8>
+    ensures ok { IfOk result (λ read. (x : CertParts) × IsCertAt octets.now read.0.cert x × HasPolicy octets.now x read.1) }
+    ensures err { IfErr result (λ status. HasNoPolicy octets.now status) }
+{
+    let found = match known_cert(octets) {
+        Ok(found) => found,
+        Err(status) => return Err(status),
+    };
+    match found.known.overclaim {
+        Some(policy) => Ok((found, policy)),
+        None => Err(NO_POLICIES),
     }
 }
 
@@ -60,18 +81,14 @@ pub extern "C" fn rpki_ip_settle(
     if are_untold(issuer) {
         return NO_ANSWER;
     }
-    let found = match known_cert(octets) {
-        Ok(found) => found,
+    let read = match read_policy(octets) {
+        Ok(read) => read,
         Err(status) => return status,
     };
-    let policy = match found.known.overclaim {
-        Some(policy) => policy,
-        None => return NO_POLICIES,
-    };
-    match found.cert.tbs.named.keyed.ip_resources() {
+    match read.0.cert.tbs.named.keyed.ip_resources() {
         Ok(said) => settle_addresses(
             alloc,
-            policy,
+            read.1,
             &claimed_addresses(said),
             issuer,
             entries,
@@ -95,18 +112,14 @@ pub extern "C" fn rpki_as_settle(
     if are_as_untold(issuer) {
         return NO_ANSWER;
     }
-    let found = match known_cert(octets) {
-        Ok(found) => found,
+    let read = match read_policy(octets) {
+        Ok(read) => read,
         Err(status) => return status,
     };
-    let policy = match found.known.overclaim {
-        Some(policy) => policy,
-        None => return NO_POLICIES,
-    };
-    match found.cert.tbs.named.keyed.as_resources() {
+    match read.0.cert.tbs.named.keyed.as_resources() {
         Ok(said) => settle_numbers(
             alloc,
-            policy,
+            read.1,
             &claimed_numbers(said),
             issuer,
             entries,
