@@ -11,16 +11,16 @@ use Rattle.rpki_c.specs.HttpsPlaces.{AreHttpsParts, AreHttpsLaidOut, with_https_
 use Rattle.rpki_c.proofs.RsyncPlacesLaws.{place-length}
 
 -- the path of the parts begins where the path of the text does
-pub https-cut : (t : List ℕ) (p : HttpsParts) → AreHttpsLaidOut (length t) p → AreHttpsParts t p
+pub https-cut : {t : List ℕ} {p : HttpsParts} → AreHttpsLaidOut (length t) p → AreHttpsParts t p
     → IsHttpsCut t p.path.start
-https-cut t p h a =
-    let size = place-length t p.authority (https_authority t) a.parts.authority in
+https-cut {t} {p} h a =
+    let size = place-length a.parts.authority in
     record { passes = a.passes; path_starts = omega (arith, size, h.path) }
 
 -- a text that is cut at the same place has parts at the same places
-pub https-end-parts : (t : List ℕ) (p : HttpsParts) (size : ℕ) → AreHttpsLaidOut size p → IsHttpsCut t p.path.start
+pub https-end-parts : {t : List ℕ} {p : HttpsParts} {size : ℕ} → AreHttpsLaidOut size p → IsHttpsCut t p.path.start
     → AreHttpsParts t (with_https_end p (length t))
-https-end-parts t p size h c =
+https-end-parts {t} {p} h c =
     let authority = https_authority-at t _ c in
     let path = https_path-at t _ c in
     record {
@@ -41,9 +41,9 @@ https-end-parts t p size h c =
     }
 
 -- the canonical form, by the place where the path begins
-pub https-lower-canonical : (t : List ℕ) (n : ℕ) → IsHttpsCut t n
+pub https-lower-canonical : {t : List ℕ} {n : ℕ} → IsHttpsCut t n
     → lowercase (take n t) ++ drop n t ≡ https_canonical_of t
-https-lower-canonical t n c =
+https-lower-canonical {t} {n} c =
     let h = https-halves t n c in
     let front : lowercase (take n t) ≡ codes "https://" ++ lowercase (https_authority t) =
     ap lowercase h.front ∙ map-append to_ascii_lowercase (take 8 t) (https_authority t)

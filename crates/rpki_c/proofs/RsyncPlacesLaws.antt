@@ -15,18 +15,18 @@ use Rattle.rpki_c.specs.Place.{IsPlace}
 use Rattle.rpki_c.specs.RsyncPlaces.{AreParts, AreLaidOut, with_end, canonical_of}
 
 -- a part has as many octets as its place says
-pub place-length : (s : List ℕ) (p : Place) (part : List ℕ) → IsPlace s p part → p.length ≡ length part
-place-length s p part h =
+pub place-length : {s : List ℕ} {p : Place} {part : List ℕ} → IsPlace s p part → p.length ≡ length part
+place-length {s} {p} h =
     let inside : p.length ≤ length (drop p.start s) = omega (arith, h.within, length-drop p.start s) in
     sym (length-take-le p.length (drop p.start s) inside) ∙ ap length h.octets
 
 -- the places of the parts are those where the text is cut
-pub parts-cut : (t : List ℕ) (p : RsyncParts) → AreParts t p → IsCut t p.module_name.start p.path.start
-parts-cut t p a =
+pub parts-cut : {t : List ℕ} {p : RsyncParts} → AreParts t p → IsCut t p.module_name.start p.path.start
+parts-cut {t} {p} a =
     let c = cut-of t a.form in
     let facts = cut-facts t _ _ c in
     let first = module_name-first t _ _ c in
-    let size = place-length t p.path (path_of t) a.parts.path in
+    let size = place-length a.parts.path in
     let path = ap length facts.path_is ∙ length-drop _ t in
     let n : ℕ = module_start t + position_or_len is_slash (drop (module_start t) t) + 1 in
     let last : n ≡ p.path.start = omega (arith, size, path, facts.fits, a.parts.path_last) in
@@ -34,9 +34,9 @@ parts-cut t p a =
     (subst (λ (k : ℕ). IsCut t (module_start t) k) last c)
 
 -- a text that is cut at the same places has parts at the same places
-pub end-parts : (t : List ℕ) (p : RsyncParts) (size : ℕ) → AreLaidOut size p → IsCut t p.module_name.start p.path.start
+pub end-parts : {t : List ℕ} {p : RsyncParts} {size : ℕ} → AreLaidOut size p → IsCut t p.module_name.start p.path.start
     → AreParts t (with_end p (length t))
-end-parts t p size h c =
+end-parts {t} {p} h c =
     let authority = authority-at t _ _ c in
     let module_name = module_name-at t _ _ c in
     let path = path-at t _ _ c in
@@ -67,8 +67,8 @@ regroup : (l m s p : List ℕ) → l ++ ((m ++ s) ++ p) ≡ ((l ++ m) ++ s) ++ p
 regroup l m s p = simp append_assoc
 
 -- the canonical form, by the place where the module's name begins
-pub lower-canonical : (t : List ℕ) (m p : ℕ) → IsCut t m p → lowercase (take m t) ++ drop m t ≡ canonical_of t
-lower-canonical t m p c =
+pub lower-canonical : {t : List ℕ} {m p : ℕ} → IsCut t m p → lowercase (take m t) ++ drop m t ≡ canonical_of t
+lower-canonical {t} {m} {p} c =
     let h = halves t m p c in
     ap (λ r. lowercase (take m t) ++ r) h.back
     ∙ regroup (lowercase (take m t)) (module_name_of t) (codes "/") (path_of t)

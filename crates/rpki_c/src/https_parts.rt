@@ -37,7 +37,10 @@ fn cut<'a>(text: &'a [u8], parts: &HttpsParts) -> Option<HttpsCut<'a>>
     if !are_laid_out(text.len(), parts) {
         return None;
     }
-    HttpsCut::at(text, parts.path.start)
+    match HttpsCut::at(text, parts.path.start) {
+        Some(cut) => Some(cut),
+        None => None,
+    }
 }
 
 /// Tells whether both are the same URI: the same parts, the authority in any case.

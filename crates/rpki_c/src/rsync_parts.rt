@@ -40,7 +40,10 @@ fn cut<'a>(text: &'a [u8], parts: &RsyncParts) -> Option<RsyncCut<'a>>
     if !are_laid_out(text.len(), parts) {
         return None;
     }
-    RsyncCut::at(text, parts.module_name.start, parts.path.start)
+    match RsyncCut::at(text, parts.module_name.start, parts.path.start) {
+        Some(cut) => Some(cut),
+        None => None,
+    }
 }
 
 /// Says where in the text of `uri` the path is that leads from `base` to it.

@@ -4,6 +4,5 @@ use Rattle.rpki_c.proofs.https_parts.rpki_https_parts_canonical.Goals as goal
 
 pub returns : goal.returns
 returns c =
-    let t = c.args.text.now in
     let laid = c.if-not-are_laid_out.ensures.0 refl in
-    inr (laid, λ a. rw (https-lower-canonical t _ (https-cut t c.args.parts.now laid a)) at c.store_lower.ensures)
+    inr (laid, λ a. rw (https-lower-canonical (https-cut laid a)) at c.store_lower.ensures)

@@ -6,14 +6,10 @@ use Rattle.rpki_c.proofs.https_parts.rpki_https_parts_into_dir.Goals as goal
 
 pub returns : goal.returns
 returns c =
-    let t = c.args.text.now in
-    let p = c.args.parts.now in
     let laid = c.in-Some.ensures.laid_out in
     inr (
       laid,
       λ a.
-          let text = c.as_dir.ensures (c.in-Some.ensures.own a) ∙ ap https_into_dir c.in-Some.ensures.text in (
-            rw text at c.store_joined.ensures,
-            https-end-parts (https_into_dir t) p _ laid (https_dir-cut t _ (https-cut t p laid a)),
-          ),
+          let text = c.as_dir.ensures (c.in-Some.ensures.own a) ∙ ap https_into_dir c.in-Some.ensures.text in
+          (rw text at c.store_joined.ensures, https-end-parts laid (https_dir-cut c.args.text.now _ (https-cut laid a))),
     )

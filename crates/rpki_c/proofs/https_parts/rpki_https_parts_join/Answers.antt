@@ -1,5 +1,4 @@
 use Rattle.std.proofs.Common.{◌≡◌, ◌≢◌, Some, inl, inr, refl, sym, ap, ◌∙◌}
-use Rattle.rpki_text.specs.declared.uri.error.Error.TheVariants.{InvalidCharacters, OutOfMemory}
 use Rattle.rpki_text.specs.declared.uri.error.Error.{Error}
 use Rattle.rpki_text.specs.HttpsText.{https_joined}
 use Rattle.rpki_text.proofs.HttpsPartLaws.{https_joined-cut, https-join-ok, https-join-refuses}
@@ -8,8 +7,6 @@ use Rattle.rpki_c.proofs.https_parts.rpki_https_parts_join.Goals as goal
 
 pub returns-in-Ok : goal.returns-in-Ok
 returns-in-Ok c =
-    let t = c.args.base.now in
-    let p = c.args.parts.now in
     let path = c.args.path.now in
     let laid = c.in-Some.ensures.laid_out in
     inr (
@@ -20,12 +17,11 @@ returns-in-Ok c =
           inl (
             https-join-ok path c.in-Ok.ensures.ok,
             rw text at c.store_joined.ensures,
-            https-end-parts (https_joined t path) p _ laid
-                (https_joined-cut t _ (https-cut t p laid a) path c.in-Ok.ensures.ok),
+            https-end-parts laid (https_joined-cut c.args.base.now _ (https-cut laid a) path c.in-Ok.ensures.ok),
           ),
     )
 
-other : (e : Error) → e ≡ InvalidCharacters → e ≢ OutOfMemory
+other : (e : Error) → e ≡ Error.InvalidCharacters → e ≢ Error.OutOfMemory
 other e h = rw h (λ k. cc)
 
 pub returns-in-Err : goal.returns-in-Err

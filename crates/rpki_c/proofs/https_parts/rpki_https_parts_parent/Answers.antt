@@ -1,6 +1,5 @@
-use Rattle.std.proofs.Common.{◌≡◌, ◌≤◌, List, ℕ, None, length, take, refl, inl, inr, subst}
+use Rattle.std.proofs.Common.{ℕ, take, refl, inl, inr, subst}
 use Rattle.std.proofs.lemmas.List.{length-take-le}
-use Rattle.rpki_text.specs.HttpsText.{https_parent_of, IsHttpsParentEnd}
 use Rattle.rpki_text.proofs.HttpsParentEndLaws.{https_end-cut, https_end-text}
 use Rattle.rpki_c.specs.HttpsPlaces.{AreHttpsParts, with_https_end}
 use Rattle.rpki_c.proofs.HttpsPlacesLaws.{https-cut, https-end-parts}
@@ -11,29 +10,27 @@ returns-in_default-parent_len c =
     inr (
       c.in-Some.ensures.laid_out,
       λ a.
-          let none = subst (λ (x : List ℕ). https_parent_of x ≡ None) c.in-Some.ensures.text
-          (c.in_default-parent_len.ensures.none (c.in-Some.ensures.own a)) in
-          inr (refl, none, refl),
+          let none = c.in_default-parent_len.ensures.none (c.in-Some.ensures.own a) in
+          inr (refl, rw c.in-Some.ensures.text at none, refl),
     )
 
 pub returns : goal.returns
 returns c =
     let t = c.args.text.now in
-    let p = c.args.parts.now in
     let n = c.in-Some-parent_len.len in
     let laid = c.in-Some.ensures.laid_out in
-    let fits = subst (λ (x : List ℕ). n ≤ length x) c.in-Some.ensures.text c.in-Some-parent_len.ensures.within in
+    let fits = rw c.in-Some.ensures.text at c.in-Some-parent_len.ensures.within in
     inr (
       laid,
       λ a.
-          let cut = https-cut t p laid a in
-          let ends = subst (λ (x : List ℕ). IsHttpsParentEnd x n) c.in-Some.ensures.text
-          (c.in-Some-parent_len.ensures.end (c.in-Some.ensures.own a)) in
-          let parts = https-end-parts (take n t) p _ laid (https_end-cut t _ n cut ends) in
+          let cut = https-cut laid a in
+          let last = c.in-Some-parent_len.ensures.end (c.in-Some.ensures.own a) in
+          let ends = rw c.in-Some.ensures.text at last in
+          let parts = https-end-parts laid (https_end-cut t _ n cut ends) in
           inl (
             refl,
             fits,
             https_end-text t _ n cut ends,
-            subst (λ (k : ℕ). AreHttpsParts (take n t) (with_https_end p k)) (length-take-le n t fits) parts,
+            subst (λ (k : ℕ). AreHttpsParts (take n t) (with_https_end c.args.parts.now k)) (length-take-le n t fits) parts,
           ),
     )

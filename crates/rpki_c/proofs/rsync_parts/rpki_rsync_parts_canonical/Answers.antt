@@ -4,8 +4,5 @@ use Rattle.rpki_c.proofs.rsync_parts.rpki_rsync_parts_canonical.Goals as goal
 
 pub returns : goal.returns
 returns c =
-    let t = c.args.text.now in
-    inr (
-      c.if-not-are_laid_out.ensures.0 refl,
-      λ a. rw (lower-canonical t _ _ (parts-cut t c.args.parts.now a)) at c.store_lower.ensures,
-    )
+    let laid = c.if-not-are_laid_out.ensures.0 refl in
+    inr (laid, λ a. rw (lower-canonical (parts-cut a)) at c.store_lower.ensures)

@@ -6,14 +6,10 @@ use Rattle.rpki_c.proofs.rsync_parts.rpki_rsync_parts_into_dir.Goals as goal
 
 pub returns : goal.returns
 returns c =
-    let t = c.args.text.now in
-    let p = c.args.parts.now in
     let laid = c.in-Some.ensures.laid_out in
     inr (
       laid,
       λ a.
-          let text = c.as_dir.ensures (c.in-Some.ensures.own a) ∙ ap with_slash c.in-Some.ensures.text in (
-            rw text at c.store_joined.ensures,
-            end-parts (with_slash t) p _ laid (cut-dir t _ _ (parts-cut t p a)),
-          ),
+          let text = c.as_dir.ensures (c.in-Some.ensures.own a) ∙ ap with_slash c.in-Some.ensures.text in
+          (rw text at c.store_joined.ensures, end-parts laid (cut-dir c.args.text.now _ _ (parts-cut a))),
     )

@@ -1,6 +1,4 @@
-use Rattle.std.proofs.Common.{List, ℕ, refl, inl, inr, ◌∙◌, subst}
-use Rattle.rpki_text.specs.Places.{IsRelativeAt}
-use Rattle.rpki_text.specs.Cuts.{cut_text}
+use Rattle.std.proofs.Common.{refl, inl, inr, ◌∙◌}
 use Rattle.rpki_c.proofs.rsync_parts.rpki_rsync_parts_relative_to.Goals as goal
 
 pub of_range-requires : goal.of_range-requires
@@ -8,14 +6,12 @@ of_range-requires c = c.in-Some-relative_range.ensures.within.0
 
 pub returns : goal.returns
 returns c =
-    let range = c.in-Some-relative_range.range in
     inr (
       c.in-Some.ensures.laid_out,
       c.in-Some-cut.ensures.laid_out,
       λ a b.
-          let some = subst (λ (y : List ℕ). IsRelativeAt c.args.uri.now y range) c.in-Some-cut.ensures.text
-          (subst (λ (x : List ℕ). IsRelativeAt x (cut_text c.in-Some-cut.origin) range) c.in-Some.ensures.text
-          (c.in-Some-relative_range.ensures.some (c.in-Some.ensures.own a) (c.in-Some-cut.ensures.own b))) in
+          let found = c.in-Some-relative_range.ensures.some (c.in-Some.ensures.own a) (c.in-Some-cut.ensures.own b) in
+          let some = rw (c.in-Some.ensures.text, c.in-Some-cut.ensures.text) at found in
           inl (
             refl,
             record {
