@@ -1,11 +1,8 @@
 -- What a status says of texts in base 64 (RFC 4648 4 and 5).
-use Rattle.std.specs.Prelude.{◌≡◌, ◌⊎◌, ◌<◌, ℕ, zero, suc, Bool, true, false, List, length}
+use Rattle.std.specs.Prelude.{◌≡◌, ◌⊎◌, ◌<◌, ℕ, zero, suc, Bool, true, false, List, length, Ok, Err}
 use Rattle.std.specs.Str.{is_utf8}
 use Rattle.std.specs.declared.result.Result.{Result}
-use Rattle.std.specs.declared.result.Result.TheVariants.{Ok, Err}
 use Rattle.base64.specs.declared.decode.DecodeError.{DecodeError}
-use Rattle.base64.specs.declared.decode.DecodeError.TheVariants.{InvalidByte, InvalidLength, InvalidLastSymbol}
-use Rattle.base64.specs.declared.decode.DecodeError.TheVariants.{InvalidPadding}
 use Rattle.base64.specs.Engines.{standard, url_safe_no_pad_indifferent}
 use Rattle.base64.specs.GeneralPurpose.{encode_of, decode_of}
 use Rattle.rpki_text.specs.Base64Text.{xml_bytes_decode_of}
@@ -26,17 +23,17 @@ decoded_of (suc (suc n)) text = decode_of url_safe_no_pad_indifferent text
 
 -- how an error is passed
 abbrev pub base64_number : DecodeError → ℕ
-base64_number (InvalidByte at octet) = 40
-base64_number (InvalidLength at) = 41
-base64_number (InvalidLastSymbol at octet value) = 42
-base64_number InvalidPadding = 43
+base64_number (DecodeError.InvalidByte at octet) = 40
+base64_number (DecodeError.InvalidLength at) = 41
+base64_number (DecodeError.InvalidLastSymbol at octet value) = 42
+base64_number DecodeError.InvalidPadding = 43
 
 -- where it is, in a text of this length
 abbrev pub base64_place : DecodeError → ℕ → ℕ
-base64_place (InvalidByte at octet) size = at
-base64_place (InvalidLength at) size = at
-base64_place (InvalidLastSymbol at octet value) size = at
-base64_place InvalidPadding size = size
+base64_place (DecodeError.InvalidByte at octet) size = at
+base64_place (DecodeError.InvalidLength at) size = at
+base64_place (DecodeError.InvalidLastSymbol at octet value) size = at
+base64_place DecodeError.InvalidPadding size = size
 
 -- What is told of a text of this size: the octets are stored; or the text is not base 64, the status and `at` say why
 -- and where, and nothing was written.

@@ -2,7 +2,6 @@
 use Rattle.std.specs.Prelude.{◌≡◌, ◌⊎◌, ℕ, true, false, List, take, codes}
 use Rattle.std.specs.Int.{w32, w128, from_be_bytes}
 use Rattle.rpki_resources.specs.declared.family.AddressFamily.{AddressFamily}
-use Rattle.rpki_resources.specs.declared.family.AddressFamily.TheVariants.{Ipv4, Ipv6}
 use Rattle.rpki_resources.specs.declared.block.Block.{Block}
 use Rattle.rpki_resources.specs.declared.ip_text.IpBlock.{IpBlock}
 use Rattle.rpki_resources.specs.declared.as_text.AsBlock.{AsBlock}
@@ -16,8 +15,8 @@ use Rattle.rpki_c.specs.Resources.{family_number}
 
 -- the number of an address: that of the first four octets, or of all
 abbrev pub address_number : AddressFamily → List ℕ → ℕ
-address_number Ipv4 octets = from_be_bytes w32 (take 4 octets)
-address_number Ipv6 octets = from_be_bytes w128 octets
+address_number AddressFamily.Ipv4 octets = from_be_bytes w32 (take 4 octets)
+address_number AddressFamily.Ipv6 octets = from_be_bytes w128 octets
 
 -- the numbers of an entry
 abbrev pub numbers_of : AddressFamily → IpEntry → Block

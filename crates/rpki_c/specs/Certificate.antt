@@ -4,11 +4,6 @@ use Rattle.rpki_der.specs.Error.{error_number}
 use Rattle.rpki_der.specs.Number.{number_of}
 use Rattle.rpki_cert.specs.declared.read.cert_error.CertError.{CertError}
 use Rattle.rpki_cert.specs.declared.read.cert_part.CertPart.{CertPart}
-use Rattle.rpki_cert.specs.declared.read.cert_part.CertPart.TheVariants.{Certificate, Signed, Algorithm, Signature, Tbs}
-use Rattle.rpki_cert.specs.declared.read.cert_part.CertPart.TheVariants.{Version, SerialNumber, TbsAlgorithm, Issuer}
-use Rattle.rpki_cert.specs.declared.read.cert_part.CertPart.TheVariants.{Validity, Subject, PublicKey, Extensions}
-use Rattle.rpki_cert.specs.declared.read.cert_part.CertPart.TheVariants.{ExtensionCount, ExtensionIdentifiers}
-use Rattle.rpki_cert.specs.declared.read.cert_part.CertPart.TheVariants.{SameAlgorithm}
 use Rattle.rpki_cert.specs.Cert.{TbsParts, CertParts, SpellsCert}
 use Rattle.rpki_cert.specs.View.{AreNamed, IsCertError, IsCertWrong}
 use Rattle.rpki_c.specs.declared.certificate.CertificateParts.{CertificateParts as Parts}
@@ -18,22 +13,22 @@ use Rattle.rpki_c.specs.Whole.{IsRead}
 
 -- the status of octets of which this part is wrong
 abbrev pub part_number : CertPart → ℕ
-part_number Certificate = 64
-part_number Signed = 65
-part_number Algorithm = 66
-part_number Signature = 67
-part_number Tbs = 68
-part_number Version = 69
-part_number SerialNumber = 70
-part_number TbsAlgorithm = 71
-part_number Issuer = 72
-part_number Validity = 73
-part_number Subject = 74
-part_number PublicKey = 75
-part_number Extensions = 76
-part_number ExtensionCount = 77
-part_number ExtensionIdentifiers = 78
-part_number SameAlgorithm = 79
+part_number CertPart.Certificate = 64
+part_number CertPart.Signed = 65
+part_number CertPart.Algorithm = 66
+part_number CertPart.Signature = 67
+part_number CertPart.Tbs = 68
+part_number CertPart.Version = 69
+part_number CertPart.SerialNumber = 70
+part_number CertPart.TbsAlgorithm = 71
+part_number CertPart.Issuer = 72
+part_number CertPart.Validity = 73
+part_number CertPart.Subject = 74
+part_number CertPart.PublicKey = 75
+part_number CertPart.Extensions = 76
+part_number CertPart.ExtensionCount = 77
+part_number CertPart.ExtensionIdentifiers = 78
+part_number CertPart.SameAlgorithm = 79
 
 -- the names, the key, and the extensions, in sequence; h says which octets are which
 pub record HasNamed (t : TbsParts) (d : List ℕ) (h : AreNamed t d) (p : Parts) : Type 0 where

@@ -3,9 +3,7 @@ use Rattle.std.specs.Prelude.{◌≡◌, ◌⊎◌, ℕ, true, false, List, [], 
 use Rattle.rpki.specs.ExtensionValue.{ExtensionParts}
 use Rattle.rpki_cert.specs.declared.extension.known_view.KnownView.{KnownView}
 use Rattle.rpki_cert.specs.declared.extension.key_usage.KeyUsage.{KeyUsage as Usage}
-use Rattle.rpki_cert.specs.declared.extension.key_usage.KeyUsage.TheVariants.{Ca, Ee}
 use Rattle.rpki_cert.specs.declared.extension.policy.Overclaim.{Overclaim}
-use Rattle.rpki_cert.specs.declared.extension.policy.Overclaim.TheVariants.{Refuse, Trim}
 use Rattle.rpki_cert.specs.Cert.{CertParts, SpellsCert, find}
 use Rattle.rpki_cert.specs.Known.{subject_key_identifier, key_usage, basic_constraints, crl_distribution_points}
 use Rattle.rpki_cert.specs.Known.{certificate_policies, extended_key_usage}
@@ -21,14 +19,14 @@ pub use Rattle.rpki_c.specs.KnownCert.{known_number}
 -- how the use of a key is passed, and that there is none
 abbrev pub usage_number : Option Usage → ℕ
 usage_number None = 0
-usage_number (Some Ca) = 1
-usage_number (Some Ee) = 2
+usage_number (Some Usage.Ca) = 1
+usage_number (Some Usage.Ee) = 2
 
 -- how a policy is passed, and that there is none
 abbrev pub policy_number : Option Overclaim → ℕ
 policy_number None = 0
-policy_number (Some Refuse) = 1
-policy_number (Some Trim) = 2
+policy_number (Some Overclaim.Refuse) = 1
+policy_number (Some Overclaim.Trim) = 2
 
 -- the octets of a key identifier, where there is one; else twenty zeros
 abbrev pub IsIdentifierOf : Option (List ℕ) → List ℕ → Type 0

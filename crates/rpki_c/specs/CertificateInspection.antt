@@ -2,27 +2,7 @@
 use Rattle.std.specs.Prelude.{◌≡◌, ◌⊎◌, ◌<◌, ℕ, Bool, List}
 use Rattle.rpki_cert.specs.declared.read.cert_part.CertPart.{CertPart}
 use Rattle.rpki_cert.specs.declared.profile.rule.CertRule.{CertRule}
-use Rattle.rpki_cert.specs.declared.profile.rule.CertRule.TheVariants.{SerialNumber, CriticalExtensions, Issuer}
-use Rattle.rpki_cert.specs.declared.profile.rule.CertRule.TheVariants.{IssuerSize, SubjectSize, RouterSerialNumber}
-use Rattle.rpki_cert.specs.declared.profile.rule.CertRule.TheVariants.{Validity}
-use Rattle.rpki_cert.specs.declared.profile.rule.CertRule.TheVariants.{Subject, RouterSubject, RsaKey, RouterKey}
-use Rattle.rpki_cert.specs.declared.profile.rule.CertRule.TheVariants.{BasicConstraints, NoBasicConstraints}
-use Rattle.rpki_cert.specs.declared.profile.rule.CertRule.TheVariants.{SubjectKeyIdentifier, AuthorityKeyIdentifier}
-use Rattle.rpki_cert.specs.declared.profile.rule.CertRule.TheVariants.{OwnAuthority, SelfIssued, AuthorityUsage}
-use Rattle.rpki_cert.specs.declared.profile.rule.CertRule.TheVariants.{EndUsage}
-use Rattle.rpki_cert.specs.declared.profile.rule.CertRule.TheVariants.{NoExtendedKeyUsage, RouterPurpose}
-use Rattle.rpki_cert.specs.declared.profile.rule.CertRule.TheVariants.{RevocationList}
-use Rattle.rpki_cert.specs.declared.profile.rule.CertRule.TheVariants.{NoRevocationList, IssuerCertificate}
-use Rattle.rpki_cert.specs.declared.profile.rule.CertRule.TheVariants.{NoIssuerCertificate}
-use Rattle.rpki_cert.specs.declared.profile.rule.CertRule.TheVariants.{Repository, Manifest, ManifestPlace}
-use Rattle.rpki_cert.specs.declared.profile.rule.CertRule.TheVariants.{Notifications}
-use Rattle.rpki_cert.specs.declared.profile.rule.CertRule.TheVariants.{SignedObject, NoSubjectAccess}
-use Rattle.rpki_cert.specs.declared.profile.rule.CertRule.TheVariants.{CertificatePolicies}
-use Rattle.rpki_cert.specs.declared.profile.rule.CertRule.TheVariants.{Resources, ResourceVersion, RouterNumbers}
-use Rattle.rpki_cert.specs.declared.profile.rule.CertRule.TheVariants.{ObjectAccess}
-use Rattle.rpki_cert.specs.declared.profile.rule.CertRule.TheVariants.{ResourceBlocks, OwnResources}
 use Rattle.rpki_cert.specs.declared.profile.Profile.{Profile}
-use Rattle.rpki_cert.specs.declared.profile.Profile.TheVariants.{Ta, Ca, Ee, Router, DetachedEe}
 use Rattle.rpki_cert.specs.Cert.{CertParts, SpellsCert}
 use Rattle.rpki_cert.specs.Profile.{rules_of, HasProfile}
 use Rattle.rpki_cert.specs.Rule.{IsFirstBroken}
@@ -32,52 +12,52 @@ use Rattle.rpki_c.specs.Status.{no_profile}
 
 -- the status of a certificate that breaks this rule
 abbrev pub cert_rule_number : CertRule → ℕ
-cert_rule_number SerialNumber = 85
-cert_rule_number CriticalExtensions = 86
-cert_rule_number Issuer = 87
-cert_rule_number Subject = 88
-cert_rule_number RouterSubject = 89
-cert_rule_number RsaKey = 90
-cert_rule_number RouterKey = 91
-cert_rule_number BasicConstraints = 92
-cert_rule_number NoBasicConstraints = 93
-cert_rule_number SubjectKeyIdentifier = 94
-cert_rule_number AuthorityKeyIdentifier = 95
-cert_rule_number AuthorityUsage = 96
-cert_rule_number EndUsage = 97
-cert_rule_number NoExtendedKeyUsage = 98
-cert_rule_number RouterPurpose = 99
-cert_rule_number RevocationList = 100
-cert_rule_number NoRevocationList = 101
-cert_rule_number IssuerCertificate = 102
-cert_rule_number NoIssuerCertificate = 103
-cert_rule_number Repository = 104
-cert_rule_number Manifest = 105
-cert_rule_number SignedObject = 106
-cert_rule_number NoSubjectAccess = 107
-cert_rule_number CertificatePolicies = 108
-cert_rule_number Resources = 109
-cert_rule_number RouterNumbers = 110
-cert_rule_number ObjectAccess = 111
-cert_rule_number Validity = 112
-cert_rule_number OwnAuthority = 113
-cert_rule_number SelfIssued = 114
-cert_rule_number ResourceVersion = 115
-cert_rule_number ResourceBlocks = 116
-cert_rule_number OwnResources = 117
-cert_rule_number ManifestPlace = 118
-cert_rule_number Notifications = 119
-cert_rule_number IssuerSize = 156
-cert_rule_number SubjectSize = 157
-cert_rule_number RouterSerialNumber = 158
+cert_rule_number CertRule.SerialNumber = 85
+cert_rule_number CertRule.CriticalExtensions = 86
+cert_rule_number CertRule.Issuer = 87
+cert_rule_number CertRule.Subject = 88
+cert_rule_number CertRule.RouterSubject = 89
+cert_rule_number CertRule.RsaKey = 90
+cert_rule_number CertRule.RouterKey = 91
+cert_rule_number CertRule.BasicConstraints = 92
+cert_rule_number CertRule.NoBasicConstraints = 93
+cert_rule_number CertRule.SubjectKeyIdentifier = 94
+cert_rule_number CertRule.AuthorityKeyIdentifier = 95
+cert_rule_number CertRule.AuthorityUsage = 96
+cert_rule_number CertRule.EndUsage = 97
+cert_rule_number CertRule.NoExtendedKeyUsage = 98
+cert_rule_number CertRule.RouterPurpose = 99
+cert_rule_number CertRule.RevocationList = 100
+cert_rule_number CertRule.NoRevocationList = 101
+cert_rule_number CertRule.IssuerCertificate = 102
+cert_rule_number CertRule.NoIssuerCertificate = 103
+cert_rule_number CertRule.Repository = 104
+cert_rule_number CertRule.Manifest = 105
+cert_rule_number CertRule.SignedObject = 106
+cert_rule_number CertRule.NoSubjectAccess = 107
+cert_rule_number CertRule.CertificatePolicies = 108
+cert_rule_number CertRule.Resources = 109
+cert_rule_number CertRule.RouterNumbers = 110
+cert_rule_number CertRule.ObjectAccess = 111
+cert_rule_number CertRule.Validity = 112
+cert_rule_number CertRule.OwnAuthority = 113
+cert_rule_number CertRule.SelfIssued = 114
+cert_rule_number CertRule.ResourceVersion = 115
+cert_rule_number CertRule.ResourceBlocks = 116
+cert_rule_number CertRule.OwnResources = 117
+cert_rule_number CertRule.ManifestPlace = 118
+cert_rule_number CertRule.Notifications = 119
+cert_rule_number CertRule.IssuerSize = 156
+cert_rule_number CertRule.SubjectSize = 157
+cert_rule_number CertRule.RouterSerialNumber = 158
 
 -- how a profile is passed
 abbrev pub profile_number : Profile → ℕ
-profile_number Ta = 0
-profile_number Ca = 1
-profile_number Ee = 2
-profile_number Router = 3
-profile_number DetachedEe = 4
+profile_number Profile.Ta = 0
+profile_number Profile.Ca = 1
+profile_number Profile.Ee = 2
+profile_number Profile.Router = 3
+profile_number Profile.DetachedEe = 4
 
 -- the octets are a certificate of the profile
 pub record IsOfProfile (s : List ℕ) (profile : Profile) (strict : Bool) : Type 0 where

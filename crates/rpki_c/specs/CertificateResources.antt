@@ -2,7 +2,6 @@
 use Rattle.std.specs.Prelude.{◌≡◌, ◌⊎◌, ℕ, true, List, Option, Some, None}
 use Rattle.rpki_resources.specs.declared.choice.ResourcesChoice.{ResourcesChoice}
 use Rattle.rpki_resources.specs.declared.choice_view.ChoiceView.{ChoiceView}
-use Rattle.rpki_resources.specs.declared.choice_view.ChoiceView.TheVariants.{Missing}
 use Rattle.rpki_resources.specs.declared.ip_view.IpResourcesView.{IpResourcesView}
 use Rattle.rpki_resources.specs.declared.resources.IpResources.{IpResources}
 use Rattle.rpki_resources.specs.Extension.{SpellsIpResources, SpellsAsResources}
@@ -24,11 +23,11 @@ use Rattle.rpki_c.specs.Status.{no_answer, no_policies, wrong_resources}
 
 -- what the extension says; nothing where it isn't there
 abbrev pub claimed_addresses : Option IpResourcesView → IpResourcesView
-claimed_addresses None = record { v4 = Missing; v6 = Missing }
+claimed_addresses None = record { v4 = ChoiceView.Missing; v6 = ChoiceView.Missing }
 claimed_addresses (Some x) = x
 
 abbrev pub claimed_numbers : Option ChoiceView → ChoiceView
-claimed_numbers None = Missing
+claimed_numbers None = ChoiceView.Missing
 claimed_numbers (Some x) = x
 
 -- these addresses (RFC 6487 4.8.10, RFC 8360 4.2.2)

@@ -1,7 +1,6 @@
 -- Where octets that no value begins go wrong, from the left (X.690 8.1.1, 8.1.2.5).
 use Rattle.std.specs.Prelude.{◌≡◌, ◌≢◌, ◌⊎◌, ◌+◌, ◌<◌, ◌^◌, ℕ, true, List, [], ◌++◌, take, length}
 use Rattle.rpki_der.specs.declared.error.DecodeError.{DecodeError}
-use Rattle.rpki_der.specs.declared.error.DecodeError.TheVariants.{Truncated, OutOfMemory}
 use Rattle.rpki_der.specs.Error.{error_number}
 use Rattle.rpki_der.specs.declared.tag.Header.{Header}
 use Rattle.rpki_der.specs.TagName.{TagName, IsTag}
@@ -19,7 +18,7 @@ pub data IsFaultAt : List ℕ → DecodeError → ℕ → Type 0 where
   AtHeader : {s : List ℕ} {e : DecodeError} → s ≢ [] → IsHeaderFault s e → IsFaultAt s e 0
   -- a header begins them, and the contents that it announces are not all there
   AtContents : {s : List ℕ} (h : Header) (r : List ℕ) → Spells SpellsHeader s h r → length r < h.length
-      → IsFaultAt s Truncated 0
+      → IsFaultAt s DecodeError.Truncated 0
   -- a header and members, the octets `front`, and then octets that have this fault
   Inside : {s : List ℕ} {e : DecodeError} {place : ℕ} (t : TagName) (ms : Members) (front r after : List ℕ) → IsTag t
       → length (spell ms ++ r) < 2 ^ 32 → HaveHeaders ms → tlv t true (spell ms ++ r) ≡ front ++ r
@@ -34,4 +33,4 @@ abbrev pub IsFaultTold : List ℕ → ℕ → ℕ → ℕ → Type 0
 IsFaultTold s status old new =
     ((status ≡ 0) × IsFaultPlace s new)
     ⊎ ((status ≡ no_answer) × ((n : ℕ) × IsValue (take n s)) × (new ≡ old))
-    ⊎ ((status ≡ error_number OutOfMemory) × HasConstructed s × (new ≡ old))
+    ⊎ ((status ≡ error_number DecodeError.OutOfMemory) × HasConstructed s × (new ≡ old))

@@ -2,9 +2,6 @@
 use Rattle.std.specs.Prelude.{◌≡◌, ◌⊎◌, ℕ, List, Result, Ok, Err}
 use Rattle.rpki_cert.specs.declared.read.cert_part.CertPart.{CertPart}
 use Rattle.rpki_cert.specs.declared.extension.known_part.KnownPart.{KnownPart}
-use Rattle.rpki_cert.specs.declared.extension.known_part.KnownPart.TheVariants.{BasicConstraints, SubjectKeyIdentifier}
-use Rattle.rpki_cert.specs.declared.extension.known_part.KnownPart.TheVariants.{AuthorityKeyIdentifier, KeyUsage}
-use Rattle.rpki_cert.specs.declared.extension.known_part.KnownPart.TheVariants.{CertificatePolicies}
 use Rattle.rpki_cert.specs.declared.extension.known_view.KnownView.{KnownView}
 use Rattle.rpki_cert.specs.Cert.{CertParts, SpellsCert}
 use Rattle.rpki_cert.specs.KnownView.{AreKnown, IsFirstWrong}
@@ -14,11 +11,11 @@ use Rattle.rpki_c.specs.Certificate.{part_number}
 
 -- the status of a certificate that has this extension, which is malformed, or not as critical as it has to be
 abbrev pub known_number : KnownPart → ℕ
-known_number BasicConstraints = 80
-known_number SubjectKeyIdentifier = 81
-known_number AuthorityKeyIdentifier = 82
-known_number KeyUsage = 83
-known_number CertificatePolicies = 84
+known_number KnownPart.BasicConstraints = 80
+known_number KnownPart.SubjectKeyIdentifier = 81
+known_number KnownPart.AuthorityKeyIdentifier = 82
+known_number KnownPart.KeyUsage = 83
+known_number KnownPart.CertificatePolicies = 84
 
 -- the octets are a certificate, whose extensions that are read say this
 pub record IsRead (s : List ℕ) (x : CertParts) (known : KnownView) : Type 0 where

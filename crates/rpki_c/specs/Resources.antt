@@ -7,7 +7,6 @@ use Rattle.rpki_resources.specs.declared.family.AddressFamily.{AddressFamily}
 use Rattle.rpki_resources.specs.declared.family.AddressFamily.TheVariants.{Ipv4, Ipv6}
 use Rattle.rpki_resources.specs.declared.block.Block.{Block}
 use Rattle.rpki_resources.specs.declared.choice.ResourcesChoice.{ResourcesChoice}
-use Rattle.rpki_resources.specs.declared.choice.ResourcesChoice.TheVariants.{Missing, Inherit, Blocks}
 use Rattle.rpki_resources.specs.declared.resources.IpResources.{IpResources}
 use Rattle.rpki_resources.specs.declared.resources.AsResources.{AsResources}
 use Rattle.rpki_resources.specs.Extension.{SpellsIpResources, IsIpResourcesFault, SpellsAsResources, IsAsResourcesFault}
@@ -27,9 +26,9 @@ IsWholeAsFault = NeverMemory SpellsAsResources IsAsResourcesFault
 
 -- how resources of one kind are passed: an entry for each block, or one that says that they are the issuer's
 abbrev pub choice_entries : {E : Type 0} → E → (Block → E) → ResourcesChoice → List E
-choice_entries inherited entry Missing = []
-choice_entries inherited entry Inherit = inherited ∷ []
-choice_entries inherited entry (Blocks bs) = map entry bs
+choice_entries inherited entry ResourcesChoice.Missing = []
+choice_entries inherited entry ResourcesChoice.Inherit = inherited ∷ []
+choice_entries inherited entry (ResourcesChoice.Blocks bs) = map entry bs
 
 -- ---- addresses
 

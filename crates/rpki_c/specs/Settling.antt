@@ -4,13 +4,11 @@ use Rattle.rpki_resources.specs.declared.family.AddressFamily.TheVariants.{Ipv4,
 use Rattle.rpki_resources.specs.declared.block.Block.{Block}
 use Rattle.rpki_resources.specs.declared.choice.ResourcesChoice.{ResourcesChoice}
 use Rattle.rpki_resources.specs.declared.resources.IpResources.{IpResources}
-use Rattle.rpki_resources.specs.declared.choice.ResourcesChoice.TheVariants.{Missing, Inherit, Blocks}
 use Rattle.rpki_resources.specs.declared.kind.ResourceKind.TheVariants.{AsNumbers}
 use Rattle.rpki_resources.specs.Blocks.{AreNumbersOf}
 use Rattle.rpki_resources.specs.Encoded.{AreBlocksOf}
 use Rattle.rpki_resources.specs.Settled.{IsSettled, IsTrimmed}
 use Rattle.rpki_cert.specs.declared.extension.policy.Overclaim.{Overclaim}
-use Rattle.rpki_cert.specs.declared.extension.policy.Overclaim.TheVariants.{Refuse, Trim}
 use Rattle.rpki_c.specs.declared.ip_blocks.IpEntry.{IpEntry}
 use Rattle.rpki_c.specs.declared.as_blocks.AsEntry.{AsEntry}
 use Rattle.rpki_c.specs.Filled.{IsFilled, IsUnfilled}
@@ -21,8 +19,8 @@ use Rattle.rpki_c.specs.Status.{out_of_memory, other_resources}
 -- of one kind: what is claimed, which the issuer has to have (RFC 6487 7.2); or what of it the issuer has (RFC 8360
 -- 4.2.4.4)
 abbrev pub IsSettledBy : Overclaim → ResourcesChoice → List Block → List Block → Type 0
-IsSettledBy Refuse = IsSettled
-IsSettledBy Trim = IsTrimmed
+IsSettledBy Overclaim.Refuse = IsSettled
+IsSettledBy Overclaim.Trim = IsTrimmed
 
 -- nothing is settled
 abbrev pub IsOverclaimed : Overclaim → ResourcesChoice → List Block → Type 0
@@ -60,9 +58,9 @@ AreSettledUnder policy claim entries status old new before after =
 
 -- blocks that are listed are numbers of autonomous systems
 abbrev pub AreFitting : ResourcesChoice → Type 0
-AreFitting Missing = Unit {0}
-AreFitting Inherit = Unit {0}
-AreFitting (Blocks bs) = AreBlocksOf AsNumbers bs
+AreFitting ResourcesChoice.Missing = Unit {0}
+AreFitting ResourcesChoice.Inherit = Unit {0}
+AreFitting (ResourcesChoice.Blocks bs) = AreBlocksOf AsNumbers bs
 
 -- Status 0 or 9: these are settled, and filled in. 58: the issuer doesn't have what is claimed. 7: allocation failed.
 abbrev pub AreAsSettledIn : Overclaim → ResourcesChoice → List Block → ℕ → List AsEntry → List AsEntry → ℕ → ℕ → Type 0

@@ -1,10 +1,6 @@
 -- The statuses of the library itself, beside 0 and the numbers of the layer's errors.
 use Rattle.std.specs.Prelude.{ℕ}
 use Rattle.rpki.specs.declared.repository.x509.name.rule.NameRule.{NameRule}
-use Rattle.rpki.specs.declared.repository.x509.name.rule.NameRule.TheVariants.{MissingCommonName, SecondCommonName}
-use Rattle.rpki.specs.declared.repository.x509.name.rule.NameRule.TheVariants.{SecondSerialNumber}
-use Rattle.rpki.specs.declared.repository.x509.name.rule.NameRule.TheVariants.{SecondOrganizationName, OtherString}
-use Rattle.rpki.specs.declared.repository.x509.name.rule.NameRule.TheVariants.{OtherAttribute}
 
 -- no identifier octets
 abbrev pub bad_tag : ℕ
@@ -44,12 +40,12 @@ too_long = 15
 
 -- a name breaks this rule of the profile
 abbrev pub rule_number : NameRule → ℕ
-rule_number MissingCommonName = 32
-rule_number SecondCommonName = 33
-rule_number SecondSerialNumber = 34
-rule_number SecondOrganizationName = 35
-rule_number OtherString = 36
-rule_number OtherAttribute = 37
+rule_number NameRule.MissingCommonName = 32
+rule_number NameRule.SecondCommonName = 33
+rule_number NameRule.SecondSerialNumber = 34
+rule_number NameRule.SecondOrganizationName = 35
+rule_number NameRule.OtherString = 36
+rule_number NameRule.OtherAttribute = 37
 
 -- what is added to the number of an error of the second of two texts
 abbrev pub second : ℕ

@@ -5,7 +5,6 @@ use Rattle.rpki_text.specs.Buffer.{IsWritten}
 use Rattle.rpki_text.specs.RsyncText.{rsync_refusal, join_refusal, joined, relative, uri_of, parent_of, authority_of}
 use Rattle.rpki_text.specs.RsyncText.{module_name_of, path_of}
 use Rattle.rpki_text.specs.declared.uri.error.Error.{Error}
-use Rattle.rpki_text.specs.declared.uri.error.Error.TheVariants.{OutOfMemory}
 use Rattle.rpki_c.specs.declared.rsync.RsyncParts.{RsyncParts}
 use Rattle.rpki_c.specs.declared.place.Place.{Place}
 use Rattle.rpki_c.specs.Place.{IsPlace}
@@ -16,14 +15,14 @@ pub record IsTextFault (refusal : Option Error) (status : ℕ) : Type 0 where
   pub error : Error
   pub is : refusal ≡ Some error
   pub number : status ≡ error_number error + uri
-  pub memory : error ≢ OutOfMemory
+  pub memory : error ≢ Error.OutOfMemory
 
 -- the same of the second of two texts: the status is that much more
 pub record IsSecondFault (refusal : Option Error) (status : ℕ) : Type 0 where
   pub error : Error
   pub is : refusal ≡ Some error
   pub number : status ≡ error_number error + uri + second
-  pub memory : error ≢ OutOfMemory
+  pub memory : error ≢ Error.OutOfMemory
 
 -- of two texts the first has an error, or else the second
 abbrev pub IsFaultOfTwo : Option Error → Option Error → ℕ → Type 0
