@@ -20,8 +20,8 @@ times x s h =
     record { start = p.start; end = p.end; not_before = p.not_before; not_after = p.not_after }
 
 -- the extensions of the certificate are those of the table
-pub listed : (s : List ℕ) (v : CertView) (x : CertParts) → IsCertAt s v x
+pub listed : {s : List ℕ} {v : CertView} {x : CertParts} → IsCertAt s v x
     → SpellsEach SpellsExtension x.tbs.extensions v.tbs.named.keyed.extensions
-listed s v x h =
+listed {s} {v} {x} h =
     subst (SpellsEach SpellsExtension x.tbs.extensions) (sym h.tbs.named.keyed.list_at)
     h.spelled.tbs.spelled.two.two.two.two.two.two.two.spelled.spelled.some.each

@@ -70,6 +70,7 @@ fn leading_zeros(segment: u16) -> usize
 }
 
 /// Appends a segment in hexadecimal digits, without zeros in front.
+#[tactic(auto, unfolding(std::specs::Net::Text::hex))]
 fn push_segment(text: &mut Line, segment: u16)
     requires { length text.old + 4 ≤ 128 }
     ensures text { text.new ≡ text.old ++ Text.hex segment }
@@ -120,6 +121,7 @@ fn longest_zero_run(segments: &[u16]) -> (usize, usize)
 
 /// Appends the segments of an address of IP version 6: two colons stand for the longest run of zeros, the first one of
 /// that length, if it has two segments at least (RFC 5952 4.2).
+#[tactic(auto, unfolding(std::specs::Net::Text::hex_groups_text))]
 fn push_segments(text: &mut Line, segments: &[u16])
     requires few { length segments.now ≤ 8 }
     requires room { length text.old + 48 ≤ 128 }

@@ -17,6 +17,5 @@ returns-in-Ok c =
 
 pub returns-in-Err : goal.returns-in-Err
 returns-in-Err c =
-    let s = c.args.rest.now.octets.now in
     let h = rw c.from_slice-cursor.ensures at c.in-Err.ensures in
-    inr (front-refused general_name s _ c.in-Err.e _ (name-no-memory s) h c.number.ensures, refl, refl)
+    inr (front-refused general_name (name-no-memory _) h c.number.ensures, refl, refl)

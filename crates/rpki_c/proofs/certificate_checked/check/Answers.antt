@@ -30,13 +30,8 @@ returns-in-Ok-check c =
 pub returns-in-Err-check : goal.returns-in-Err-check
 returns-in-Err-check c =
     let (x, h) = c.in-Ok.ensures.ok in
-    inr (
-      refused-as c.args.octets.now c.args.profile c.args.strict x h.spelled c.in-Err-check.error
-          (c.in-Err-check.ensures.err c.args.octets.now x h) c.check_number.result
-          c.check_number.ensures,
-      refl,
-      refl,
-    )
+    let wrong = c.in-Err-check.ensures.err c.args.octets.now x h in
+    inr (refused-as x h.spelled c.in-Err-check.error wrong c.check_number.ensures, refl, refl)
 
 pub returns-in-Err : goal.returns-in-Err
 returns-in-Err c =

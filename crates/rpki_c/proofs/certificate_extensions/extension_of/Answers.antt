@@ -6,11 +6,11 @@ use Rattle.rpki_c.proofs.certificate_extensions.extension_of.Goals as goal
 
 pub returns-in-Some : goal.returns-in-Some
 returns-in-Some c = λ s x h.
-    let some = c.in-Some.ensures x.tbs.extensions (listed s c.args.found.now x h) in
+    let some = c.in-Some.ensures x.tbs.extensions (listed h) in
     subst (λ (o : Option ExtensionParts). IsKnownAs o c.result) some
     (refl, c.critical.ensures, c.of.ensures ∙ c.octets.ensures)
 
 pub returns-in-None : goal.returns-in-None
 returns-in-None c = λ s x h.
-    let none = c.in-None.ensures x.tbs.extensions (listed s c.args.found.now x h) in
+    let none = c.in-None.ensures x.tbs.extensions (listed h) in
     subst (λ (o : Option ExtensionParts). IsKnownAs o c.result) none (refl, refl, c.of-in-None.ensures)

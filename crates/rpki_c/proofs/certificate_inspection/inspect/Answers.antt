@@ -1,5 +1,4 @@
-use Rattle.std.proofs.Common.{inl, inr, refl, Ok, Err}
-use Rattle.rpki_c.proofs.InspectionLaws.{of-octets}
+use Rattle.std.proofs.Common.{inl, inr, refl}
 use Rattle.rpki_c.proofs.certificate_inspection.inspect.Goals as goal
 
 pub test-requires : goal.test-requires
@@ -8,20 +7,16 @@ test-requires c = let (x, h) = c.in-Ok.ensures.ok in (c.args.octets.now, x, h)
 pub returns-in-Ok-test : goal.returns-in-Ok-test
 returns-in-Ok-test c =
     let (x, h) = c.in-Ok.ensures.ok in
-    inl (
-      refl,
-      of-octets c.args.octets.now c.args.profile c.args.strict x h.spelled (Ok c.in-Ok-test.field-0)
-          (c.in-Ok-test.ensures c.args.octets.now x h),
-    )
+    inl (refl, record { cert = x; spelled = h.spelled; has = c.in-Ok-test.ensures c.args.octets.now x h })
 
 pub returns-in-Err-test : goal.returns-in-Err-test
 returns-in-Err-test c =
     let (x, h) = c.in-Ok.ensures.ok in
+    let broken = c.in-Err-test.ensures c.args.octets.now x h in
     inr (inl (
       c.in-Err-test.rule,
       c.cert_rule_number.ensures,
-      of-octets c.args.octets.now c.args.profile c.args.strict x h.spelled (Err c.in-Err-test.rule)
-          (c.in-Err-test.ensures c.args.octets.now x h),
+      record { cert = x; spelled = h.spelled; first = broken.0; other = broken.1 },
     ))
 
 pub returns-in-Err : goal.returns-in-Err

@@ -6,11 +6,11 @@ use Rattle.rpki_c.proofs.coverage.rpki_manifest_inherits.Goals as goal
 pub returns-then-are_inherited : goal.returns-then-are_inherited
 returns-then-are_inherited c =
     let (x, h) = c.in-Ok.ensures.ok in
-    let said = c.are_inherited.ensures x.tbs.extensions (listed c.args.octets.now c.in-Ok.found x h) in
+    let said = c.are_inherited.ensures x.tbs.extensions (listed h) in
     inr (x, h.spelled, inl (refl, said.0 c.if-are_inherited.true))
 
 pub returns-else-are_inherited : goal.returns-else-are_inherited
 returns-else-are_inherited c =
     let (x, h) = c.in-Ok.ensures.ok in
-    let said = c.are_inherited.ensures x.tbs.extensions (listed c.args.octets.now c.in-Ok.found x h) in
+    let said = c.are_inherited.ensures x.tbs.extensions (listed h) in
     inr (x, h.spelled, inr (refl, iff_false said c.if-are_inherited.false))

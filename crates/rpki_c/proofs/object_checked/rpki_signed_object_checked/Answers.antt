@@ -49,8 +49,8 @@ returns-in-Err-check c =
       inr (
         x,
         at.spelled,
-        refused-as _ _ c.args.names x.cert h.spelled c.in-Err-check.error
-            (c.in-Err-check.ensures.err _ x.cert h) c.check_number.result c.check_number.ensures,
+        refused-as x.cert h.spelled c.in-Err-check.error (c.in-Err-check.ensures.err _ x.cert h)
+            c.check_number.ensures,
       ),
       refl,
     )

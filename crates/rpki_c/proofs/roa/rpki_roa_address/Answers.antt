@@ -35,11 +35,10 @@ returns-in-Ok c =
 
 pub returns-in-Err : goal.returns-in-Err
 returns-in-Err c =
-    let s = c.args.rest.now.octets.now in
     let w = width c.in-Some.named in
     let h = rw c.from_slice-cursor.ensures at c.in-Err.ensures in
     inl (
       c.in-Some.named,
       c.in-Some.ensures.some,
-      inr (front-refused (roa_address w) s _ c.in-Err.e _ (address-never w s) h c.number.ensures, refl, refl),
+      inr (front-refused (roa_address w) (address-never w _) h c.number.ensures, refl, refl),
     )

@@ -6,11 +6,11 @@ use Rattle.rpki_c.proofs.signer_resources.rpki_roa_signer.Goals as goal
 pub returns-then-lists_addresses : goal.returns-then-lists_addresses
 returns-then-lists_addresses c =
     let (x, h) = c.in-Ok.ensures.ok in
-    let said = c.lists_addresses.ensures x.tbs.extensions (listed c.args.octets.now c.in-Ok.found x h) in
+    let said = c.lists_addresses.ensures x.tbs.extensions (listed h) in
     inr (x, h.spelled, inl (refl, said.0 c.if-lists_addresses.true))
 
 pub returns-else-lists_addresses : goal.returns-else-lists_addresses
 returns-else-lists_addresses c =
     let (x, h) = c.in-Ok.ensures.ok in
-    let said = c.lists_addresses.ensures x.tbs.extensions (listed c.args.octets.now c.in-Ok.found x h) in
+    let said = c.lists_addresses.ensures x.tbs.extensions (listed h) in
     inr (x, h.spelled, inr (refl, iff_false said c.if-lists_addresses.false))

@@ -16,7 +16,5 @@ returns-in-Ok c =
 
 pub returns-in-Err : goal.returns-in-Err
 returns-in-Err c =
-    let s = c.args.rest.now.octets.now in
     let h = rw c.from_slice-cursor.ensures at c.in-Err.ensures in
-    let F = value_of c.args.tag c.args.constructed in
-    inr (front-refused F s _ c.in-Err.e _ (λ z. z) h c.number.ensures, refl, refl)
+    inr (front-refused (value_of c.args.tag c.args.constructed) (λ z. z) h c.number.ensures, refl, refl)

@@ -26,8 +26,6 @@ returns-in-Ok c =
 
 pub returns-in-Err : goal.returns-in-Err
 returns-in-Err c =
-    let s = c.args.rest.now.octets.now in
     let some = (rw c.from_slice-cursor.ensures at c.has_tag.ensures).0 c.if-not-has_tag.false in
     let h = rw c.from_slice-cursor.ensures at c.in-Err.ensures in
-    let F = value_of c.args.tag c.args.constructed in
-    inr (some, inr (front-refused F s _ c.in-Err.e _ (λ z. z) h c.number.ensures, refl, refl))
+    inr (some, inr (front-refused (value_of c.args.tag c.args.constructed) (λ z. z) h c.number.ensures, refl, refl))
