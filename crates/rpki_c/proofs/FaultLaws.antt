@@ -16,7 +16,7 @@ use Rattle.rpki_der.proofs.WalkingLaws.{BeginsWithHeader, AreMembers, begins-wit
 use Rattle.rpki_der.proofs.WalkingLaws.{at-true, at-false}
 use Rattle.rpki_der.specs.NestedFault.{IsNestedFault, AtHeader as NestedHeader, AtContents as NestedContents}
 use Rattle.rpki_der.specs.NestedFault.{Inside as NestedInside}
-use Rattle.rpki_c.specs.Fault.{IsFaultAt, AtHeader, AtContents, Inside}
+use Rattle.rpki_c.specs.Front.{IsFaultAt, AtHeader, AtContents, Inside}
 
 -- values, and then what has this fault at this place
 pub record IsBrokenAt (octets : List ℕ) (e : DecodeError) (m : ℕ) : Type 0 where

@@ -1,7 +1,7 @@
 -- The entries in the middle of an index that is being written: which are there, and which are still to come.
 use Rattle.std.proofs.Common.{◌≡◌, ◌≢◌, ℕ, zero, suc, ◌+◌, ◌-◌, ◌<◌, ◌≤◌, ◌^◌, Bool, true, false, List, [], ◌∷◌, ◌++◌}
-use Rattle.std.proofs.Common.{length, take, drop, inl, inr, ◌%◌, Option, Some, None, refl, sym, ap, ◌∙◌, subst, arith, append_assoc}
-use Rattle.std.proofs.Common.{append-nil, length-append, length-drop}
+use Rattle.std.proofs.Common.{length, take, drop, inl, inr, ◌%◌, Option, Some, None, refl, sym, ap, ◌∙◌, subst, arith}
+use Rattle.std.proofs.Common.{append_assoc, append-nil, length-append, length-drop}
 use Rattle.std.specs.List.{between}
 use Rattle.std.specs.Prelude.{◌⊎◌, slice_get, set, map}
 use Rattle.std.proofs.Math.Seq.{drop-append_seam}
@@ -20,7 +20,7 @@ use Rattle.rpki_der.proofs.HeaderReadingLaws.{one-header}
 use Rattle.rpki_der.proofs.IndexingLaws.{length-entries}
 use Rattle.rpki_der.proofs.MembersLaws.{header, HasHeader, header_of, spells-header, two-octets}
 use Rattle.rpki_c.specs.declared.index.Entry.{Entry}
-use Rattle.rpki_c.specs.Index.{Climbs, Closes, parent_number, passed, slot_at}
+use Rattle.rpki_c.specs.Front.{Climbs, Closes, parent_number, passed, slot_at}
 
 -- ---- the entries that are still to come
 
@@ -81,7 +81,10 @@ stays : (es : List Entry) (place end : ℕ) (q : Option ℕ) → place < end →
 stays es place end None l h = record { ended = []; climbs = (refl, λ e low at same. omega (arith, low)) }
 stays es place end (Some k) l h = record {
   ended = [];
-  climbs = (refl, λ e low at same. let one : h.0 ≡ e = cc (h.1, at) in omega (arith, ap (λ (x : Entry). x.end) one, h.2, l));
+  climbs = (
+    refl,
+    λ e low at same. let one : h.0 ≡ e = cc (h.1, at) in omega (arith, ap (λ (x : Entry). x.end) one, h.2, l),
+  );
 }
 
 -- a value has ended: what follows is in the value around it
@@ -110,7 +113,7 @@ after s x y i j e h =
     ap (λ (k : ℕ). drop k s) h ∙ sym (drop-drop (length x) i s) ∙ ap (λ (l : List ℕ). drop (length x) l) e
     ∙ drop-append_seam x y
 
--- the entries of values, one after another
+-- the entries of values, in sequence
 abbrev slots : Members → ℕ → Option ℕ → ℕ → List Entry
 slots vs place q number = map passed (entries vs place q number)
 
@@ -151,8 +154,9 @@ follow-values s (Primitive t c vs) es more place end number q x legal is count s
     let parts : drop place s ≡ one ++ (spell vs ++ x) = is ∙ append_assoc one (spell vs) x in
     let lengths = length-append one (spell vs) in
     let head = length-append (header t false (length c)) c in
-    let past_one : ℕ = place + length (header t false (length c)) + length c in
-    let e : Entry = slot_at place (length (header t false (length c))) (header_of t false (length c)) (parent_number q) in (
+    let k : ℕ = length (header t false (length c)) in
+    let past_one : ℕ = place + k + length c in
+    let e : Entry = slot_at place k (header_of t false (length c)) (parent_number q) in (
       next s (spell vs ++ x) es place end q t false c legal.0 parts (omega (arith, size, lengths)) past,
       follow-values s vs (es ++ e ∷ []) more past_one end (number + 1) q x legal.1
           (after s one (spell vs ++ x) place past_one parts (omega (arith, head)))
@@ -172,41 +176,30 @@ follow-values s (Constructed t ms vs) es more place end number q x legal is coun
     let head = length-append (header t true (length c)) c in
     let past_one : ℕ = place + k + length c in
     let e : Entry = slot_at place k (header_of t true (length c)) (parent_number q) in
-    let outer : List Entry = slots vs past_one q (number + 1 + header_count ms) in
-    let inner : List Entry = slots ms (place + k) (Some number) (number + 1) in
+    let inside : List IndexEntry = entries ms (place + k) (Some number) (number + 1) in
+    let inner : List Entry = map passed inside in
     let here : List Entry = es ++ e ∷ [] in
     let counted : length inner ≡ header_count ms =
-    length-map (entries ms (place + k) (Some number) (number + 1)) passed
-    ∙ length-entries ms (place + k) (Some number) (number + 1) in
+    length-map inside passed ∙ length-entries ms (place + k) (Some number) (number + 1) in
     let more_here = length-append es (e ∷ []) in
-    let own : slice_get here number ≡ Some e =
-    ap (λ (i : ℕ). slice_get here i) count ∙ get-last es e in
-    let all : slots (Constructed t ms vs) place q number ≡ e ∷ (inner ++ outer) =
-    ap (λ (l : List Entry). e ∷ l) (map-append passed (entries ms (place + k) (Some number) (number + 1))
-    (entries vs past_one q (number + 1 + header_count ms))) in
-    let last : Follow s ((here ++ inner) ++ outer) end (parent_number q) more =
-    subst (λ (l : List Entry). Follow s l end (parent_number q) more)
-    (ap (λ (l : List Entry). es ++ l) all ∙ sym (append_assoc es (e ∷ []) (inner ++ outer))
-    ∙ sym (append_assoc here inner outer)) h in
-    let behind : Follow s (here ++ inner) past_one (parent_number q) (outer ++ more) =
-    follow-values s vs (here ++ inner) more past_one end (number + 1 + header_count ms) q x legal.2
+    let own : slice_get here number ≡ Some e = ap (λ (i : ℕ). slice_get here i) count ∙ get-last es e in
+    let last = simp map-append at h in
+    let around = past-more es (e ∷ inner) end end q (omega arith) past in
+    let behind = follow-values s vs (here ++ inner) more past_one end (number + 1 + header_count ms) q x legal.2
     (after s one (spell vs ++ x) place past_one parts (omega (arith, head)))
     (omega (arith, count, more_here, counted, length-append here inner)) (omega (arith, size, lengths, head))
-    (subst (λ (l : List Entry). EndsPast l end q) (sym (append_assoc es (e ∷ []) inner))
-    (past-more es (e ∷ inner) end end q (omega arith) past)) last in
-    let within : Follow s here (place + k) number (inner ++ (outer ++ more)) =
-    follow-values s ms here (outer ++ more) (place + k) past_one (number + 1) (Some number) (spell vs ++ x) legal.1
+    (simp append_assoc around) (simp append_assoc last) in
+    let outer : List Entry = slots vs past_one q (number + 1 + header_count ms) in
+    let within = follow-values s ms here (outer ++ more) (place + k) past_one (number + 1) (Some number)
+    (spell vs ++ x) legal.1
     (after s (header t true (length c)) (c ++ (spell vs ++ x)) place (place + k) inner_parts refl)
     (omega (arith, count, more_here)) refl (e, own, omega arith)
-    (rises s (here ++ inner) past_one number e (outer ++ more) (get-more here inner number e own) refl
-    (below es number end q count past) behind) in
-    let follow : Follow s es place (parent_number q) (e ∷ (inner ++ (outer ++ more))) = (
+    (rises s (here ++ inner) past_one number e _ (get-more here inner number e own) refl
+    (below es number end q count past) behind) in (
       next s (spell vs ++ x) es place end q t true c legal.0 parts (omega (arith, size, lengths)) past,
-      subst (λ (i : ℕ). Follow s here (place + k) i (inner ++ (outer ++ more))) count within,
-    ) in
-    subst (λ (l : List Entry). Follow s es place (parent_number q) l)
-    (ap (λ (l : List Entry). e ∷ l) (sym (append_assoc inner outer more))
-    ∙ ap (λ (l : List Entry). l ++ more) (sym all)) follow
+      simp (map-append, append_assoc)
+          (subst (λ (i : ℕ). Follow s here (place + k) i (inner ++ (outer ++ more))) count within),
+    )
 
 -- ---- the innermost value that hasn't ended
 
@@ -359,11 +352,11 @@ has-next {s} {count} {place} {number} {last} {old} {now} f low = go f.more f.all
     }
 
 -- the header of the next entry is read, and the entry is written
-pub record IsStep (s : List ℕ) (count : ℕ) (old left : List Entry) (place number parent : ℕ) (h : Header) (k : ℕ) : Type 0
-  where
-    pub fits : place + k + h.length ≤ length s
-    pub primitive : h.constructed ≡ false → IsFilling s count old left (place + k + h.length) (number + 1) parent
-    pub constructed : h.constructed ≡ true → IsFilling s count old left (place + k) (number + 1) number
+pub record IsStep (s : List ℕ) (count : ℕ) (old left : List Entry) (place number parent : ℕ) (h : Header) (k : ℕ)
+    : Type 0 where
+  pub fits : place + k + h.length ≤ length s
+  pub primitive : h.constructed ≡ false → IsFilling s count old left (place + k + h.length) (number + 1) parent
+  pub constructed : h.constructed ≡ true → IsFilling s count old left (place + k) (number + 1) number
 
 pub step : {s : List ℕ} {count place number last q : ℕ} {old now left : List Entry} {h : Header} (k : ℕ)
     (n : HasNext s count old now place number last) → number < length old
@@ -378,16 +371,16 @@ step {s} {count} {place} {number} {last} {q} {old} {now} {left} {h} k n room a w
     let same : n.entry ≡ e =
     n.is.is ∙ ap (λ (x : Header). slot_at place n.is.size x n.entry.parent) one.0
     ∙ ap (λ (x : ℕ). slot_at place x h n.entry.parent) size ∙ ap (λ (x : ℕ). slot_at place k h x) (sym parent) in
-    let next : IsFilling s count old left (next_place h.constructed e) (number + 1) (next_last h.constructed number e) =
+    let Left : Bool → Type 0 =
+    λ b. IsFilling s count old left (next_place b e) (number + 1) (next_last b number e) in
+    let next : Left h.constructed =
     subst (λ (x : Entry). left ≡ set now number x
     → IsFilling s count old left (next_place x.constructed x) (number + 1) (next_last x.constructed number x)) same
     (n.low room left) is in
     record {
       fits = omega (arith, n.is.fits, size, ap (λ (x : Header). x.length) one.0);
-      primitive = λ form.
-          subst (λ (b : Bool). IsFilling s count old left (next_place b e) (number + 1) (next_last b number e)) form next;
-      constructed = λ form.
-          subst (λ (b : Bool). IsFilling s count old left (next_place b e) (number + 1) (next_last b number e)) form next;
+      primitive = λ form. subst Left form next;
+      constructed = λ form. subst Left form next;
     }
 
 -- ---- the value at the front

@@ -1,43 +1,23 @@
 -- Which lemma file answers which question.
 --
--- The status of an error: RefusedLaws.
--- Moments of times: MomentLaws. Signatures: VerificationLaws.
--- Signed data read in place: SignedReadingLaws.
--- Any algorithm identifier; statuses of keys, of names, and of another algorithm: IdentifierLaws, KeyStatusLaws,
---   NameStatusLaws, ElseLaws.
--- What is made on a condition: MadeLaws. Hexadecimal digits: HexTextLaws. Base 64: Base64Laws.
+-- Statuses of errors, of keys, of names, and of what is made on a condition: StatusLaws. Signatures: VerificationLaws.
+-- Signed data read in place, and any algorithm identifier: SignedLaws.
+-- Moments of times: MomentLaws. Hexadecimal digits and base 64: TextLaws.
 -- Where octets go wrong: FaultLaws. The index, in the middle of its writing: FillingLaws.
--- Parts of parsed URIs, by their places: RsyncPlacesLaws, HttpsPlacesLaws. Parts of certificates: CertificateLaws; that
---   one is checked against a profile: InspectionLaws. Revocation lists: CrlLaws, SerialTableLaws; signed objects:
---   SignedObjectLaws; manifests and attestations: ContentLaws. Where something is: AccessLaws.
--- Entries of blocks, in sequence, and how many there are: BlockListLaws, ViewCountLaws. Statuses of
---   contents of resources: ResourceStatusLaws. Resources settled under an issuer's: SettlingLaws,
---   CertificateResourcesLaws.
+-- Parts of parsed URIs, by their places: PlaceLaws.
+-- Parts of certificates, and one that is checked against a profile: CertificateLaws; of revocation lists, signed
+--   objects, manifests and attestations: ObjectLaws. Tables of serial numbers: SerialTableLaws.
+-- Resources: entries of blocks, how many there are, what their contents' statuses say, and settled: ResourceLaws.
 
-mod RefusedLaws
-mod KeyStatusLaws
 mod VerificationLaws
 mod MomentLaws
-mod SignedReadingLaws
-mod IdentifierLaws
-mod ElseLaws
+mod SignedLaws
 mod FaultLaws
 mod FillingLaws
-mod NameStatusLaws
-mod RsyncPlacesLaws
-mod HttpsPlacesLaws
-mod MadeLaws
-mod AccessLaws
+mod PlaceLaws
+mod StatusLaws
 pub mod CertificateLaws
-pub mod InspectionLaws
-mod HexTextLaws
-mod Base64Laws
-mod BlockListLaws
-mod ViewCountLaws
-mod ResourceStatusLaws
-mod CrlLaws
+mod TextLaws
 mod SerialTableLaws
-pub mod SignedObjectLaws
-mod ContentLaws
-mod SettlingLaws
-mod CertificateResourcesLaws
+pub mod ObjectLaws
+mod ResourceLaws

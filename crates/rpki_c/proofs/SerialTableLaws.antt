@@ -26,7 +26,7 @@ use Rattle.rpki_der.specs.Reading.{Accepts, Refuses}
 use Rattle.rpki_crl.specs.Crl.{Entry, entry, each_entry, is_revoked}
 use Rattle.rpki_crl.specs.CrlView.{Keeps}
 use Rattle.rpki_crl.proofs.EntriesLaws.{each-fault, entries-wrong, nowhere}
-use Rattle.rpki_c.specs.SerialTable.{IsTwenty, serial_of, IsSerialTable, AreEntriesRead, AreWritten}
+use Rattle.rpki_c.specs.Serial.{IsTwenty, serial_of, IsSerialTable, AreEntriesRead, AreWritten}
 use Rattle.rpki_c.proofs.FillingLaws.{set-behind}
 
 pub entries-read : (s r : List ℕ) (x : Result (Unit {0}) DecodeError) → TakesFold Keeps entry tt s r x

@@ -11,8 +11,7 @@ use Rattle.rpki_rsa.specs.declared.error.KeyError.{KeyError}
 use Rattle.rpki_rsa.specs.Key.{SpellsKey as SpellsRsaKey, IsKeyOf, IsSignature}
 use Rattle.rpki_rsa.specs.RsaKey.{RsaKey}
 use Rattle.rpki_rsa.proofs.KeyLemmas.{one-key, no-key}
-use Rattle.rpki_c.specs.Key.{IsWholeKeyFault, IsKeyStatus}
-use Rattle.rpki_c.specs.Verified.{IsVerified, IsVerifiedBy, HasSigned}
+use Rattle.rpki_c.specs.Key.{IsWholeKeyFault, IsKeyStatus, IsVerified, IsVerifiedBy, HasSigned}
 
 pub bad-signature : (k : KeyParts) (message signature : List ℕ) (key : RsaKey) (b : Bool) → k.format ≡ Rsa
     → SpellsRsaKey key k.bits.octets → (IsTrue b ↔ IsSignature key (sha256 message) signature) → b ≡ false

@@ -1,10 +1,9 @@
--- What a status says of the octets of a manifest, and of a file that it lists.
-use Rattle.std.specs.Prelude.{◌≡◌, ℕ, List, length}
+-- What a status says of a manifest, and of the names of its files.
+use Rattle.std.specs.Prelude.{◌≡◌, ℕ, List, length, ◌⊎◌, ◌≤◌, ◌<◌, ◌↔◌, Bool, IsTrue}
 use Rattle.rpki_der.specs.Prelude.{number_of}
 use Rattle.rpki_contents.specs.declared.manifest_part.ManifestPart.{ManifestPart}
-use Rattle.rpki_contents.specs.declared.manifest_part.ManifestPart.TheVariants as P
 use Rattle.rpki_contents.specs.FilesInPlace.{AreFiles}
-use Rattle.rpki_contents.specs.ListedFile.{ListedFile, file}
+use Rattle.rpki_contents.specs.ListedFile.{ListedFile, file, AreDistinct}
 use Rattle.rpki_contents.specs.Manifest.{ManifestParts, fields_of, AreInOrder}
 use Rattle.rpki_contents.specs.ManifestView.{view_manifest, IsManifestWrong}
 use Rattle.rpki_c.specs.declared.manifest.ManifestParts.{ManifestParts as Parts}
@@ -13,6 +12,10 @@ use Rattle.rpki_c.specs.declared.span.Span.{Span}
 use Rattle.rpki_c.specs.Span.{IsTakenOff}
 use Rattle.rpki_c.specs.Time.{IsMoment}
 use Rattle.rpki_c.specs.Whole.{IsRead}
+use Rattle.rpki_c.specs.Status.{too_small}
+use Rattle.rpki_contents.specs.declared.manifest_part.ManifestPart.TheVariants as P
+
+-- ---- What a status says of the octets of a manifest, and of a file that it lists
 
 -- the status of octets of which this part is wrong
 abbrev pub manifest_part_number : ManifestPart → ℕ
@@ -52,3 +55,24 @@ pub record HasFile (x : ListedFile) (p : ManifestFile) : Type 0 where
 -- a file is taken off the span
 abbrev pub IsFileTaken : ℕ → Span → Span → ManifestFile → ManifestFile → Type 0
 IsFileTaken = IsTakenOff file HasFile
+
+-- ---- What a status says of the names of the files of a manifest
+
+-- the octets are a manifest of so many files at most, and the answer says whether no two have the same name
+pub record HasNames (s : List ℕ) (capacity : ℕ) (differ : Bool) : Type 0 where
+  pub manifest : ManifestParts
+  pub listing : IsListing manifest s
+  pub few : length manifest.files ≤ capacity
+  pub answer : IsTrue differ ↔ AreDistinct manifest.files
+
+-- the octets are a manifest of more files
+abbrev pub HasMoreNames : List ℕ → ℕ → Type 0
+HasMoreNames s capacity = (x : ManifestParts) × IsListing x s × (capacity < length x.files)
+
+-- Status 0: the octets are a manifest, and the answer says whether no two files have the same name. 9: it has more
+-- files than the array has places. Else the number of the malformed part. The answer is written at status 0 alone.
+abbrev pub AreNamesCompared : List ℕ → ℕ → ℕ → Bool → Bool → Type 0
+AreNamesCompared s capacity status old new =
+    ((status ≡ 0) × HasNames s capacity new)
+    ⊎ (((status ≡ too_small) × HasMoreNames s capacity × (new ≡ old))
+    ⊎ ((q : ManifestPart) × (status ≡ manifest_part_number q) × IsManifestWrong s q × (new ≡ old)))

@@ -1,14 +1,25 @@
--- What a status says of the texts of rsync URIs. No call here allocates, so no status is that of an allocation failure.
-use Rattle.std.specs.Prelude.{◌≡◌, ◌≢◌, ◌⊎◌, ◌≤◌, ◌<◌, ◌+◌, ℕ, List, take, length, Option, Some, None}
+-- What a status says of the texts of URIs, and of the places of their parts.
+use Rattle.std.specs.Prelude.{◌≡◌, ◌≤◌, ◌+◌, ℕ, List, take, drop, length, ◌≢◌, ◌⊎◌, ◌<◌, Option, Some, None}
+use Rattle.rpki_c.specs.declared.place.Place.{Place}
 use Rattle.rpki_text.specs.ErrorText.{error_number}
 use Rattle.rpki_text.specs.Buffer.{IsWritten}
 use Rattle.rpki_text.specs.RsyncText.{rsync_refusal, join_refusal, joined, relative, uri_of, parent_of, authority_of}
 use Rattle.rpki_text.specs.RsyncText.{module_name_of, path_of}
 use Rattle.rpki_text.specs.declared.uri.error.Error.{Error}
 use Rattle.rpki_c.specs.declared.rsync.RsyncParts.{RsyncParts}
-use Rattle.rpki_c.specs.declared.place.Place.{Place}
-use Rattle.rpki_c.specs.Place.{IsPlace}
 use Rattle.rpki_c.specs.Status.{too_small, no_answer, second, uri}
+use Rattle.rpki_text.specs.HttpsText.{https_refusal, https_authority, https_path}
+use Rattle.rpki_c.specs.declared.https.HttpsParts.{HttpsParts}
+
+-- ---- Where a part of octets is
+
+-- the part is at the place, which lies within s
+pub record IsPlace (s : List ℕ) (p : Place) (part : List ℕ) : Type 0 where
+  pub within : p.start + p.length ≤ length s
+  pub octets : take p.length (drop p.start s) ≡ part
+
+-- ---- What a status says of the texts of rsync URIs. No call here allocates, so no status is that of an allocation
+-- failure.
 
 -- there is an error, none of an allocation, and the status is its number as a status of URIs
 pub record IsTextFault (refusal : Option Error) (status : ℕ) : Type 0 where
@@ -88,3 +99,18 @@ IsParent text status old new =
     ((status ≡ 0) × (rsync_refusal text ≡ None) × (new ≤ length text) × (parent_of text ≡ Some (take new text)))
     ⊎ ((status ≡ no_answer) × (rsync_refusal text ≡ None) × (parent_of text ≡ None) × (new ≡ old))
     ⊎ (IsTextFault (rsync_refusal text) status × (new ≡ old))
+
+-- ---- What a status says of the text of an https URI
+
+-- the parts of the text are at these places: the authority after `https://`, the path at the end
+pub record HasHttpsParts (text : List ℕ) (p : HttpsParts) : Type 0 where
+  pub authority : IsPlace text p.authority (https_authority text)
+  pub path : IsPlace text p.path (https_path text)
+  pub authority_first : p.authority.start ≡ 8
+  pub path_last : p.path.start + p.path.length ≡ length text
+
+-- Status 0: the text is an https URI of these parts. Else: its first error, and nothing was written.
+abbrev pub IsHttpsParsed : List ℕ → ℕ → HttpsParts → HttpsParts → Type 0
+IsHttpsParsed text status old new =
+    ((status ≡ 0) × (https_refusal text ≡ None) × HasHttpsParts text new)
+    ⊎ (IsTextFault (https_refusal text) status × (new ≡ old))

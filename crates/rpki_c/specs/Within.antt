@@ -16,9 +16,8 @@ use Rattle.rpki_c.specs.declared.ip_blocks.IpEntry.{IpEntry}
 use Rattle.rpki_c.specs.declared.as_blocks.AsEntry.{AsEntry}
 use Rattle.rpki_c.specs.Aspa.{aspa_part_number}
 use Rattle.rpki_c.specs.Certificate.{part_number}
-use Rattle.rpki_c.specs.Held.{are_untold, are_as_untold, as_blocks}
+use Rattle.rpki_c.specs.Settling.{are_untold, are_as_untold, as_blocks, AreHeld}
 use Rattle.rpki_c.specs.Roa.{roa_part_number}
-use Rattle.rpki_c.specs.Settling.{AreHeld}
 use Rattle.rpki_c.specs.Status.{no_answer, not_inherited, other_resources, out_of_memory}
 
 -- 10: a block says that addresses are those of an issuer. 145 to 147: this part of the attestation is wrong. Else it is

@@ -3,7 +3,7 @@
 ghost use Rattle.std.specs.Prelude.{◌≡◌, ◌↔◌, IsTrue, ℕ, List};
 ghost use Rattle.rpki_cert.specs.Cert.{CertParts};
 ghost use Rattle.rpki_cert.specs.View.{IsCertAt};
-ghost use Rattle.rpki_c.specs.Anchor.{key_octets, IsAnchorRead};
+ghost use Rattle.rpki_c.specs.Issued.{key_octets, IsAnchorRead};
 
 use crate::issued::key_of;
 use crate::known_cert::known_cert;

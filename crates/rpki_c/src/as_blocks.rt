@@ -5,8 +5,7 @@ ghost use Rattle.rpki_resources.specs.declared.block.Block.{Block};
 ghost use Rattle.rpki_resources.specs.declared.kind.ResourceKind.TheVariants.{AsNumbers};
 ghost use Rattle.rpki_resources.specs.InPlace.{Holds};
 ghost use Rattle.rpki_resources.specs.Encoded.{IsBlockOf, AreBlocksOf};
-ghost use Rattle.rpki_c.specs.Resources.{as_entry, IsAsFilled};
-ghost use Rattle.rpki_c.specs.ViewCount.{IsFilledAt};
+ghost use Rattle.rpki_c.specs.Resources.{as_entry, IsAsFilled, IsFilledAt};
 
 use crate::resources::{count_of, read_as};
 use crate::status::TOO_SMALL;

@@ -4,8 +4,8 @@ ghost use Rattle.std.specs.Prelude.{◌≡◌, ◌≤◌, ◌<◌, ◌+◌, ◌^
 ghost use Rattle.rpki_resources.specs.declared.family.AddressFamily.{AddressFamily};
 ghost use Rattle.rpki_resources.specs.Address.{width};
 ghost use Rattle.rpki_resources.specs.Text.{as_number_text, ip_block_text, as_block_text};
-ghost use Rattle.rpki_c.specs.Resources.{family_number};
-ghost use Rattle.rpki_c.specs.BlockText.{address_number, IsIpListed, IsIpText, IsIpTextStored, IsAsTextStored};
+ghost use Rattle.rpki_c.specs.Resources.{family_number, address_number, IsIpListed, IsIpText, IsIpTextStored};
+ghost use Rattle.rpki_c.specs.Resources.{IsAsTextStored};
 
 use crate::address_texts::{push_address, push_number};
 use crate::as_blocks::AsEntry;

@@ -1,7 +1,7 @@
 //! Certificates, of which all is asked at once.
 
 ghost use Rattle.std.specs.Prelude.{◌≡◌};
-ghost use Rattle.rpki_c.specs.CertificateChecked.{check_number, IsCheckedAs, IsCertificateChecked};
+ghost use Rattle.rpki_c.specs.CertificateProfile.{check_number, IsCheckedAs, IsCertificateChecked};
 
 use crate::certificate::{CertificateParts, part_number, parts_of};
 use crate::certificate_extensions::{KnownExtensions, extensions_of, known_number};

@@ -1,7 +1,7 @@
 //! One extension of a certificate, whichever others there are.
 
 ghost use Rattle.std.specs.Prelude.{◌≡◌, ◌<◌, IfSome, IfNone};
-ghost use Rattle.rpki_c.specs.CertificateExtension.{kind_number, IsExtensionReadOf, IsExtensionFound};
+ghost use Rattle.rpki_c.specs.Certificate.{kind_number, IsExtensionReadOf, IsExtensionFound};
 
 use crate::certificate::part_number;
 use crate::certificate_extensions::{KnownExtension, extension_of};

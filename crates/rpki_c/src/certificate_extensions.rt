@@ -5,8 +5,8 @@ ghost use Rattle.rpki_cert.specs.ExtensionTable.{identifier_of};
 ghost use Rattle.rpki_cert.specs.Cert.{CertParts};
 ghost use Rattle.rpki_cert.specs.View.{IsCertAt};
 ghost use Rattle.rpki_cert.specs.KnownView.{AreKnown};
-ghost use Rattle.rpki_c.specs.CertificateExtensions.{known_number, usage_number, policy_number, IsIdentifierOf};
-ghost use Rattle.rpki_c.specs.CertificateExtensions.{IsFoundAs, HasExtensions, AreExtensionsRead};
+ghost use Rattle.rpki_c.specs.Certificate.{known_number, usage_number, policy_number, IsIdentifierOf, IsFoundAs};
+ghost use Rattle.rpki_c.specs.Certificate.{HasExtensions, AreExtensionsRead};
 
 use crate::known_cert::known_cert;
 use crate::span::Span;

@@ -1,8 +1,8 @@
 //! Certificates, checked against a profile.
 
 ghost use Rattle.std.specs.Prelude.{◌≡◌, ◌<◌, IfSome, IfNone};
-ghost use Rattle.rpki_c.specs.CertificateInspection.{cert_rule_number, profile_number};
-ghost use Rattle.rpki_c.specs.CertificateInspection.{IsInspectedAs, IsCertificateInspected};
+ghost use Rattle.rpki_c.specs.CertificateProfile.{cert_rule_number, profile_number, IsInspectedAs};
+ghost use Rattle.rpki_c.specs.CertificateProfile.{IsCertificateInspected};
 
 use crate::certificate::part_number;
 use crate::status::NO_PROFILE;

@@ -3,8 +3,8 @@
 ghost use Rattle.std.specs.Prelude.{◌≡◌, IfOk, IfErr};
 ghost use Rattle.rpki_cert.specs.Cert.{CertParts};
 ghost use Rattle.rpki_cert.specs.View.{IsCertAt};
-ghost use Rattle.rpki_c.specs.CertificateResources.{claimed_addresses, claimed_numbers, HasPolicy, HasNoPolicy};
-ghost use Rattle.rpki_c.specs.CertificateResources.{IsIpSettled, IsAsSettled};
+ghost use Rattle.rpki_c.specs.Settling.{claimed_addresses, claimed_numbers, HasPolicy, HasNoPolicy, IsIpSettled};
+ghost use Rattle.rpki_c.specs.Settling.{IsAsSettled};
 
 use crate::as_blocks::AsEntry;
 use crate::held::{are_as_untold, are_untold};
@@ -43,7 +43,8 @@ fn claimed_numbers<'a>(found: Option<ChoiceView<'a>>) -> ChoiceView<'a>
 ///
 /// The error is the status of a certificate that isn't read, or else the rule that a certificate has policies.
 fn read_policy(octets: &[u8]) -> Result<(KnownCert<'_>, Overclaim), u8>
-    ensures ok { IfOk result (λ read. (x : CertParts) × IsCertAt octets.now read.0.cert x × HasPolicy octets.now x read.1) }
+    ensures ok { IfOk result (λ read. (x : CertParts) × IsCertAt octets.now read.0.cert x
+        × HasPolicy octets.now x read.1) }
     ensures err { IfErr result (λ status. HasNoPolicy octets.now status) }
 {
     let found = match known_cert(octets) {

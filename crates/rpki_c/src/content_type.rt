@@ -1,7 +1,7 @@
 //! Types of what signed objects contain, by their identifiers.
 
 ghost use Rattle.std.specs.Prelude.{◌≡◌};
-ghost use Rattle.rpki_c.specs.ContentType.{content_type_number};
+ghost use Rattle.rpki_c.specs.SignedObject.{content_type_number};
 
 /// The contents octets of the identifier of the type of route origin attestations (RFC 9582 3).
 const ROUTE_ORIGINS: &[u8; 11] = &[42, 134, 72, 134, 247, 13, 1, 9, 16, 1, 24];

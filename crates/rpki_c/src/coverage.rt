@@ -7,7 +7,7 @@ ghost use Rattle.rpki_cert.specs.ExtensionTable.{OfListed};
 ghost use Rattle.rpki_cert.specs.ResourceExtensions.{addresses_of, numbers_of, SaysThat};
 ghost use Rattle.rpki_valid.specs.ObjectResources.{is_unlisted, are_unlisted_addresses, are_unlisted_numbers};
 ghost use Rattle.rpki_valid.specs.ObjectResources.{AreInherited};
-ghost use Rattle.rpki_c.specs.Held.{as_blocks};
+ghost use Rattle.rpki_c.specs.Settling.{as_blocks};
 ghost use Rattle.rpki_c.specs.Within.{IsRoaTold, IsAspaTold, IsManifestTold};
 
 use crate::as_blocks::AsEntry;

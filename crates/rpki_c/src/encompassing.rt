@@ -1,6 +1,6 @@
 //! Whether resources encompass others: in place, by one pass over the blocks of both.
 
-ghost use Rattle.rpki_c.specs.Encompassing.{IsIpCompared, IsAsCompared};
+ghost use Rattle.rpki_c.specs.Resources.{IsIpCompared, IsAsCompared};
 
 use crate::resources::{read_as, read_ip};
 use crate::status::{NO_ANSWER, SECOND};

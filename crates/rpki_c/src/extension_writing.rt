@@ -2,7 +2,7 @@
 
 ghost use Rattle.std.specs.Prelude.{◌≡◌, ◌↔◌, ◌<◌, ◌^◌, length};
 ghost use Rattle.rpki.specs.Extension.{extension_contents, extension_octets};
-ghost use Rattle.rpki_c.specs.MadeExtension.{IsExtensionWritten};
+ghost use Rattle.rpki_c.specs.Made.{IsExtensionWritten};
 
 use crate::stored::store_if_short;
 use rpki::repository::x509::ExtensionBytes;

@@ -7,7 +7,7 @@ ghost use Rattle.rpki_der.specs.declared.tag.Header.{Header};
 ghost use Rattle.rpki_der.specs.Reading.{Spells};
 ghost use Rattle.rpki_der.specs.Values.{SpellsHeader};
 ghost use Rattle.rpki_der.specs.Walk.{HasConstructed};
-ghost use Rattle.rpki_c.specs.Fault.{IsFaultAt, IsFaultTold};
+ghost use Rattle.rpki_c.specs.Front.{IsFaultAt, IsFaultTold};
 
 use crate::status::NO_ANSWER;
 use rpki_der::{DecodeError, Header, read_header};

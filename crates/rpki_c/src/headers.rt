@@ -2,7 +2,7 @@
 
 ghost use Rattle.std.specs.Prelude.{◌≡◌, ◌≤◌, IfOk, IfErr, length, drop};
 ghost use Rattle.rpki_der.specs.Header.{class_number};
-ghost use Rattle.rpki_c.specs.Header.{AreParts, IsHeaderRead};
+ghost use Rattle.rpki_c.specs.Front.{AreParts, IsHeaderRead};
 
 use rpki_der::{Class, Header, read_header};
 

@@ -2,8 +2,8 @@
 
 ghost use Rattle.std.specs.Prelude.{◌≡◌, ◌<◌, ◌++◌, ◌^◌, ℕ, [], All, IfOk};
 ghost use Rattle.rpki_resources.specs.Blocks.{AreNumbersOf, IsAmong};
-ghost use Rattle.rpki_c.specs.BlockText.{numbers_of, as_numbers_of};
-ghost use Rattle.rpki_c.specs.Held.{are_untold, are_as_untold, with_entry, family_blocks, as_blocks};
+ghost use Rattle.rpki_c.specs.Resources.{numbers_of, as_numbers_of};
+ghost use Rattle.rpki_c.specs.Settling.{are_untold, are_as_untold, with_entry, family_blocks, as_blocks};
 
 use crate::as_blocks::AsEntry;
 use crate::block_texts::number_of;

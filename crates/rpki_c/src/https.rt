@@ -1,7 +1,7 @@
 //! Https URIs.
 
 ghost use Rattle.rpki_text.specs.Views.{https_text};
-ghost use Rattle.rpki_c.specs.HttpsUri.{HasHttpsParts, IsHttpsParsed};
+ghost use Rattle.rpki_c.specs.Uri.{HasHttpsParts, IsHttpsParsed};
 
 use crate::place::Place;
 use crate::rsync::uri_fault;

@@ -4,8 +4,9 @@ ghost use Rattle.std.specs.Prelude.{◌≡◌, ◌↔◌, IsTrue, length, IfSome
 ghost use Rattle.rpki_text.specs.HttpsText.{https_uri_of, same_https, https_parent_of, https_joined};
 ghost use Rattle.rpki_text.specs.HttpsText.{https_join_refusal, https_into_dir};
 ghost use Rattle.rpki_text.specs.Cuts.{https_cut_text, IsOwnHttps};
-ghost use Rattle.rpki_c.specs.ByParts.{IsToldByParts, IsStoredByParts, IsMadeByParts, IsJoinedByParts, IsParentByParts};
-ghost use Rattle.rpki_c.specs.HttpsPlaces.{AreHttpsParts, AreHttpsLaidOut, https_places, https_canonical_of};
+ghost use Rattle.rpki_c.specs.UriPlaces.{IsToldByParts, IsStoredByParts, IsMadeByParts, IsJoinedByParts};
+ghost use Rattle.rpki_c.specs.UriPlaces.{IsParentByParts, AreHttpsParts, AreHttpsLaidOut, https_places};
+ghost use Rattle.rpki_c.specs.UriPlaces.{https_canonical_of};
 
 use crate::https::HttpsParts;
 use crate::rsync::uri_fault;

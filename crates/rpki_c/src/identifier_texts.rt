@@ -2,7 +2,7 @@
 
 ghost use Rattle.rpki_der.specs.Reading.{Decodes};
 ghost use Rattle.rpki.specs.KeyIdentifier.{SpellsKeyIdentifier};
-ghost use Rattle.rpki_c.specs.KeyIdentifier.{IsWholeIdentifierFault, IsIdentifierRead, IsHexRead};
+ghost use Rattle.rpki_c.specs.Key.{IsWholeIdentifierFault, IsIdentifierRead, IsHexRead};
 
 use crate::status::CONTENT;
 use rpki::crypto::KeyIdentifier;

@@ -2,7 +2,7 @@
 
 ghost use Rattle.std.specs.Prelude.{◌≡◌, ◌≤◌, ◌<◌, ◌+◌, ◌^◌, ◌++◌, ℕ, List, map, drop, length};
 ghost use Rattle.rpki_der.specs.Index.{Entry as IndexEntry, IsIndex};
-ghost use Rattle.rpki_c.specs.Index.{passed, slot_at, Closes, IsIndexed};
+ghost use Rattle.rpki_c.specs.Front.{passed, slot_at, Closes, IsIndexed};
 
 use crate::headers::class_number;
 use crate::status::TOO_SMALL;

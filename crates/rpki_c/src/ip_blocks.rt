@@ -6,8 +6,7 @@ ghost use Rattle.rpki_resources.specs.declared.choice.ResourcesChoice.{Resources
 ghost use Rattle.rpki_resources.specs.InPlace.{Holds};
 ghost use Rattle.rpki_resources.specs.Kept.{IsChoiceOf};
 ghost use Rattle.rpki_c.specs.Resources.{family_number, address_octets, ip_entry, inherited_ip, family_entries};
-ghost use Rattle.rpki_c.specs.Resources.{IsIpFilled};
-ghost use Rattle.rpki_c.specs.ViewCount.{view_count, IsFilledAt};
+ghost use Rattle.rpki_c.specs.Resources.{IsIpFilled, view_count, IsFilledAt};
 
 use crate::resources::{count_of, read_ip};
 use crate::status::TOO_SMALL;

@@ -1,12 +1,12 @@
 //! Certificates of which one may have issued the other.
 
 ghost use Rattle.std.specs.Prelude.{◌≡◌, ◌↔◌, ℕ, List, IsTrue};
-ghost use Rattle.std.specs.Prelude.{Option, MatchResult};
+ghost use Rattle.std.specs.Prelude.{Option};
 ghost use Rattle.sha1.specs.Sha1.{sha1};
 ghost use Rattle.rpki_cert.specs.Cert.{CertParts};
 ghost use Rattle.rpki_cert.specs.View.{IsCertAt};
-ghost use Rattle.rpki_c.specs.KnownCert.{IsKnownAt};
-ghost use Rattle.rpki_c.specs.Issued.{NamesIssuer, IsToldApart, IsIssuedRead, IsIssuerRead};
+ghost use Rattle.rpki_c.specs.Certificate.{IsKnownAt};
+ghost use Rattle.rpki_c.specs.Issued.{TestsNames, IsIssuedRead, IsIssuerRead};
 
 use crate::known_cert::{KnownCert, known_cert};
 use crate::status::{NO_ISSUER, OTHER_AUTHORITY, OTHER_ISSUER};
@@ -42,7 +42,7 @@ pub(crate) struct IssuedCert<'a> {
 /// `OTHER_AUTHORITY`.
 fn test_names(subject: &KnownCert<'_>, issuer: &CertView<'_>) -> Result<(), u8>
     ensures { (s t : List ℕ) (x y : CertParts) → IsKnownAt s subject.now x → IsCertAt t issuer.now y
-        → MatchResult result (λ _. NamesIssuer x y subject.now.known) (λ status. IsToldApart x y subject.now.known status) }
+        → TestsNames x y subject.now.known result }
 {
     if !is_named(&subject.cert, issuer) {
         return Err(OTHER_ISSUER);

@@ -4,8 +4,8 @@ ghost use Rattle.std.specs.Prelude.{IfOk, IfErr};
 ghost use Rattle.rpki_der.specs.Prelude.{Decodes};
 ghost use Rattle.rpki.specs.PublicKey.{SpellsKey, key_octets};
 ghost use Rattle.rpki_c.specs.Key.{IsKeptKeyFault, IsNoKey};
-ghost use Rattle.rpki_c.specs.MadeValues.{IsMadeIf, IsShortKey};
-ghost use Rattle.rpki_c.specs.MadeValues.{IsKeyWritten, IsRsaWritten, IsUncopied, IsBitsWritten, IsNameWritten};
+ghost use Rattle.rpki_c.specs.Made.{IsMadeIf, IsShortKey, IsKeyWritten, IsRsaWritten, IsUncopied, IsBitsWritten};
+ghost use Rattle.rpki_c.specs.Made.{IsNameWritten};
 
 use crate::keys::key_status;
 use crate::status::{CONTENT, OUT_OF_MEMORY, TOO_LONG};

@@ -1,6 +1,6 @@
 //! Certificates, and what their extensions say that are read.
 
-ghost use Rattle.rpki_c.specs.KnownCert.{IsKnownRead};
+ghost use Rattle.rpki_c.specs.Certificate.{IsKnownRead};
 
 use crate::certificate::part_number;
 use crate::certificate_extensions::known_number;

@@ -5,8 +5,8 @@ ghost use Rattle.rpki_cert.specs.Cert.{CertParts};
 ghost use Rattle.rpki_cert.specs.View.{IsCertAt};
 ghost use Rattle.rpki_crl.specs.Crl.{CrlParts};
 ghost use Rattle.rpki_crl.specs.CrlView.{IsCrlAt};
-ghost use Rattle.rpki_c.specs.ListIssued.{IsListTold, IsListToldOf, IsListRead};
-ghost use Rattle.rpki_c.specs.Verified.{IsVerifiedBy};
+ghost use Rattle.rpki_c.specs.Issued.{IsListTold, IsListToldOf, IsListRead};
+ghost use Rattle.rpki_c.specs.Key.{IsVerifiedBy};
 
 use crate::crl::crl_part_number;
 use crate::issued::key_of;

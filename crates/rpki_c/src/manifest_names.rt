@@ -1,7 +1,7 @@
 //! Whether the files of a manifest have different names.
 
 ghost use Rattle.std.specs.Prelude.{length};
-ghost use Rattle.rpki_c.specs.ManifestNames.{AreNamesCompared};
+ghost use Rattle.rpki_c.specs.Manifest.{AreNamesCompared};
 
 use crate::manifest::manifest_part_number;
 use crate::status::TOO_SMALL;

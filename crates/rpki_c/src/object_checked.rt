@@ -1,7 +1,7 @@
 //! Signed objects, of which all is asked at once, with their signers' certificates.
 
 ghost use Rattle.std.specs.Prelude.{◌≡◌};
-ghost use Rattle.rpki_c.specs.ObjectChecked.{written, IsObjectChecked};
+ghost use Rattle.rpki_c.specs.SignedObject.{written, IsObjectChecked};
 
 use crate::certificate::{CertificateParts, parts_of};
 use crate::certificate_checked::check_number;

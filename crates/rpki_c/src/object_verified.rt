@@ -7,8 +7,8 @@ ghost use Rattle.rpki_objects.specs.SignedObject.{ObjectParts};
 ghost use Rattle.rpki_objects.specs.SignedObjectView.{IsObjectAt};
 ghost use Rattle.rpki_cert.specs.Cert.{CertParts};
 ghost use Rattle.rpki_cert.specs.View.{IsCertAt};
-ghost use Rattle.rpki_c.specs.ObjectVerified.{HasSignedContent, IsContentWrong, IsCertTold, IsObjectVerified};
-ghost use Rattle.rpki_c.specs.Verified.{IsVerifiedBy};
+ghost use Rattle.rpki_c.specs.SignedObject.{HasSignedContent, IsContentWrong, IsCertTold, IsObjectVerified};
+ghost use Rattle.rpki_c.specs.Key.{IsVerifiedBy};
 
 use crate::certificate_extensions::known_number;
 use crate::file_digest::has_digest;

@@ -1,7 +1,7 @@
 //! Periods of validity: written, asked, and trimmed.
 
 ghost use Rattle.std.specs.Prelude.{◌↔◌, IsSome, IfSome};
-ghost use Rattle.rpki_c.specs.Periods.{ArePossible, IsPeriodOf, IsValidityWritten, IsToldOf, IsHeldAt, IsTrimmedTo};
+ghost use Rattle.rpki_c.specs.Moments.{ArePossible, IsPeriodOf, IsValidityWritten, IsToldOf, IsHeldAt, IsTrimmedTo};
 
 use crate::status::{CONTENT, TOO_NEW, TOO_OLD};
 use crate::stored::store_values;

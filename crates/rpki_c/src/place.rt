@@ -2,7 +2,7 @@
 
 ghost use Rattle.std.specs.Prelude.{◌≡◌, ◌≤◌, ◌+◌, ℕ, List};
 ghost use Rattle.rpki_text.specs.Places.{IsPartAt};
-ghost use Rattle.rpki_c.specs.Place.{IsPlace};
+ghost use Rattle.rpki_c.specs.Uri.{IsPlace};
 
 use std::ops::Range;
 

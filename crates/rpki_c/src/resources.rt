@@ -5,8 +5,7 @@ ghost use Rattle.rpki_der.specs.Cursor.{left};
 ghost use Rattle.rpki_der.specs.Reading.{Reads, Decodes};
 ghost use Rattle.rpki_resources.specs.Extension.{SpellsIpResources, IsIpResourcesFault, SpellsAsResources};
 ghost use Rattle.rpki_resources.specs.Extension.{IsAsResourcesFault};
-ghost use Rattle.rpki_c.specs.Resources.{IsWholeIpFault, IsWholeAsFault};
-ghost use Rattle.rpki_c.specs.ViewCount.{view_count};
+ghost use Rattle.rpki_c.specs.Resources.{IsWholeIpFault, IsWholeAsFault, view_count};
 
 use rpki_der::{Constructed, DecodeError};
 use rpki_resources::{ChoiceView, IpResourcesView, take_as_resources, take_ip_resources};

@@ -4,8 +4,9 @@ ghost use Rattle.std.specs.Prelude.{◌≡◌, ◌↔◌, IsTrue, length, IfSome
 ghost use Rattle.rpki_text.specs.RsyncText.{uri_of, same_uri, is_parent, is_identical, parent_of, joined, join_refusal};
 ghost use Rattle.rpki_text.specs.Segments.{with_slash};
 ghost use Rattle.rpki_text.specs.Cuts.{cut_text, IsOwn};
-ghost use Rattle.rpki_c.specs.ByParts.{IsToldByParts, IsStoredByParts, IsMadeByParts, IsJoinedByParts, IsParentByParts};
-ghost use Rattle.rpki_c.specs.RsyncPlaces.{AreParts, AreLaidOut, rsync_places, IsRelativeByParts, canonical_of};
+ghost use Rattle.rpki_c.specs.UriPlaces.{IsToldByParts, IsStoredByParts, IsMadeByParts, IsJoinedByParts};
+ghost use Rattle.rpki_c.specs.UriPlaces.{IsParentByParts, AreParts, AreLaidOut, rsync_places, IsRelativeByParts};
+ghost use Rattle.rpki_c.specs.UriPlaces.{canonical_of};
 
 use crate::place::Place;
 use crate::rsync::{RsyncParts, uri_fault};

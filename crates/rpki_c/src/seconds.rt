@@ -1,6 +1,6 @@
 //! The moment so many seconds after the first of 1970.
 
-ghost use Rattle.rpki_c.specs.Seconds.{IsSecondsOf};
+ghost use Rattle.rpki_c.specs.Moments.{IsSecondsOf};
 
 use crate::moments::rpki_time_seconds_on;
 use crate::times::Moment;

@@ -6,7 +6,7 @@ ghost use Rattle.rpki_der.specs.Fold.{TakesStep};
 ghost use Rattle.rpki_der.specs.Number.{number_of};
 ghost use Rattle.rpki_crl.specs.Crl.{Entry, entry, each_entry, is_revoked};
 ghost use Rattle.rpki_crl.specs.CrlView.{Keeps};
-ghost use Rattle.rpki_c.specs.SerialTable.{AreEntriesRead, AreTabled, AreWritten, IsSerialTable, IsTwenty};
+ghost use Rattle.rpki_c.specs.Serial.{AreEntriesRead, AreTabled, AreWritten, IsSerialTable, IsTwenty};
 
 use crate::status::TOO_SMALL;
 use rpki_crl::CrlEntry;

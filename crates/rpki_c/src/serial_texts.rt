@@ -1,6 +1,6 @@
 //! Serial numbers as decimal digits, and of octets.
 
-ghost use Rattle.rpki_c.specs.SerialText.{IsDecimalWritten, IsDecimalRead, IsNumberRead};
+ghost use Rattle.rpki_c.specs.Serial.{IsDecimalWritten, IsDecimalRead, IsNumberRead};
 
 use crate::status::CONTENT;
 use crate::stored::store;

@@ -7,10 +7,9 @@ ghost use Rattle.rpki_resources.specs.declared.kind.ResourceKind.TheVariants.{As
 ghost use Rattle.rpki_resources.specs.Encoded.{AreBlocksOf};
 ghost use Rattle.rpki_resources.specs.Kept.{IsChoiceOf, AreIpResourcesOf};
 ghost use Rattle.rpki_c.specs.Filled.{IsFilled};
-ghost use Rattle.rpki_c.specs.Resources.{ip_entry, as_entry};
+ghost use Rattle.rpki_c.specs.Resources.{ip_entry, as_entry, IsFilledAt};
 ghost use Rattle.rpki_c.specs.Settling.{IsSettledBy, IsOverclaimed, settled_entries, AreSettledUnder};
 ghost use Rattle.rpki_c.specs.Settling.{AreAsSettledUnder, AreFitting};
-ghost use Rattle.rpki_c.specs.ViewCount.{IsFilledAt};
 
 use crate::as_blocks::{AsEntry, entry_of as as_entry_of};
 use crate::held::{held, held_as};

@@ -1,7 +1,7 @@
 //! Certificates that the key of another has signed.
 
 ghost use Rattle.std.specs.Prelude.{◌≡◌};
-ghost use Rattle.rpki_c.specs.SignedBy.{IsSignedByRead};
+ghost use Rattle.rpki_c.specs.Issued.{IsSignedByRead};
 
 use crate::issued::{key_of, read_issued};
 use crate::status::OTHER_KEY;

@@ -2,7 +2,7 @@
 
 ghost use Rattle.rpki_der.specs.Members.{SpellsValue};
 ghost use Rattle.rpki_der.specs.Reading.{Decodes};
-ghost use Rattle.rpki_c.specs.MadeSigned.{IsWholeValueFault, IsSignedMade};
+ghost use Rattle.rpki_c.specs.Made.{IsWholeValueFault, IsSignedMade};
 
 use crate::signed_value::signed_of;
 use crate::stored::store_if_short;

@@ -2,7 +2,7 @@
 
 ghost use Rattle.std.specs.Prelude.{◌≡◌, ◌↔◌, ◌<◌, ◌^◌, length};
 ghost use Rattle.rpki_der.specs.Members.{IsValue};
-ghost use Rattle.rpki_c.specs.MadeSigned.{made_contents, made_signed};
+ghost use Rattle.rpki_c.specs.Made.{made_contents, made_signed};
 
 use rpki::crypto::{RpkiSignatureAlgorithm, SignatureAlgorithm};
 use rpki_der::{Primitive, PrimitiveContent, Sequence, StandingValue, Tag, Values, write_whole};

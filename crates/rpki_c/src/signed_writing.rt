@@ -1,6 +1,6 @@
 //! Signed data, written.
 
-ghost use Rattle.rpki_c.specs.MadeSigned.{IsSignedWritten};
+ghost use Rattle.rpki_c.specs.Made.{IsSignedWritten};
 
 use crate::signed::read_signed;
 use crate::signed_value::signed_of;

@@ -4,8 +4,7 @@ ghost use Rattle.std.specs.Prelude.{◌≡◌, ◌≤◌, ◌<◌, ◌^◌, ◌+
 ghost use Rattle.rpki_text.specs.UriText.{lowercase};
 ghost use Rattle.rpki_text.specs.Cuts.{joined_text};
 ghost use Rattle.rpki_c.specs.Stored.{IsStored};
-ghost use Rattle.rpki_c.specs.Made.{IsMade};
-ghost use Rattle.rpki_c.specs.MadeValues.{IsMadeIf};
+ghost use Rattle.rpki_c.specs.Made.{IsMade, IsMadeIf};
 
 use crate::status::{OUT_OF_MEMORY, TOO_LONG, TOO_SMALL};
 use rpki_der::Values;

@@ -2,7 +2,7 @@
 
 ghost use Rattle.std.specs.Prelude.{◌≡◌};
 ghost use Rattle.sha2.specs.Sha256.{sha256};
-ghost use Rattle.rpki_c.specs.Verified.{IsVerified, IsVerifiedBy};
+ghost use Rattle.rpki_c.specs.Key.{IsVerified, IsVerifiedBy};
 
 use crate::keys::read_key;
 use crate::status::{BAD_SIGNATURE, KEY_NOT_ACCEPTED};

@@ -1,7 +1,7 @@
 //! Values, with everything nested in them.
 
 ghost use Rattle.std.specs.Prelude.{◌≡◌};
-ghost use Rattle.rpki_c.specs.Walk.{IsWalked};
+ghost use Rattle.rpki_c.specs.Front.{IsWalked};
 
 use rpki_der::{Steps, walk_octets};
 use std::alloc::Global;

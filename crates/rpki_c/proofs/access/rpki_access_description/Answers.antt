@@ -1,7 +1,7 @@
 use Rattle.std.proofs.Common.{inl, inr, refl}
 use Rattle.rpki_cert.specs.AccessDescription.{description, description_of}
-use Rattle.rpki_c.proofs.AccessLaws.{description-no-memory}
-use Rattle.rpki_c.proofs.RefusedLaws.{front-refused}
+use Rattle.rpki_c.proofs.CertificateLaws.{description-no-memory}
+use Rattle.rpki_c.proofs.StatusLaws.{front-refused}
 use Rattle.rpki_c.proofs.access.rpki_access_description.Goals as goal
 
 pub returns-in-Ok : goal.returns-in-Ok

@@ -2,7 +2,7 @@ use Rattle.std.proofs.Common.{inl, inr, refl}
 use Rattle.std.specs.Option.{option_copied}
 use Rattle.rpki_cert.specs.AccessDescription.{general_name}
 use Rattle.rpki_cert.proofs.GeneralNameLaws.{name-no-memory}
-use Rattle.rpki_c.proofs.RefusedLaws.{front-refused}
+use Rattle.rpki_c.proofs.StatusLaws.{front-refused}
 use Rattle.rpki_c.proofs.access.rpki_general_name.Goals as goal
 
 pub returns-in-Ok : goal.returns-in-Ok

@@ -2,10 +2,9 @@ use Rattle.std.proofs.Common.{sym, subst, ap, arith}
 use Rattle.rpki_resources.specs.declared.choice.ResourcesChoice.TheVariants.{Blocks}
 use Rattle.rpki_resources.specs.Extension.{SpellsAsResources}
 use Rattle.rpki_resources.specs.Kept.{IsChoiceOf}
-use Rattle.rpki_c.specs.Resources.{inherited_as, as_entry}
-use Rattle.rpki_c.specs.ViewCount.{view_count}
-use Rattle.rpki_c.proofs.ViewCountLaws.{as-kept, as-fit, inherited-entries, one-filled}
-use Rattle.rpki_c.proofs.ResourceStatusLaws.{as-too-many, as-filled, blocks-kept}
+use Rattle.rpki_c.specs.Resources.{inherited_as, as_entry, view_count}
+use Rattle.rpki_c.proofs.ResourceLaws.{as-kept, as-fit, inherited-entries, one-filled, as-too-many, as-filled}
+use Rattle.rpki_c.proofs.ResourceLaws.{blocks-kept}
 use Rattle.rpki_c.proofs.as_blocks.rpki_as_blocks.Goals as goal
 
 pub returns-then-entries-all : goal.returns-then-entries-all

@@ -1,7 +1,7 @@
 use Rattle.std.proofs.Common.{subst, arith}
 use Rattle.rpki_resources.specs.declared.kind.ResourceKind.TheVariants.{AsNumbers}
 use Rattle.rpki_resources.specs.Encoded.{AreBlocksOf}
-use Rattle.rpki_c.proofs.BlockListLaws.{gives-some, gives-none, filling-none, filling-within, filling-next, filling-all}
+use Rattle.rpki_c.proofs.ResourceLaws.{gives-some, gives-none, filling-none, filling-within, filling-next, filling-all}
 use Rattle.rpki_c.proofs.as_blocks.write_listed.Goals as goal
 
 pub each-init : goal.each-init

@@ -4,7 +4,7 @@ use Rattle.rpki_resources.specs.declared.kind.ResourceKind.TheVariants.{AsNumber
 use Rattle.rpki_resources.specs.Encoded.{AreBlocksOf}
 use Rattle.rpki_resources.specs.InPlace.{Holds, IsLeft}
 use Rattle.rpki_c.specs.Resources.{as_entry}
-use Rattle.rpki_c.proofs.BlockListLaws.{IsFilling}
+use Rattle.rpki_c.proofs.ResourceLaws.{IsFilling}
 use Rattle.rpki_c.proofs.as_blocks.write_listed.Given as goal
 
 -- of the blocks the first ones are written, and the others remain, which are blocks of AS numbers

@@ -1,6 +1,6 @@
 use Rattle.std.proofs.Common.{◌≡◌, ◌≤◌, ◌<◌, ◌^◌, ◌++◌, length, drop, arith, ap, sym, refl, inl, inr, ◌∙◌}
 use Rattle.base64.specs.GeneralPurpose.{encode_of, encoded_size_of}
-use Rattle.rpki_c.proofs.Base64Laws.{encoded-length, encoded-small}
+use Rattle.rpki_c.proofs.TextLaws.{encoded-length, encoded-small}
 use Rattle.rpki_c.proofs.base_64.store_encoded.Goals as goal
 
 pub returns-in-Ok : goal.returns-in-Ok

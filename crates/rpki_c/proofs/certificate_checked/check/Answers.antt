@@ -1,6 +1,6 @@
 use Rattle.std.proofs.Common.{inl, inr, refl}
-use Rattle.rpki_c.specs.CertificateChecked.IsRefusedAs.{WrongPart}
-use Rattle.rpki_c.proofs.InspectionLaws.{refused-as}
+use Rattle.rpki_c.specs.CertificateProfile.IsRefusedAs.{WrongPart}
+use Rattle.rpki_c.proofs.CertificateLaws.{refused-as}
 use Rattle.rpki_c.proofs.certificate_checked.check.Goals as goal
 
 pub check-requires : goal.check-requires

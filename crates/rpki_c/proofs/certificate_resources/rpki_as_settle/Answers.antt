@@ -3,7 +3,7 @@ use Rattle.rpki_resources.specs.declared.choice_view.ChoiceView.{ChoiceView}
 use Rattle.rpki_resources.specs.Kept.{IsChoiceOf}
 use Rattle.rpki_cert.specs.ResourceExtensions.{numbers_of}
 use Rattle.rpki_c.proofs.CertificateLaws.{listed}
-use Rattle.rpki_c.proofs.CertificateResourcesLaws.{numbers-kept, numbers-fit}
+use Rattle.rpki_c.proofs.ResourceLaws.{numbers-kept, numbers-fit}
 use Rattle.rpki_c.proofs.certificate_resources.rpki_as_settle.Goals as goal
 
 pub returns-in-Err : goal.returns-in-Err
@@ -24,7 +24,12 @@ returns-in-Ok-as_resources c =
     let (v, k) = numbers-kept (numbers_of x.tbs.extensions) c.in-Ok-as_resources.said says in
     let settled = c.settle_numbers.ensures v
     (subst (λ (w : ChoiceView). IsChoiceOf v w) (sym c.claimed_numbers.ensures) k) in
-    inr (inr (x, c.in-Ok.read.1, has, inr (v, record { said = c.in-Ok-as_resources.said; says = says; claimed = k }, settled)))
+    inr (inr (
+      x,
+      c.in-Ok.read.1,
+      has,
+      inr (v, record { said = c.in-Ok-as_resources.said; says = says; claimed = k }, settled),
+    ))
 
 pub returns-in-Err-as_resources : goal.returns-in-Err-as_resources
 returns-in-Err-as_resources c =

@@ -1,6 +1,6 @@
 use Rattle.std.proofs.Common.{◌↔◌, length}
 use Rattle.rpki_resources.specs.Blocks.{IsAmong}
-use Rattle.rpki_c.specs.Held.{as_blocks}
+use Rattle.rpki_c.specs.Settling.{as_blocks}
 use Rattle.rpki_c.proofs.coverage.contains.Given as goal
 
 -- the number is in none of those that were seen

@@ -2,7 +2,7 @@ use Rattle.std.proofs.Common.{◌∙◌, ap, sym, subst}
 use Rattle.rpki.specs.SignedData.{SignedParts}
 use Rattle.std.specs.Prelude.{Bool}
 use Rattle.rpki_crl.specs.Crl.{each_entry, listed}
-use Rattle.rpki_c.proofs.CrlLaws.{entries-spelled}
+use Rattle.rpki_c.proofs.ObjectLaws.{entries-spelled}
 use Rattle.rpki_c.proofs.MomentLaws.{moment}
 use Rattle.rpki_c.proofs.crl.list_of.Goals as goal
 

@@ -2,7 +2,7 @@ use Rattle.std.proofs.Common.{inl, inr, refl}
 use Rattle.rpki_crl.specs.Crl.{entry, entry_of}
 use Rattle.rpki_crl.proofs.EntriesLaws.{entry-no-memory}
 use Rattle.rpki_c.proofs.MomentLaws.{moment}
-use Rattle.rpki_c.proofs.RefusedLaws.{front-refused}
+use Rattle.rpki_c.proofs.StatusLaws.{front-refused}
 use Rattle.rpki_c.proofs.crl.rpki_crl_entry.Goals as goal
 
 pub returns-in-Ok : goal.returns-in-Ok

@@ -1,5 +1,5 @@
 use Rattle.std.proofs.Common.{inl, inr, refl}
-use Rattle.rpki_c.proofs.ResourceStatusLaws.{kept-as}
+use Rattle.rpki_c.proofs.ResourceLaws.{kept-as}
 use Rattle.rpki_c.proofs.encompassing.rpki_as_blocks_encompass.Goals as goal
 
 pub returns-in-Some : goal.returns-in-Some

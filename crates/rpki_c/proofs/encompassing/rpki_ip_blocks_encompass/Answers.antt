@@ -1,5 +1,5 @@
 use Rattle.std.proofs.Common.{inl, inr, refl}
-use Rattle.rpki_c.proofs.ResourceStatusLaws.{kept-ip}
+use Rattle.rpki_c.proofs.ResourceLaws.{kept-ip}
 use Rattle.rpki_c.proofs.encompassing.rpki_ip_blocks_encompass.Goals as goal
 
 pub returns-in-Some : goal.returns-in-Some

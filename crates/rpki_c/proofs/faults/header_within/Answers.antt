@@ -1,5 +1,5 @@
 use Rattle.std.proofs.Common.{◌<◌, length, arith, ap, length-drop}
-use Rattle.rpki_c.specs.Fault.{AtHeader, AtContents}
+use Rattle.rpki_c.specs.Front.{AtHeader, AtContents}
 use Rattle.rpki_der.specs.declared.error.DecodeError.TheVariants.{Truncated}
 use Rattle.rpki_c.proofs.faults.header_within.Goals as goal
 

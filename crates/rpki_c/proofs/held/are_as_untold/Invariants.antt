@@ -1,5 +1,5 @@
 use Rattle.std.proofs.Common.{◌≡◌, length}
-use Rattle.rpki_c.specs.Held.{are_as_untold}
+use Rattle.rpki_c.specs.Settling.{are_as_untold}
 use Rattle.rpki_c.proofs.held.are_as_untold.Given as goal
 
 -- those that were seen say nothing of an issuer

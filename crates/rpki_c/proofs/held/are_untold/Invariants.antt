@@ -1,5 +1,5 @@
 use Rattle.std.proofs.Common.{◌≡◌, length}
-use Rattle.rpki_c.specs.Held.{are_untold}
+use Rattle.rpki_c.specs.Settling.{are_untold}
 use Rattle.rpki_c.proofs.held.are_untold.Given as goal
 
 -- those that were seen say nothing of an issuer

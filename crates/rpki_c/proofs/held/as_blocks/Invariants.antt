@@ -1,7 +1,7 @@
 use Rattle.std.proofs.Common.{◌≡◌, ◌<◌, ◌++◌, ◌^◌, length}
 use Rattle.std.specs.Prelude.{All}
 use Rattle.rpki_resources.specs.declared.block.Block.{Block}
-use Rattle.rpki_c.specs.Held.{as_blocks}
+use Rattle.rpki_c.specs.Settling.{as_blocks}
 use Rattle.rpki_c.proofs.held.as_blocks.Given as goal
 
 -- the blocks of those that were seen, and then of the rest

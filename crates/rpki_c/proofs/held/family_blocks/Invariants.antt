@@ -1,5 +1,5 @@
 use Rattle.std.proofs.Common.{◌≡◌, ◌++◌, length}
-use Rattle.rpki_c.specs.Held.{family_blocks}
+use Rattle.rpki_c.specs.Settling.{family_blocks}
 use Rattle.rpki_c.proofs.held.family_blocks.Given as goal
 
 -- the blocks of those that were seen, and then of the rest

@@ -1,5 +1,5 @@
 use Rattle.std.proofs.Common.{◌^◌}
-use Rattle.rpki_c.proofs.SettlingLaws.{among-small}
+use Rattle.rpki_c.proofs.ResourceLaws.{among-small}
 use Rattle.rpki_c.proofs.held.held_as.Goals as goal
 
 pub returns-in-Ok-clause-small : goal.returns-in-Ok-clause-small

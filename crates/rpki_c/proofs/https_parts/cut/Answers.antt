@@ -1,5 +1,5 @@
 use Rattle.std.proofs.Common.{refl, arith}
-use Rattle.rpki_c.proofs.HttpsPlacesLaws.{https-cut}
+use Rattle.rpki_c.proofs.PlaceLaws.{https-cut}
 use Rattle.rpki_c.proofs.https_parts.cut.Goals as goal
 
 -- the places of parts are the text's own

@@ -1,5 +1,5 @@
 use Rattle.std.proofs.Common.{refl, inr}
-use Rattle.rpki_c.proofs.HttpsPlacesLaws.{https-cut, https-lower-canonical}
+use Rattle.rpki_c.proofs.PlaceLaws.{https-cut, https-lower-canonical}
 use Rattle.rpki_c.proofs.https_parts.rpki_https_parts_canonical.Goals as goal
 
 pub returns : goal.returns

@@ -2,7 +2,7 @@ use Rattle.std.proofs.Common.{◌≡◌, ◌≢◌, Some, inl, inr, refl, sym, a
 use Rattle.rpki_text.specs.declared.uri.error.Error.{Error}
 use Rattle.rpki_text.specs.HttpsText.{https_joined}
 use Rattle.rpki_text.proofs.HttpsPartLaws.{https_joined-cut, https-join-ok, https-join-refuses}
-use Rattle.rpki_c.proofs.HttpsPlacesLaws.{https-cut, https-end-parts}
+use Rattle.rpki_c.proofs.PlaceLaws.{https-cut, https-end-parts}
 use Rattle.rpki_c.proofs.https_parts.rpki_https_parts_join.Goals as goal
 
 pub returns-in-Ok : goal.returns-in-Ok

@@ -1,8 +1,8 @@
 use Rattle.std.proofs.Common.{ℕ, take, refl, inl, inr, subst}
 use Rattle.std.proofs.lemmas.List.{length-take-le}
 use Rattle.rpki_text.proofs.HttpsParentEndLaws.{https_end-cut, https_end-text}
-use Rattle.rpki_c.specs.HttpsPlaces.{AreHttpsParts, with_https_end}
-use Rattle.rpki_c.proofs.HttpsPlacesLaws.{https-cut, https-end-parts}
+use Rattle.rpki_c.specs.UriPlaces.{AreHttpsParts, with_https_end}
+use Rattle.rpki_c.proofs.PlaceLaws.{https-cut, https-end-parts}
 use Rattle.rpki_c.proofs.https_parts.rpki_https_parts_parent.Goals as goal
 
 pub returns-in_default-parent_len : goal.returns-in_default-parent_len
@@ -31,6 +31,7 @@ returns c =
             refl,
             fits,
             https_end-text t _ n cut ends,
-            subst (λ (k : ℕ). AreHttpsParts (take n t) (with_https_end c.args.parts.now k)) (length-take-le n t fits) parts,
+            subst (λ (k : ℕ). AreHttpsParts (take n t) (with_https_end c.args.parts.now k))
+                (length-take-le n t fits) parts,
           ),
     )

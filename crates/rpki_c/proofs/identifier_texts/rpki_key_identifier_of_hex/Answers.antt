@@ -1,5 +1,5 @@
 use Rattle.std.proofs.Common.{refl, inr}
-use Rattle.rpki_c.proofs.HexTextLaws.{hex-IsUtf8}
+use Rattle.rpki_c.proofs.TextLaws.{hex-IsUtf8}
 use Rattle.rpki_c.proofs.identifier_texts.rpki_key_identifier_of_hex.Goals as goal
 
 pub returns-in_default : goal.returns-in_default

@@ -1,6 +1,6 @@
 use Rattle.std.proofs.lemmas.Bool.{iff_false}
 use Rattle.rpki_der.specs.Cursor.{left}
-use Rattle.rpki_c.proofs.IdentifierLaws.{parameters-read, parameters-unread}
+use Rattle.rpki_c.proofs.SignedLaws.{parameters-read, parameters-unread}
 use Rattle.rpki_c.proofs.identifiers.are_parameters.Goals as goal
 
 pub returns-in-Ok : goal.returns-in-Ok

@@ -1,4 +1,4 @@
-use Rattle.rpki_c.proofs.IdentifierLaws.{identifier-read, identifier-unread}
+use Rattle.rpki_c.proofs.SignedLaws.{identifier-read, identifier-unread}
 use Rattle.rpki_c.proofs.identifiers.begins_with_identifier.Goals as goal
 
 pub returns-in-Ok : goal.returns-in-Ok

@@ -1,5 +1,5 @@
 use Rattle.rpki_der.specs.Cursor.{left}
-use Rattle.rpki_c.proofs.IdentifierLaws.{named-read, named-unread}
+use Rattle.rpki_c.proofs.SignedLaws.{named-read, named-unread}
 use Rattle.rpki_c.proofs.identifiers.is_named.Goals as goal
 
 pub returns-in-Ok : goal.returns-in-Ok

@@ -1,5 +1,5 @@
 use Rattle.std.proofs.Common.{◌+◌, ◌*◌, ◌%◌, ◌^◌, ◌≡◌, ℕ}
-use Rattle.rpki_c.specs.Index.{Closes}
+use Rattle.rpki_c.specs.Front.{Closes}
 use Rattle.rpki_c.proofs.index.innermost.Given as goal
 
 abbrev pub invariant-ended : goal.invariant-ended

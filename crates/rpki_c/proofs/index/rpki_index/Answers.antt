@@ -1,6 +1,6 @@
 use Rattle.std.proofs.Common.{◌++◌, ◌∙◌, drop, map, inl, inr, refl, sym, ap, arith}
 use Rattle.std.proofs.lemmas.List.{length-map}
-use Rattle.rpki_c.specs.Index.{passed}
+use Rattle.rpki_c.specs.Front.{passed}
 use Rattle.rpki_c.proofs.FillingLaws.{front-index}
 use Rattle.rpki_c.proofs.index.rpki_index.Goals as goal
 

@@ -1,6 +1,5 @@
 use Rattle.std.proofs.Common.{◌+◌, arith}
-use Rattle.rpki_c.proofs.ViewCountLaws.{ip-kept}
-use Rattle.rpki_c.proofs.ResourceStatusLaws.{ip-too-many, ip-filled}
+use Rattle.rpki_c.proofs.ResourceLaws.{ip-kept, ip-too-many, ip-filled}
 use Rattle.rpki_c.proofs.ip_blocks.rpki_ip_blocks.Goals as goal
 
 pub overflow_add-all : goal.overflow_add-all

@@ -1,8 +1,7 @@
 use Rattle.std.proofs.Common.{ap, subst, arith}
 use Rattle.rpki_resources.specs.Kept.{IsChoiceOf}
-use Rattle.rpki_c.specs.Resources.{inherited_ip, ip_entry}
-use Rattle.rpki_c.specs.ViewCount.{view_count}
-use Rattle.rpki_c.proofs.ViewCountLaws.{inherited-entries, one-filled}
+use Rattle.rpki_c.specs.Resources.{inherited_ip, ip_entry, view_count}
+use Rattle.rpki_c.proofs.ResourceLaws.{inherited-entries, one-filled}
 use Rattle.rpki_c.proofs.ip_blocks.write_family.Goals as goal
 
 pub returns-in-Inherit : goal.returns-in-Inherit

@@ -1,5 +1,5 @@
 use Rattle.std.proofs.Common.{arith}
-use Rattle.rpki_c.proofs.BlockListLaws.{gives-some, gives-none, filling-none, filling-within, filling-next, filling-all}
+use Rattle.rpki_c.proofs.ResourceLaws.{gives-some, gives-none, filling-none, filling-within, filling-next, filling-all}
 use Rattle.rpki_c.proofs.ip_blocks.write_listed.Goals as goal
 
 pub each-init : goal.each-init

@@ -2,7 +2,7 @@ use Rattle.std.proofs.Common.{List, length}
 use Rattle.rpki_resources.specs.declared.block.Block.{Block}
 use Rattle.rpki_resources.specs.InPlace.{Holds, IsLeft}
 use Rattle.rpki_c.specs.Resources.{ip_entry}
-use Rattle.rpki_c.proofs.BlockListLaws.{IsFilling}
+use Rattle.rpki_c.proofs.ResourceLaws.{IsFilling}
 use Rattle.rpki_c.proofs.ip_blocks.write_listed.Given as goal
 
 -- of the blocks the first ones are written, and the others remain

@@ -1,4 +1,4 @@
-use Rattle.rpki_c.proofs.KeyStatusLaws.{no-key}
+use Rattle.rpki_c.proofs.StatusLaws.{no-key}
 use Rattle.rpki_c.proofs.key_writing.kept_key.Goals as goal
 
 pub returns-in-Err-clause-err : goal.returns-in-Err-clause-err

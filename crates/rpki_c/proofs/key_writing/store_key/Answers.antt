@@ -1,4 +1,4 @@
-use Rattle.rpki_c.proofs.MadeLaws.{made-if}
+use Rattle.rpki_c.proofs.StatusLaws.{made-if}
 use Rattle.rpki_c.proofs.key_writing.store_key.Goals as goal
 
 pub returns : goal.returns

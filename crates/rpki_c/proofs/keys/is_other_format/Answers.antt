@@ -2,7 +2,7 @@ use Rattle.rpki_der.specs.Reading.{Refuses}
 use Rattle.rpki_der.proofs.InsideLaws.{unless-memory}
 use Rattle.rpki.specs.KeyFormat.{SpellsFormat}
 use Rattle.rpki.proofs.AlgorithmFaultLaws.{format-outer}
-use Rattle.rpki_c.proofs.IdentifierLaws.{other-read, other-unread}
+use Rattle.rpki_c.proofs.SignedLaws.{other-read, other-unread}
 use Rattle.rpki_c.proofs.keys.is_other_format.Goals as goal
 
 pub returns-in-Ok : goal.returns-in-Ok

@@ -1,6 +1,6 @@
 use Rattle.rpki.specs.KeyFormat.{SpellsFormat}
 use Rattle.rpki_c.specs.Identifier.{IsOther}
-use Rattle.rpki_c.proofs.IdentifierLaws.{first-read, first-unread}
+use Rattle.rpki_c.proofs.SignedLaws.{first-read, first-unread}
 use Rattle.rpki_c.proofs.keys.is_other_key.Goals as goal
 
 pub returns-in-Ok : goal.returns-in-Ok

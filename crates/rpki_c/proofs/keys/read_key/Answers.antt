@@ -1,4 +1,4 @@
-use Rattle.rpki_c.proofs.KeyStatusLaws.{no-key}
+use Rattle.rpki_c.proofs.StatusLaws.{no-key}
 use Rattle.rpki_c.proofs.keys.read_key.Goals as goal
 
 pub returns-in-Err-clause-err : goal.returns-in-Err-clause-err

@@ -1,6 +1,6 @@
 use Rattle.std.proofs.Common.{inl, subst, ◌∙◌}
 use Rattle.jiff.specs.Types.{DateTime}
-use Rattle.rpki_c.specs.Periods.{IsToldOf}
+use Rattle.rpki_c.specs.Moments.{IsToldOf}
 use Rattle.rpki_c.proofs.list_issued.in_force.Goals as goal
 
 pub returns : goal.returns

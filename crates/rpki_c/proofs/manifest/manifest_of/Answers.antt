@@ -1,6 +1,6 @@
 use Rattle.std.proofs.Common.{◌∙◌, refl, sym}
 use Rattle.rpki_contents.specs.ManifestView.{parts_in}
-use Rattle.rpki_c.proofs.ContentLaws.{is-listing, held, is-time}
+use Rattle.rpki_c.proofs.ObjectLaws.{is-listing, held, is-time}
 use Rattle.rpki_c.proofs.MomentLaws.{moment}
 use Rattle.rpki_c.proofs.manifest.manifest_of.Goals as goal
 

@@ -2,7 +2,7 @@ use Rattle.std.proofs.Common.{inl, inr, refl}
 use Rattle.rpki_contents.specs.ListedFile.{file}
 use Rattle.rpki_contents.specs.ManifestView.{file_in}
 use Rattle.rpki_contents.proofs.FilesLaws.{file-no-memory}
-use Rattle.rpki_c.proofs.RefusedLaws.{front-refused}
+use Rattle.rpki_c.proofs.StatusLaws.{front-refused}
 use Rattle.rpki_c.proofs.manifest.rpki_manifest_file.Goals as goal
 
 pub returns-in-Ok : goal.returns-in-Ok

@@ -1,6 +1,6 @@
 use Rattle.std.proofs.Common.{◌<◌, length, inl, inr, refl, arith}
 use Rattle.rpki_contents.specs.ManifestView.{parts_in}
-use Rattle.rpki_c.proofs.ContentLaws.{is-listing, held}
+use Rattle.rpki_c.proofs.ObjectLaws.{is-listing, held}
 use Rattle.rpki_c.proofs.manifest_names.rpki_manifest_names.Goals as goal
 
 pub returns-then-room-count : goal.returns-then-room-count

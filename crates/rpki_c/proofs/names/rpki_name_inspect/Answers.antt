@@ -1,6 +1,6 @@
 use Rattle.std.proofs.Common.{inl, inr, arith, ◌<◌, List, ℕ, subst}
 use Rattle.rpki_c.specs.Names.{BreaksProfile}
-use Rattle.rpki_c.proofs.NameStatusLaws.{not-of}
+use Rattle.rpki_c.proofs.StatusLaws.{not-of}
 use Rattle.rpki_c.proofs.names.rpki_name_inspect.Goals as goal
 
 pub returns-in-Err-inspect : goal.returns-in-Err-inspect

@@ -1,8 +1,8 @@
 use Rattle.std.proofs.Common.{List, ℕ, inl, inr, refl, subst, sym}
 use Rattle.rpki_cert.specs.declared.profile.Profile.TheVariants.{Ee}
 use Rattle.rpki_cert.specs.Cert.{SpellsCert}
-use Rattle.rpki_c.specs.CertificateChecked.{HasAll}
-use Rattle.rpki_c.proofs.InspectionLaws.{refused-as}
+use Rattle.rpki_c.specs.CertificateProfile.{HasAll}
+use Rattle.rpki_c.proofs.CertificateLaws.{refused-as}
 use Rattle.rpki_c.proofs.object_checked.rpki_signed_object_checked.Goals as goal
 
 pub check-requires : goal.check-requires

@@ -6,8 +6,8 @@ use Rattle.rpki_objects.specs.declared.signed_object_view.SignedObjectView.{Sign
 use Rattle.rpki_attributes.specs.SignedAttributes.{AttributeValues}
 use Rattle.rpki_objects.specs.SignedObject.{ObjectParts}
 use Rattle.rpki_objects.specs.SignedObjectView.{IsObjectAt}
-use Rattle.rpki_c.specs.ObjectVerified.{HasSignedType, HasSignedDigest}
-use Rattle.rpki_c.proofs.SignedObjectLaws.{same-told}
+use Rattle.rpki_c.specs.SignedObject.{HasSignedType, HasSignedDigest}
+use Rattle.rpki_c.proofs.ObjectLaws.{same-told}
 use Rattle.rpki_c.proofs.object_verified.test_content.Goals as goal
 
 module _ (strict : Bool) (s : List ℕ) (x : ObjectParts) (v : SignedObjectView) (at : IsObjectAt strict s v x) (b : Bool)

@@ -1,5 +1,5 @@
 use Rattle.std.proofs.Common.{refl, arith}
-use Rattle.rpki_c.proofs.RsyncPlacesLaws.{parts-cut}
+use Rattle.rpki_c.proofs.PlaceLaws.{parts-cut}
 use Rattle.rpki_c.proofs.rsync_parts.cut.Goals as goal
 
 -- the places of parts are the text's own

@@ -1,5 +1,5 @@
 use Rattle.std.proofs.Common.{refl, inr}
-use Rattle.rpki_c.proofs.RsyncPlacesLaws.{parts-cut, lower-canonical}
+use Rattle.rpki_c.proofs.PlaceLaws.{parts-cut, lower-canonical}
 use Rattle.rpki_c.proofs.rsync_parts.rpki_rsync_parts_canonical.Goals as goal
 
 pub returns : goal.returns

@@ -1,7 +1,7 @@
 use Rattle.std.proofs.Common.{inr, ap, ◌∙◌}
 use Rattle.rpki_text.specs.Segments.{with_slash}
 use Rattle.rpki_text.proofs.JoinLaws.{cut-dir}
-use Rattle.rpki_c.proofs.RsyncPlacesLaws.{parts-cut, end-parts}
+use Rattle.rpki_c.proofs.PlaceLaws.{parts-cut, end-parts}
 use Rattle.rpki_c.proofs.rsync_parts.rpki_rsync_parts_into_dir.Goals as goal
 
 pub returns : goal.returns
@@ -11,5 +11,6 @@ returns c =
       laid,
       λ a.
           let text = c.as_dir.ensures (c.in-Some.ensures.own a) ∙ ap with_slash c.in-Some.ensures.text in
-          (rw text at c.store_joined.ensures, end-parts laid (cut-dir c.args.text.now _ _ (parts-cut a))),
+          let cut = cut-dir c.args.text.now _ _ (parts-cut a) in
+          (rw text at c.store_joined.ensures, end-parts laid cut),
     )

@@ -1,7 +1,7 @@
 use Rattle.std.proofs.Common.{inl, inr, ap, ◌∙◌}
 use Rattle.rpki_text.specs.RsyncText.{joined}
 use Rattle.rpki_text.proofs.JoinLaws.{cut-joined-any}
-use Rattle.rpki_c.proofs.RsyncPlacesLaws.{parts-cut, end-parts}
+use Rattle.rpki_c.proofs.PlaceLaws.{parts-cut, end-parts}
 use Rattle.rpki_c.proofs.rsync_parts.rpki_rsync_parts_join.Goals as goal
 
 pub returns-in-Ok : goal.returns-in-Ok

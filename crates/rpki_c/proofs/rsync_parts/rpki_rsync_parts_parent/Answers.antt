@@ -1,8 +1,8 @@
 use Rattle.std.proofs.Common.{ℕ, take, refl, inl, inr, subst}
 use Rattle.std.proofs.lemmas.List.{length-take-le}
 use Rattle.rpki_text.proofs.ParentEndLaws.{parent_end-cut, parent_end-text}
-use Rattle.rpki_c.specs.RsyncPlaces.{AreParts, with_end}
-use Rattle.rpki_c.proofs.RsyncPlacesLaws.{parts-cut, end-parts}
+use Rattle.rpki_c.specs.UriPlaces.{AreParts, with_end}
+use Rattle.rpki_c.proofs.PlaceLaws.{parts-cut, end-parts}
 use Rattle.rpki_c.proofs.rsync_parts.rpki_rsync_parts_parent.Goals as goal
 
 pub returns-in_default-parent_len : goal.returns-in_default-parent_len
@@ -31,6 +31,7 @@ returns c =
             refl,
             fits,
             parent_end-text t _ _ n cut ends,
-            subst (λ (k : ℕ). AreParts (take n t) (with_end c.args.parts.now k)) (length-take-le n t fits) parts,
+            subst (λ (k : ℕ). AreParts (take n t) (with_end c.args.parts.now k))
+                (length-take-le n t fits) parts,
           ),
     )

@@ -1,5 +1,5 @@
 use Rattle.rpki_der.proofs.IntegerLaws.{octets-fit}
-use Rattle.rpki_c.specs.SerialTable.{IsTwenty}
+use Rattle.rpki_c.specs.Serial.{IsTwenty}
 use Rattle.rpki_c.proofs.SerialTableLaws.{table-told}
 use Rattle.rpki_c.proofs.serial_table.rpki_serials_have.Goals as goal
 

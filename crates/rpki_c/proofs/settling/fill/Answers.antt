@@ -2,7 +2,7 @@ use Rattle.std.proofs.Common.{◌+◌, map, length, refl, inl, arith, sym}
 use Rattle.std.proofs.lemmas.List.{length-map}
 use Rattle.rpki_resources.specs.declared.family.AddressFamily.TheVariants.{Ipv4, Ipv6}
 use Rattle.rpki_c.specs.Resources.{ip_entry}
-use Rattle.rpki_c.proofs.ResourceStatusLaws.{two-filled}
+use Rattle.rpki_c.proofs.ResourceLaws.{two-filled}
 use Rattle.rpki_c.proofs.settling.fill.Goals as goal
 
 pub returns : goal.returns

@@ -2,7 +2,7 @@ use Rattle.std.proofs.Common.{length}
 use Rattle.rpki_resources.specs.declared.kind.ResourceKind.TheVariants.{AsNumbers}
 use Rattle.rpki_resources.specs.Encoded.{AreBlocksOf}
 use Rattle.rpki_c.specs.Resources.{as_entry}
-use Rattle.rpki_c.proofs.BlockListLaws.{IsFilling}
+use Rattle.rpki_c.proofs.ResourceLaws.{IsFilling}
 use Rattle.rpki_c.proofs.settling.fill_as.Given as goal
 
 -- of the blocks the first ones are written, and the others remain

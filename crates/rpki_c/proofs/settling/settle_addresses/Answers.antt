@@ -1,6 +1,6 @@
 use Rattle.std.proofs.Common.{inl, inr, refl}
 use Rattle.rpki_c.specs.Settling.{IsOverclaimed}
-use Rattle.rpki_c.proofs.SettlingLaws.{refused-by}
+use Rattle.rpki_c.proofs.ResourceLaws.{refused-by}
 use Rattle.rpki_c.proofs.settling.settle_addresses.Goals as goal
 
 pub returns-in-Err-settle : goal.returns-in-Err-settle

@@ -1,4 +1,4 @@
-use Rattle.rpki_c.proofs.SettlingLaws.{settled-fits}
+use Rattle.rpki_c.proofs.ResourceLaws.{settled-fits}
 use Rattle.rpki_c.proofs.settling.settle_numbers.Goals as goal
 
 pub fill_as-requires : goal.fill_as-requires

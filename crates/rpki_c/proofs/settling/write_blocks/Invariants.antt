@@ -1,6 +1,6 @@
 use Rattle.std.proofs.Common.{length}
 use Rattle.rpki_c.specs.Resources.{ip_entry}
-use Rattle.rpki_c.proofs.BlockListLaws.{IsFilling}
+use Rattle.rpki_c.proofs.ResourceLaws.{IsFilling}
 use Rattle.rpki_c.proofs.settling.write_blocks.Given as goal
 
 -- of the blocks the first ones are written, and the others remain

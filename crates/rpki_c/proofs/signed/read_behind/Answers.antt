@@ -12,8 +12,7 @@ use Rattle.rpki.proofs.SigningLaws.{no-algorithm, no-signature, contents-accepte
 use Rattle.rpki.proofs.SigningLaws.{signature-refused}
 use Rattle.rpki_c.specs.Identifier.{IsOther}
 use Rattle.rpki_c.specs.Signed.{SpellsRpkiAlgorithm, AreRpkiParts}
-use Rattle.rpki_c.proofs.SignedReadingLaws.{in-contents, front-of}
-use Rattle.rpki_c.proofs.ElseLaws.{follows, not-other}
+use Rattle.rpki_c.proofs.SignedLaws.{in-contents, front-of, follows, not-other}
 use Rattle.rpki_c.proofs.signed.read_behind.Goals as goal
 
 pub returns-in-Err-clause-reads : goal.returns-in-Err-clause-reads

@@ -5,8 +5,7 @@ use Rattle.rpki_der.proofs.ComposedLaws.{nothing-whole}
 use Rattle.rpki.proofs.SigningLaws.{no-value}
 use Rattle.rpki_c.specs.Identifier.{IsOther}
 use Rattle.rpki_c.specs.Signed.{SpellsRpkiAlgorithm, AreRpkiParts}
-use Rattle.rpki_c.proofs.SignedReadingLaws.{split-value}
-use Rattle.rpki_c.proofs.ElseLaws.{no-front}
+use Rattle.rpki_c.proofs.SignedLaws.{split-value, no-front}
 use Rattle.rpki_c.proofs.signed.read_parts.Goals as goal
 
 pub returns-in-Err-clause-reads : goal.returns-in-Err-clause-reads

@@ -4,8 +4,7 @@ use Rattle.rpki_der.specs.TagName.{sequence}
 use Rattle.rpki_der.proofs.ComposedLaws.{all-read, inner-accepted, more-left, not-read}
 use Rattle.rpki_der.proofs.ReadingLaws.{UnlessMemory-weaker}
 use Rattle.rpki_c.specs.Signed.{SpellsRpki, AreRpkiParts, AreOtherParts, IsOtherSigned, IsSignedFault, signed_in}
-use Rattle.rpki_c.proofs.SignedReadingLaws.{sequence-refused, parts-refused, in-signed}
-use Rattle.rpki_c.proofs.ElseLaws.{no-first, inside}
+use Rattle.rpki_c.proofs.SignedLaws.{sequence-refused, parts-refused, in-signed, no-first, inside}
 use Rattle.rpki_c.proofs.signed.read_signed.Goals as goal
 
 pub returns-in-Err-clause-reads : goal.returns-in-Err-clause-reads

@@ -1,5 +1,5 @@
 use Rattle.std.proofs.Common.{inl}
-use Rattle.rpki_c.proofs.MadeLaws.{made-if}
+use Rattle.rpki_c.proofs.StatusLaws.{made-if}
 use Rattle.rpki_c.proofs.signed_making.rpki_signed_data_make.Goals as goal
 
 pub signed_of-requires : goal.signed_of-requires

@@ -1,6 +1,6 @@
 use Rattle.std.proofs.Common.{◌∙◌, ap, sym}
 use Rattle.rpki_attributes.specs.SignedAttributes.{AttributeValues, values_known, message_of}
-use Rattle.rpki_c.proofs.SignedObjectLaws.{values-told, same-told}
+use Rattle.rpki_c.proofs.ObjectLaws.{values-told, same-told}
 use Rattle.rpki_c.proofs.signed_object.object_of.Goals as goal
 
 pub returns-clause-object : goal.returns-clause-object

@@ -1,5 +1,5 @@
 use Rattle.std.proofs.Common.{refl, inl, inr}
-use Rattle.rpki_c.proofs.MadeLaws.{made-if}
+use Rattle.rpki_c.proofs.StatusLaws.{made-if}
 use Rattle.rpki_c.proofs.signed_writing.rpki_signed_data_write.Goals as goal
 
 pub signed_of-requires : goal.signed_of-requires

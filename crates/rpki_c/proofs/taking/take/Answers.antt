@@ -1,7 +1,7 @@
 use Rattle.std.proofs.Common.{inl, inr, refl}
 use Rattle.rpki_der.specs.Cursor.{left}
 use Rattle.rpki_c.specs.Taking.{value_of}
-use Rattle.rpki_c.proofs.RefusedLaws.{front-refused}
+use Rattle.rpki_c.proofs.StatusLaws.{front-refused}
 use Rattle.rpki_c.proofs.taking.take.Goals as goal
 
 pub returns-in-Ok : goal.returns-in-Ok
