@@ -5,16 +5,6 @@ use Rattle.rpki_cert.proofs.GeneralNameLaws.{name-no-memory}
 use Rattle.rpki_c.proofs.StatusLaws.{front-refused}
 use Rattle.rpki_c.proofs.access.rpki_general_name.Goals as goal
 
-pub returns-in-Ok : goal.returns-in-Ok
-returns-in-Ok c =
-    let h = rw c.from_slice-cursor.ensures at c.in-Ok.ensures in
-    inl (
-      refl,
-      option_copied c.in-Ok.found,
-      rw (c.of.ensures, c.rest.ensures) h,
-      record { uri = c.text_of.ensures; is_uri = c.is_uri.ensures },
-    )
-
 pub returns-in-Err : goal.returns-in-Err
 returns-in-Err c =
     let h = rw c.from_slice-cursor.ensures at c.in-Err.ensures in

@@ -4,11 +4,6 @@ use Rattle.rpki_c.proofs.ObjectLaws.{number-no-memory}
 use Rattle.rpki_c.proofs.StatusLaws.{front-refused}
 use Rattle.rpki_c.proofs.aspa.rpki_aspa_provider.Goals as goal
 
-pub returns-in-Ok : goal.returns-in-Ok
-returns-in-Ok c =
-    let h = rw c.from_slice-cursor.ensures at c.in-Ok.ensures in
-    inl (refl, c.in-Ok.number, rw (c.of.ensures, c.rest.ensures) h, refl)
-
 pub returns-in-Err : goal.returns-in-Err
 returns-in-Err c =
     let h = rw c.from_slice-cursor.ensures at c.in-Err.ensures in

@@ -5,6 +5,3 @@ pub returns-in-Ok : goal.returns-in-Ok
 returns-in-Ok c =
     let (x, h) = c.in-Ok.ensures.ok in
     inl (refl, (x, h.spelled), refl)
-
-pub returns-in-Err : goal.returns-in-Err
-returns-in-Err c = inr (c.in-Err.wrong, c.in-Err.ensures.err, c.part_number.ensures, c.number.ensures)

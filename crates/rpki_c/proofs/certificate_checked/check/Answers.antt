@@ -3,12 +3,6 @@ use Rattle.rpki_c.specs.CertificateProfile.IsRefusedAs.{WrongPart}
 use Rattle.rpki_c.proofs.CertificateLaws.{refused-as}
 use Rattle.rpki_c.proofs.certificate_checked.check.Goals as goal
 
-pub check-requires : goal.check-requires
-check-requires c = let (x, h) = c.in-Ok.ensures.ok in (c.args.octets.now, x, h)
-
-pub parts_of-requires : goal.parts_of-requires
-parts_of-requires c = c.in-Ok.ensures.ok
-
 pub extensions_of-requires : goal.extensions_of-requires
 extensions_of-requires c =
     let (x, h) = c.in-Ok.ensures.ok in

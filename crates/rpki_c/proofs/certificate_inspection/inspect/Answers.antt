@@ -1,9 +1,6 @@
 use Rattle.std.proofs.Common.{inl, inr, refl}
 use Rattle.rpki_c.proofs.certificate_inspection.inspect.Goals as goal
 
-pub test-requires : goal.test-requires
-test-requires c = let (x, h) = c.in-Ok.ensures.ok in (c.args.octets.now, x, h)
-
 pub returns-in-Ok-test : goal.returns-in-Ok-test
 returns-in-Ok-test c =
     let (x, h) = c.in-Ok.ensures.ok in
@@ -18,8 +15,3 @@ returns-in-Err-test c =
       c.cert_rule_number.ensures,
       record { cert = x; spelled = h.spelled; first = broken.0; other = broken.1 },
     ))
-
-pub returns-in-Err : goal.returns-in-Err
-returns-in-Err c =
-    let q = c.in-Err.wrong in
-    inr (inr (q.part, c.part_number.ensures, (q.error, c.in-Err.ensures.err)))

@@ -1,18 +1,6 @@
 use Rattle.std.proofs.Common.{inr, refl}
 use Rattle.rpki_c.proofs.certificate_resources.read_policy.Goals as goal
 
-pub returns-in-Some-clause-ok : goal.returns-in-Some-clause-ok
-returns-in-Some-clause-ok c =
-    let (x, h) = c.in-Ok.ensures in (
-      x,
-      h.cert,
-      record {
-        known = c.in-Ok.found.known;
-        read = record { spelled = h.cert.spelled; says = h.says };
-        policy_is = c.in-Some.is;
-      },
-    )
-
 pub returns-in-None-clause-err : goal.returns-in-None-clause-err
 returns-in-None-clause-err c =
     let (x, h) = c.in-Ok.ensures in

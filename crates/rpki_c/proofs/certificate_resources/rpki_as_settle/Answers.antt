@@ -6,9 +6,6 @@ use Rattle.rpki_c.proofs.CertificateLaws.{listed}
 use Rattle.rpki_c.proofs.ResourceLaws.{numbers-kept, numbers-fit}
 use Rattle.rpki_c.proofs.certificate_resources.rpki_as_settle.Goals as goal
 
-pub returns-in-Err : goal.returns-in-Err
-returns-in-Err c = inr (inl (c.in-Err.ensures.err, record { array = refl; size = refl }))
-
 pub settle_numbers-requires : goal.settle_numbers-requires
 settle_numbers-requires c = λ v k.
     let (x, cert, has) = c.in-Ok.ensures.ok in

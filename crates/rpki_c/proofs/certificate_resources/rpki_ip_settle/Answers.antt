@@ -6,9 +6,6 @@ use Rattle.rpki_c.proofs.CertificateLaws.{listed}
 use Rattle.rpki_c.proofs.ResourceLaws.{addresses-kept}
 use Rattle.rpki_c.proofs.certificate_resources.rpki_ip_settle.Goals as goal
 
-pub returns-in-Err : goal.returns-in-Err
-returns-in-Err c = inr (inl (c.in-Err.ensures.err, record { array = refl; size = refl }))
-
 pub returns-in-Ok-ip_resources : goal.returns-in-Ok-ip_resources
 returns-in-Ok-ip_resources c =
     let (x, cert, has) = c.in-Ok.ensures.ok in

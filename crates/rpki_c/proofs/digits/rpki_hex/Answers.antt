@@ -7,9 +7,3 @@ pub returns-then-len-out : goal.returns-then-len-out
 returns-then-len-out c =
     let size = length-hex_text c.args.octets.now in
     inr (refl, record { short = omega (arith, size); buffer = refl; size = sym size })
-
-pub returns : goal.returns
-returns c =
-    let size = length-hex_text c.args.octets.now in
-    let buffer = c.write_digits.ensures ∙ ap (λ n. hex_text c.args.octets.now ++ drop n c.args.out.now) (sym size) in
-    inl (refl, record { room = omega (arith, size); buffer = buffer; size = sym size })

@@ -2,9 +2,6 @@ use Rattle.std.proofs.Common.{inl, inr, refl}
 use Rattle.rpki_c.proofs.ResourceLaws.{kept-ip}
 use Rattle.rpki_c.proofs.encompassing.rpki_ip_blocks_encompass.Goals as goal
 
-pub returns-in-Some : goal.returns-in-Some
-returns-in-Some c = let h = c.in-Some.ensures.some in inl (h.0, h.1, h.2, h.3, inl (refl, h.4))
-
 pub returns-in-Ok-read_ip : goal.returns-in-Ok-read_ip
 returns-in-Ok-read_ip c =
     let (x, h) = kept-ip c.in-Ok.field-0 c.args.outer.now c.in-Ok.ensures.0 in

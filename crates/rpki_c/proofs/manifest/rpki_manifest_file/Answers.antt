@@ -5,16 +5,6 @@ use Rattle.rpki_contents.proofs.FilesLaws.{file-no-memory}
 use Rattle.rpki_c.proofs.StatusLaws.{front-refused}
 use Rattle.rpki_c.proofs.manifest.rpki_manifest_file.Goals as goal
 
-pub returns-in-Ok : goal.returns-in-Ok
-returns-in-Ok c =
-    let h = rw c.from_slice-cursor.ensures at c.in-Ok.ensures in
-    inl (
-      refl,
-      file_in c.in-Ok.file,
-      rw (c.of.ensures, c.rest.ensures) h,
-      record { name = c.of-in-Ok.ensures; digest = c.into_array.ensures },
-    )
-
 pub returns-in-Err : goal.returns-in-Err
 returns-in-Err c =
     let h = rw c.from_slice-cursor.ensures at c.in-Err.ensures in

@@ -5,9 +5,6 @@ use Rattle.rpki_c.specs.CertificateProfile.{HasAll}
 use Rattle.rpki_c.proofs.CertificateLaws.{refused-as}
 use Rattle.rpki_c.proofs.object_checked.rpki_signed_object_checked.Goals as goal
 
-pub check-requires : goal.check-requires
-check-requires c = let (x, at) = c.in-Ok.ensures.ok in (_, x.cert, at.parts.cert_parts)
-
 pub parts_of-requires : goal.parts_of-requires
 parts_of-requires c =
     let (x, at) = c.in-Ok.ensures.ok in

@@ -2,9 +2,6 @@ use Rattle.std.proofs.Common.{inl, inr, refl, ◌∙◌, sym, ap, Some}
 use Rattle.std.proofs.lemmas.Bool.{iff_false}
 use Rattle.rpki_c.proofs.signed_by.rpki_certificate_signed_by.Goals as goal
 
-pub returns-in-Err : goal.returns-in-Err
-returns-in-Err c = inl c.in-Err.ensures
-
 pub returns-then-not-is_identifier : goal.returns-then-not-is_identifier
 returns-then-not-is_identifier c =
     let (x, y, h) = c.in-Ok.ensures in

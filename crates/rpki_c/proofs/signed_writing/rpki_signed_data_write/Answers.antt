@@ -2,20 +2,10 @@ use Rattle.std.proofs.Common.{refl, inl, inr}
 use Rattle.rpki_c.proofs.StatusLaws.{made-if}
 use Rattle.rpki_c.proofs.signed_writing.rpki_signed_data_write.Goals as goal
 
-pub signed_of-requires : goal.signed_of-requires
-signed_of-requires c =
-    let h = rw c.in-Some.is at c.in-Ok.ensures.reads in
-    h.1.0.spelled.one
-
 pub returns-in-Some : goal.returns-in-Some
 returns-in-Some c =
     let h = rw c.in-Some.is at c.in-Ok.ensures.reads in
     inl (_, h.1.0, made-if c.signed_of.ensures.short c.signed_of.ensures.octets c.store_if_short.ensures)
-
-pub returns-in-None : goal.returns-in-None
-returns-in-None c =
-    let h = rw c.in-None.is at c.in-Ok.ensures.reads in
-    inr (inl (refl, h, record { buffer = refl; size = refl }))
 
 pub returns-in-Err : goal.returns-in-Err
 returns-in-Err c =

@@ -4,16 +4,6 @@ use Rattle.rpki_c.specs.Taking.{value_of}
 use Rattle.rpki_c.proofs.StatusLaws.{front-refused}
 use Rattle.rpki_c.proofs.taking.take.Goals as goal
 
-pub returns-in-Ok : goal.returns-in-Ok
-returns-in-Ok c =
-    let h = rw c.from_slice-cursor.ensures at c.in-Ok.ensures in
-    inl (
-      refl,
-      left c.in-Ok.found,
-      rw (c.of.ensures, c.rest.ensures) h,
-      rw (c.of-in-Ok.ensures, c.rest-in-Ok.ensures) refl,
-    )
-
 pub returns-in-Err : goal.returns-in-Err
 returns-in-Err c =
     let h = rw c.from_slice-cursor.ensures at c.in-Err.ensures in

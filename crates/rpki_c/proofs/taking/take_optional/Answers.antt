@@ -5,25 +5,6 @@ use Rattle.rpki_c.specs.Taking.{value_of}
 use Rattle.rpki_c.proofs.StatusLaws.{front-refused}
 use Rattle.rpki_c.proofs.taking.take_optional.Goals as goal
 
-pub returns-then-not-has_tag : goal.returns-then-not-has_tag
-returns-then-not-has_tag c =
-    let none = iff_false (rw c.from_slice-cursor.ensures at c.has_tag.ensures) c.if-not-has_tag.true in
-    inl (none, refl, refl, c.of.ensures, refl)
-
-pub returns-in-Ok : goal.returns-in-Ok
-returns-in-Ok c =
-    let some = (rw c.from_slice-cursor.ensures at c.has_tag.ensures).0 c.if-not-has_tag.false in
-    let h = rw c.from_slice-cursor.ensures at c.in-Ok.ensures in
-    inr (
-      some,
-      inl (
-        refl,
-        left c.in-Ok.value,
-        rw (c.of-in-Ok.ensures, c.rest.ensures) h,
-        (rw (c.of-in-Ok-2.ensures, c.rest-in-Ok.ensures) refl, refl),
-      ),
-    )
-
 pub returns-in-Err : goal.returns-in-Err
 returns-in-Err c =
     let some = (rw c.from_slice-cursor.ensures at c.has_tag.ensures).0 c.if-not-has_tag.false in
