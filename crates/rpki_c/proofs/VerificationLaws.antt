@@ -3,15 +3,13 @@ use Rattle.std.proofs.Common.{◌≡◌, ℕ, List, Bool, true, false, Err, inl,
 use Rattle.std.specs.Prelude.{◌↔◌, IsTrue}
 use Rattle.std.proofs.lemmas.Bool.{false≢true}
 use Rattle.sha2.specs.Sha256.{sha256}
-use Rattle.rpki_der.specs.declared.error.DecodeError.{DecodeError}
-use Rattle.rpki_der.specs.Reading.{SpellsNothing, UnlessMemory}
 use Rattle.rpki.specs.declared.crypto.keys.PublicKeyFormat.TheVariants.{Rsa}
-use Rattle.rpki.specs.PublicKey.{KeyParts, SpellsKey}
+use Rattle.rpki.specs.PublicKey.{KeyParts}
 use Rattle.rpki_rsa.specs.declared.error.KeyError.{KeyError}
 use Rattle.rpki_rsa.specs.Key.{SpellsKey as SpellsRsaKey, IsKeyOf, IsSignature}
 use Rattle.rpki_rsa.specs.RsaKey.{RsaKey}
 use Rattle.rpki_rsa.proofs.KeyLemmas.{one-key, no-key}
-use Rattle.rpki_c.specs.Key.{IsWholeKeyFault, IsKeyStatus, IsVerified, IsVerifiedBy, HasSigned}
+use Rattle.rpki_c.specs.Key.{IsVerifiedBy, HasSigned}
 
 pub bad-signature : (k : KeyParts) (message signature : List ℕ) (key : RsaKey) (b : Bool) → k.format ≡ Rsa
     → SpellsRsaKey key k.bits.octets → (IsTrue b ↔ IsSignature key (sha256 message) signature) → b ≡ false

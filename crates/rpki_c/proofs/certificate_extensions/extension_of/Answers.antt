@@ -1,6 +1,6 @@
 use Rattle.std.proofs.Common.{◌∙◌, Option, refl, subst}
 use Rattle.rpki.specs.ExtensionValue.{ExtensionParts}
-use Rattle.rpki_c.specs.CertificateExtensions.{IsKnownAs}
+use Rattle.rpki_c.specs.Extension.{IsKnownAs}
 use Rattle.rpki_c.proofs.CertificateLaws.{listed}
 use Rattle.rpki_c.proofs.certificate_extensions.extension_of.Goals as goal
 
@@ -9,8 +9,3 @@ returns-in-Some c = λ s x h.
     let some = c.in-Some.ensures x.tbs.extensions (listed h) in
     subst (λ (o : Option ExtensionParts). IsKnownAs o c.result) some
     (refl, c.critical.ensures, c.of.ensures ∙ c.octets.ensures)
-
-pub returns-in-None : goal.returns-in-None
-returns-in-None c = λ s x h.
-    let none = c.in-None.ensures x.tbs.extensions (listed h) in
-    subst (λ (o : Option ExtensionParts). IsKnownAs o c.result) none (refl, refl, c.of-in-None.ensures)

@@ -5,15 +5,6 @@ use Rattle.rpki_c.specs.UriPlaces.{AreHttpsParts, with_https_end}
 use Rattle.rpki_c.proofs.PlaceLaws.{https-cut, https-end-parts}
 use Rattle.rpki_c.proofs.https_parts.rpki_https_parts_parent.Goals as goal
 
-pub returns-in_default-parent_len : goal.returns-in_default-parent_len
-returns-in_default-parent_len c =
-    inr (
-      c.in-Some.ensures.laid_out,
-      λ a.
-          let none = c.in_default-parent_len.ensures.none (c.in-Some.ensures.own a) in
-          inr (refl, rw c.in-Some.ensures.text at none, refl),
-    )
-
 pub returns : goal.returns
 returns c =
     let t = c.args.text.now in

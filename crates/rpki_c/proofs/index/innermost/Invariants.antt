@@ -1,4 +1,4 @@
-use Rattle.std.proofs.Common.{◌+◌, ◌*◌, ◌%◌, ◌^◌, ◌≡◌, ℕ}
+use Rattle.std.proofs.Common.{◌+◌, ◌%◌, ◌^◌, ℕ}
 use Rattle.rpki_c.specs.Front.{Closes}
 use Rattle.rpki_c.proofs.index.innermost.Given as goal
 

@@ -1,7 +1,7 @@
-use Rattle.std.proofs.Common.{◌≤◌, ◌+◌, arith, ap, length, refl}
+use Rattle.std.proofs.Common.{◌≤◌, ◌+◌, arith, ap, length}
 use Rattle.std.specs.Prelude.{set}
 use Rattle.rpki_c.specs.declared.index.Entry.{Entry}
-use Rattle.rpki_c.proofs.FillingLaws.{filling-none, filling-all, has-next, step}
+use Rattle.rpki_c.proofs.FillingLaws.{filling-none, has-next, step}
 use Rattle.rpki_c.proofs.index.write_index.Goals.{then-found, else-found}
 use Rattle.rpki_c.proofs.index.write_index.Goals as goal
 
@@ -19,13 +19,6 @@ innermost-parent-requires c =
     let n = has-next c.values.invariant.filling c.values-test.true in
     (n.entry.parent, n.is.closes)
 
-pub entry_at-requires : goal.entry_at-requires
-entry_at-requires c =
-    let n = has-next c.values.invariant.filling c.values-test.true in
-    let t = step c.in-Ok.found.1 n (omega (arith, c.requires.room, c.values-test.true)) c.in-Ok.ensures.ok
-    c.in-Ok.ensures.within (c.innermost-parent.ensures n.entry.parent n.is.closes) refl in
-    omega (arith, t.fits)
-
 pub values-preserved : goal.values-preserved
 values-preserved c =
     let n = has-next c.values.invariant.filling c.values-test.true in
@@ -39,6 +32,3 @@ values-preserved c =
       | else-found w ↦
           rw (w.place-is, w.last-is) (record { low = t.fits; filling = t.primitive w.if-found.false })
     ]
-
-pub returns : goal.returns
-returns c = filling-all c.values.invariant.filling c.values-test.false

@@ -1,23 +1,8 @@
-use Rattle.std.proofs.Common.{arith}
-use Rattle.rpki_c.proofs.ResourceLaws.{gives-some, gives-none, filling-none, filling-within, filling-next, filling-all}
+use Rattle.rpki_c.proofs.ResourceLaws.{gives-some, filling-next}
 use Rattle.rpki_c.proofs.ip_blocks.write_listed.Goals as goal
-
-pub each-init : goal.each-init
-each-init c = λ bs h. (bs, c.blocks-rest.ensures.blocks bs h, filling-none (omega (arith, c.requires, h.count)))
-
-pub bounds-entries-number : goal.bounds-entries-number
-bounds-entries-number c =
-    let held = c.blocks-rest.ensures.held in
-    let k = c.each.invariant held.0 held.1 in
-    filling-within (gives-some k.0 c.in-Some.block c.next_block.new.self (c.in-Some.ensures.given k.0 k.1)).1 k.2
 
 pub each-preserved : goal.each-preserved
 each-preserved c = λ bs h.
     let k = c.each.invariant bs h in
     let g = gives-some k.0 c.in-Some.block c.next_block.new.self (c.in-Some.ensures.given k.0 k.1) in
     (g.0, g.2, filling-next c.entry_of.ensures g.1 k.2)
-
-pub returns : goal.returns
-returns c = λ bs h.
-    let k = c.each.invariant bs h in
-    filling-all (gives-none k.0 c.next_block.new.self (c.in_default.ensures.given k.0 k.1)).0 k.2

@@ -1,4 +1,4 @@
-use Rattle.std.proofs.Common.{refl, arith}
+use Rattle.std.proofs.Common.{arith}
 use Rattle.rpki_c.proofs.PlaceLaws.{parts-cut}
 use Rattle.rpki_c.proofs.rsync_parts.cut.Goals as goal
 

@@ -4,15 +4,8 @@ use Rattle.rpki_der.specs.Cursor.{left}
 use Rattle.rpki_der.proofs.InsideLaws.{unless-memory}
 use Rattle.rpki_crl.specs.Crl.{entry, entry_of}
 use Rattle.rpki_crl.proofs.EntriesLaws.{entry-no-memory}
-use Rattle.rpki_c.proofs.SerialTableLaws.{writing-none, writing-next, writing-refused, writing-all, shorter}
+use Rattle.rpki_c.proofs.SerialTableLaws.{writing-next, writing-refused, writing-all}
 use Rattle.rpki_c.proofs.serial_table.write_serials.Goals as goal
-
-pub entries-init : goal.entries-init
-entries-init c = rw c.from_slice-rest.ensures (writing-none c.args.octets.now c.args.serials.now c.requires)
-
-pub entries-smaller : goal.entries-smaller
-entries-smaller c =
-    shorter (left c.entries.rest) (left c.take_from.new.cons) (entry_of c.in-Ok.entry) c.in-Ok.ensures
 
 pub entries-preserved : goal.entries-preserved
 entries-preserved c =
