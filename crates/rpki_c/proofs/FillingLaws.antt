@@ -263,34 +263,6 @@ filling-none {s} {old} index count x counted = record {
       (x.spelled ∙ sym (append-nil (spell x.members))) refl (omega arith) tt tt);
 }
 
--- all entries are written
-pub filling-all : {s : List ℕ} {count place number last : ℕ} {old now : List Entry}
-    → IsFilling s count old now place number last → count ≤ number
-    → (index : List IndexEntry) × IsIndex s index × (length index ≡ count) × (now ≡ map passed index ++ drop count old)
-filling-all {s} {count} {place} {number} {last} {old} {now} f past = go f.more f.all
-  where
-    go : (more : List Entry) → map passed f.index ≡ f.done ++ more
-        → (index : List IndexEntry) × IsIndex s index × (length index ≡ count)
-        × (now ≡ map passed index ++ drop count old)
-    go [] all =
-        let done : f.done ≡ map passed f.index = sym (append-nil f.done) ∙ sym all in
-        let same : number ≡ count =
-        sym f.size ∙ ap length done ∙ length-map f.index passed ∙ f.counted in (
-          f.index,
-          f.is,
-          f.counted,
-          f.written ∙ ap (λ (l : List Entry). l ++ drop number old) done
-              ∙ ap (λ (i : ℕ). map passed f.index ++ drop i old) same,
-        )
-    go (e ∷ more) all = absurd (omega (
-      arith,
-      ap length all,
-      length-map f.index passed,
-      f.counted,
-      f.size,
-      length-append f.done (e ∷ more),
-    ))
-
 -- ---- one more entry
 
 some-drop : {X : Type 0} (n : ℕ) (xs : List X) → n < length xs → (x : X) × (drop n xs ≡ x ∷ drop (suc n) xs)

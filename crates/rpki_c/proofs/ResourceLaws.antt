@@ -1,6 +1,6 @@
 -- Blocks that are written in sequence, and resources that are read, counted and settled.
 use Rattle.std.proofs.Common.{◌≡◌, ◌≤◌, ◌<◌, ◌+◌, ℕ, suc, List, [], ◌∷◌, ◌++◌, length, take, drop, Some, None, refl}
-use Rattle.std.proofs.Common.{sym, ap, ◌∙◌, arith, append_assoc, append-nil, length-set, take-append-drop, take-suc-set}
+use Rattle.std.proofs.Common.{sym, ap, ◌∙◌, arith, append_assoc, length-set, take-suc-set}
 use Rattle.std.proofs.Common.{drop-set-lt, drop-drop, inl, inr, Option, subst, length-append, true, false, ◌≢◌, ◌⊎◌}
 use Rattle.std.proofs.Common.{◌^◌}
 use Rattle.std.specs.Prelude.{set, map, All}
@@ -56,10 +56,6 @@ gives-some (d ∷ ds) b after g =
     let one : b ≡ d = cc in
     (ds, ap (λ (y : Block). y ∷ ds) (sym one), g.1)
 
-pub gives-none : (ds : List Block) (after : Rest) → Gives ds None after → (ds ≡ []) × IsLeft after []
-gives-none [] after g = (refl, g.1)
-gives-none (d ∷ ds) after g = let no : None ≡ Some d = g.0 in absurd (cc)
-
 -- ---- entries that are written from a place on
 
 -- What was written so far of the entries of bs: those of ds are still to come, from this number on.
@@ -70,10 +66,6 @@ pub record IsFilling {E : Type 0} (p : Block → E) (from : ℕ) (bs : List Bloc
   pub count : number + length ds ≡ from + length bs
   pub size : length new ≡ length old
   pub room : from + length bs ≤ length old
-
-pub filling-none : {E : Type 0} {p : Block → E} {from : ℕ} {bs : List Block} {old : List E}
-    → from + length bs ≤ length old → IsFilling p from bs old old from bs
-filling-none room = record { front = refl; behind = refl; count = refl; size = refl; room = room }
 
 module _ {E : Type 0} {p : Block → E} {from : ℕ} {bs : List Block} {old new : List E} {number : ℕ} {ds : List Block}
   where
@@ -100,21 +92,6 @@ module _ {E : Type 0} {p : Block → E} {from : ℕ} {bs : List Block} {old new 
           size = length-set new number (p b) ∙ h.size;
           room = h.room;
         })
-
-    -- all are written
-    pub filling-all : ds ≡ [] → IsFilling p from bs old new number ds → IsFilledAt from (map p bs) old new
-    filling-all is h =
-        let few : length (map p bs) ≡ length bs = length-map bs p in
-        let last : number ≡ from + length (map p bs) = omega (arith, h.count, few, ap length is) in
-        let front : take number new ≡ take from old ++ map p bs =
-        sym (append-nil (take number new)) ∙ ap (λ (l : List Block). take number new ++ map p l) (sym is) ∙ h.front in
-        record {
-          room = omega (arith, h.room, few);
-          array = sym (take-append-drop number new)
-              ∙ ap (λ (l : List E). l ++ drop number new) front
-              ∙ ap (λ (l : List E). (take from old ++ map p bs) ++ l) (h.behind ∙ ap (λ (k : ℕ). drop k old) last)
-              ∙ append_assoc (take from old) (map p bs) (drop (from + length (map p bs)) old);
-        }
 
 -- ---- How many entries resources in place have, and that there are resources that say the same
 

@@ -72,22 +72,6 @@ pub record IsWriting (s : List ℕ) (old new : List (List ℕ)) (number : ℕ) (
   pub long : length new ≡ length old
   pub short : number + length m ≤ length s
 
-pub writing-none : (s : List ℕ) (old : List (List ℕ)) → ((xs : List Entry) × each_entry.spells xs s)
-    → IsWriting s old old 0 s
-writing-none s old h = record {
-  entries = h.0;
-  spelled = h.1;
-  serials = [];
-  rest = h.0;
-  numbers = refl;
-  twenty = tt;
-  following = h.1;
-  size = refl;
-  array = λ room. refl;
-  long = refl;
-  short = omega arith;
-}
-
 module _ {s : List ℕ} {old new : List (List ℕ)} {number : ℕ} {m : List ℕ} (h : IsWriting s old new number m) where
   pub writing-refused : m ≢ [] → Refuses entry.spells m → ⊥
   writing-refused some none = go h.rest h.following
