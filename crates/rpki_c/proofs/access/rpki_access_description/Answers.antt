@@ -1,5 +1,5 @@
-use Rattle.std.proofs.Common.{inl, inr, refl}
-use Rattle.rpki_cert.specs.AccessDescription.{description, description_of}
+use Rattle.std.proofs.Common.{inr, refl}
+use Rattle.rpki_cert.specs.AccessDescription.{description}
 use Rattle.rpki_c.proofs.CertificateLaws.{description-no-memory}
 use Rattle.rpki_c.proofs.StatusLaws.{front-refused}
 use Rattle.rpki_c.proofs.access.rpki_access_description.Goals as goal

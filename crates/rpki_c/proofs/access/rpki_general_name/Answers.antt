@@ -1,5 +1,4 @@
-use Rattle.std.proofs.Common.{inl, inr, refl}
-use Rattle.std.specs.Option.{option_copied}
+use Rattle.std.proofs.Common.{inr, refl}
 use Rattle.rpki_cert.specs.AccessDescription.{general_name}
 use Rattle.rpki_cert.proofs.GeneralNameLaws.{name-no-memory}
 use Rattle.rpki_c.proofs.StatusLaws.{front-refused}

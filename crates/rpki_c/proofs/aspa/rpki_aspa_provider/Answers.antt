@@ -1,4 +1,4 @@
-use Rattle.std.proofs.Common.{inl, inr, refl}
+use Rattle.std.proofs.Common.{inr, refl}
 use Rattle.rpki_contents.specs.Aspa.{as_number}
 use Rattle.rpki_c.proofs.ObjectLaws.{number-no-memory}
 use Rattle.rpki_c.proofs.StatusLaws.{front-refused}

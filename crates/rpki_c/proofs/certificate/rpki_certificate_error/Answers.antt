@@ -1,4 +1,4 @@
-use Rattle.std.proofs.Common.{inl, inr, refl}
+use Rattle.std.proofs.Common.{inl, refl}
 use Rattle.rpki_c.proofs.certificate.rpki_certificate_error.Goals as goal
 
 pub returns-in-Ok : goal.returns-in-Ok

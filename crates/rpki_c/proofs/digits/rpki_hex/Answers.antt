@@ -1,5 +1,4 @@
-use Rattle.std.proofs.Common.{◌++◌, drop, refl, inl, inr, sym, ap, ◌∙◌, arith}
-use Rattle.rpki_text.specs.HexText.{hex_text}
+use Rattle.std.proofs.Common.{refl, inr, sym, arith}
 use Rattle.rpki_text.proofs.HexLaws.{length-hex_text}
 use Rattle.rpki_c.proofs.digits.rpki_hex.Goals as goal
 

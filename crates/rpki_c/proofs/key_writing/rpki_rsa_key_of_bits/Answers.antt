@@ -1,5 +1,4 @@
-use Rattle.std.proofs.Common.{inl, inr, refl}
-use Rattle.rpki.specs.PublicKey.{IsRsaKey}
+use Rattle.std.proofs.Common.{inr, refl}
 use Rattle.rpki_c.proofs.key_writing.rpki_rsa_key_of_bits.Goals as goal
 
 pub returns-in-Err : goal.returns-in-Err

@@ -1,6 +1,5 @@
-use Rattle.std.proofs.Common.{inl, inr, refl}
+use Rattle.std.proofs.Common.{inr, refl}
 use Rattle.rpki_contents.specs.ListedFile.{file}
-use Rattle.rpki_contents.specs.ManifestView.{file_in}
 use Rattle.rpki_contents.proofs.FilesLaws.{file-no-memory}
 use Rattle.rpki_c.proofs.StatusLaws.{front-refused}
 use Rattle.rpki_c.proofs.manifest.rpki_manifest_file.Goals as goal

@@ -2,7 +2,6 @@ use Rattle.std.proofs.Common.{inl, inr, refl}
 use Rattle.rpki_resources.specs.Address.{width}
 use Rattle.rpki_contents.specs.RoaAddress.{roa_address}
 use Rattle.rpki_contents.proofs.RoaAddressLaws.{address-never}
-use Rattle.rpki_c.proofs.ObjectLaws.{address-is}
 use Rattle.rpki_c.proofs.StatusLaws.{front-refused}
 use Rattle.rpki_c.proofs.roa.rpki_roa_address.Goals as goal
 

@@ -1,5 +1,4 @@
-use Rattle.std.proofs.Common.{inl, inr, refl}
-use Rattle.rpki_der.specs.Cursor.{left}
+use Rattle.std.proofs.Common.{inr, refl}
 use Rattle.rpki_c.specs.Taking.{value_of}
 use Rattle.rpki_c.proofs.StatusLaws.{front-refused}
 use Rattle.rpki_c.proofs.taking.take.Goals as goal
