@@ -9,7 +9,7 @@ from programs import TOP, ran
 with open(os.path.join(TOP, "include", "rpki.h"), encoding="utf-8") as header:
     VERSION = ".".join(re.findall(r"^#define RPKI_VERSION_[A-Z]+ (\d+)$", header.read(), re.M))
 SYNOPSIS = b"usage: rpkicert [--json] [--check] [--profile NAME [--lax]] [--issuer FILE]"
-USAGE = SYNOPSIS + b" [--at MOMENT] FILE..\n"
+USAGE = SYNOPSIS + b" [--at MOMENT] [-r] FILE..\n"
 # Words that ask for nothing, and what is wrong with them first, from the left; worked by hand.
 FILE, NO_FILE = object(), "no file"
 UNKNOWN, NO_VALUE, VALUE = "unknown option: {}", "{} takes a value", "{} takes no value"
@@ -27,7 +27,11 @@ WRONG = [
     (["--profile=automatic", FILE], PROFILE.format("automatic")),
     (["--profile", "root", "--other"], PROFILE.format("root")),
     (["--other", FILE], UNKNOWN.format("--other")), ([FILE, "--other"], UNKNOWN.format("--other")),
-    (["-x"], UNKNOWN.format("-x")), (["-hx"], UNKNOWN.format("-hx")), (["-h=x"], UNKNOWN.format("-h=x")),
+    (["-x"], UNKNOWN.format("-x")), (["-rx", FILE], UNKNOWN.format("-rx")), (["-r=x", FILE], UNKNOWN.format("-r=x")),
+    (["--recursively", FILE], UNKNOWN.format("--recursively")), (["--recursive=a", FILE], VALUE.format("--recursive")),
+    (["-r"], NO_FILE), (["--recursive", "--json"], NO_FILE), (["-r", "--at", "-r", FILE], NO_VALUE.format("--at")),
+    (["-r", FILE, "--recursive"], TWICE.format("--recursive")), (["-r", "-r", FILE], TWICE.format("--recursive")),
+    (["-hx"], UNKNOWN.format("-hx")), (["-h=x"], UNKNOWN.format("-h=x")),
     (["--hel"], UNKNOWN.format("--hel")), (["--jsonl", FILE], UNKNOWN.format("--jsonl")),
     (["---", FILE], UNKNOWN.format("---")), (["--=", FILE], UNKNOWN.format("--=")),
     (["--other=1", FILE], UNKNOWN.format("--other=1")), (["--help", "--other"], UNKNOWN.format("--other")),

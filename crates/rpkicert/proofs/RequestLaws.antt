@@ -19,19 +19,20 @@ pub of-parts : (rows : List Row) (inspection : Option (Option Inspection)) (all 
     → inspection ≡ named_inspection (is_given (codes "lax") rows) (first_of (codes "profile") rows)
     → all ≡ some_files (all_of (codes "FILE") rows)
     → option_and_then (λ p. option_map (asked (first_of (codes "issuer") rows) (first_of (codes "at") rows)
-    (form_of (is_given (codes "json") rows)) (is_given (codes "check") rows) p) all) inspection ≡ request_of rows
+    (form_of (is_given (codes "json") rows)) (is_given (codes "check") rows) (is_given (codes "recursive") rows) p) all)
+    inspection ≡ request_of rows
 of-parts rows inspection all b d = rw (b, d) refl
 
 -- the same, where there are all
-pub of-all : (rows : List Row) (issuer moment : Option (List ℕ)) (form : Form) (check : Bool)
+pub of-all : (rows : List Row) (issuer moment : Option (List ℕ)) (form : Form) (check recursive : Bool)
     (inspection : Option Inspection) (all : List (List ℕ)) → issuer ≡ first_of (codes "issuer") rows
     → moment ≡ first_of (codes "at") rows → form ≡ form_of (is_given (codes "json") rows)
-    → check ≡ is_given (codes "check") rows
+    → check ≡ is_given (codes "check") rows → recursive ≡ is_given (codes "recursive") rows
     → Some inspection ≡ named_inspection (is_given (codes "lax") rows) (first_of (codes "profile") rows)
     → Some all ≡ some_files (all_of (codes "FILE") rows)
-    → Some (asked issuer moment form check inspection all) ≡ request_of rows
-of-all rows issuer moment form check inspection all i m f c b d =
-    rw (i, m, f, c) (of-parts rows (Some inspection) (Some all) b d)
+    → Some (asked issuer moment form check recursive inspection all) ≡ request_of rows
+of-all rows issuer moment form check recursive inspection all i m f c r b d =
+    rw (i, m, f, c, r) (of-parts rows (Some inspection) (Some all) b d)
 
 -- the files that are asked for
 pub the-files : (rows : List Row) (x a : Asked) → is_given (codes "help") rows ≡ false

@@ -53,6 +53,7 @@ option_in word =
     else if is_of (codes "--json") word then Some (codes "--json")
     else if is_of (codes "--check") word then Some (codes "--check")
     else if is_of (codes "--lax") word then Some (codes "--lax")
+    else if bytes_eq word (codes "-r") || is_of (codes "--recursive") word then Some (codes "--recursive")
     else if is_of (codes "--profile") word then Some (codes "--profile")
     else if is_of (codes "--issuer") word then Some (codes "--issuer")
     else if is_of (codes "--at") word then Some (codes "--at")

@@ -17,6 +17,7 @@ pub mod Complaint
 pub mod Arguments
 pub mod Moment
 pub mod Run
+pub mod Under
 pub mod View
 pub mod RequirementsView
 pub mod OutcomeView

@@ -19,9 +19,9 @@ use Rattle.rpki_cert.specs.declared.profile.Profile.TheVariants.{Ta, Ca, Ee, Det
 abbrev pub flag : List ℕ → Rule
 flag name = record (new_rule name) { long = Some name; action = Some SetTrue }
 
--- `--help` or `-h`
-abbrev pub help_flag : Rule
-help_flag = record (new_rule (codes "help")) { short = Some 104; long = Some (codes "help"); action = Some SetTrue }
+-- the same, which this letter names too
+abbrev pub lettered : (letter : ℕ) → List ℕ → Rule
+lettered letter name = record (new_rule name) { short = Some letter; long = Some name; action = Some SetTrue }
 
 -- the option of this name, which takes a value
 abbrev pub valued : List ℕ → Rule
@@ -38,9 +38,10 @@ command_alone =
 
 abbrev pub command_app : App
 command_app =
-    with_rule (with_rule (with_rule (with_rule (with_rule (with_rule (with_rule (with_rule (with_rule command_alone
-    help_flag) (flag (codes "version"))) (flag (codes "json"))) (flag (codes "check"))) (flag (codes "lax")))
-    (valued (codes "profile"))) (valued (codes "issuer"))) (valued (codes "at"))) files_rule
+    with_rule (with_rule (with_rule (with_rule (with_rule (with_rule (with_rule (with_rule (with_rule (with_rule
+    command_alone (lettered 104 (codes "help"))) (flag (codes "version"))) (flag (codes "json")))
+    (flag (codes "check"))) (flag (codes "lax"))) (lettered 114 (codes "recursive"))) (valued (codes "profile")))
+    (valued (codes "issuer"))) (valued (codes "at"))) files_rule
 
 -- what `clap` matches in the words; None where it finds a fault in them
 abbrev pub matched : List (List ℕ) → Option (List Row)
@@ -85,32 +86,40 @@ some_files None = None
 some_files (Some []) = None
 some_files (Some (file ∷ files)) = Some (file ∷ files)
 
--- how objects are printed, whether only a verdict is, how certificates are checked against a profile, the file of the
--- issuer, the text of the moment, and the files
+-- how objects are printed, whether only a verdict is, whether those in folders are, how certificates are checked
+-- against a profile, the file of the issuer, the text of the moment, and the files
 pub record Asked : Type 0 where
   pub form : Form
   pub check : Bool
+  pub recursive : Bool
   pub inspection : Option Inspection
   pub issuer : Option (List ℕ)
   pub moment : Option (List ℕ)
   pub files : List (List ℕ)
 
-abbrev pub asked : Option (List ℕ) → Option (List ℕ) → Form → Bool → Option Inspection → List (List ℕ) → Asked
-asked issuer moment form check inspection files = record {
+abbrev pub asked : Option (List ℕ) → Option (List ℕ) → Form → (check recursive : Bool) → Option Inspection
+    → List (List ℕ) → Asked
+asked issuer moment form check recursive inspection files = record {
   form = form;
   check = check;
+  recursive = recursive;
   inspection = inspection;
   issuer = issuer;
   moment = moment;
   files = files;
 }
 
--- `--json` and `--check`, a profile, an issuer and a moment, perhaps, and files
+-- the same of these files
+abbrev pub with_files : Asked → List (List ℕ) → Asked
+with_files a files = record a { files = files }
+
+-- `--json`, `--check` and `--recursive`, a profile, an issuer and a moment, perhaps, and files
 abbrev pub request_of : List Row → Option Asked
 request_of rows =
     option_and_then (λ inspection. option_map
     (asked (first_of (codes "issuer") rows) (first_of (codes "at") rows) (form_of (is_given (codes "json") rows))
-    (is_given (codes "check") rows) inspection) (some_files (all_of (codes "FILE") rows)))
+    (is_given (codes "check") rows) (is_given (codes "recursive") rows) inspection)
+    (some_files (all_of (codes "FILE") rows)))
     (named_inspection (is_given (codes "lax") rows) (first_of (codes "profile") rows))
 
 -- what words ask for: the help, the version, or files

@@ -140,9 +140,3 @@ abbrev pub EndsWellWith : Holds → Clock → Asked → (output said : List ℕ)
 EndsWellWith holds clock a output said =
     (old new was is : Option (List ℕ)) → IsRunOf holds clock old new was is 0 a
     → Appends old new output × Appends was is said
-
--- where one run of it ends so, each that does writes the same
-abbrev pub RunsAlike : Holds → Clock → Asked → Type 0
-RunsAlike holds clock a =
-    (old new was is : Option (List ℕ)) → IsRunOf holds clock old new was is 0 a
-    → (output : List ℕ) × (said : List ℕ) × EndsWellWith holds clock a output said

@@ -1,16 +1,18 @@
 -- What clauses see of a run over files.
-use Rattle.std.specs.Prelude.{ℕ, List, Option, Ok}
+use Rattle.std.specs.Prelude.{◌≡◌, ℕ, true, List, Option, Result, Ok, IfOk}
 use Rattle.jiff.specs.Types.{DateTime}
 use Rattle.rpki_cert.specs.Cert.{TbsParts}
 use Rattle.rpkicert.specs.declared.outcome.Outcome.{Outcome}
 use Rattle.rpkicert.specs.declared.request.Request.{Request}
 use Rattle.rpkicert.specs.declared.requirements.Requirements.{Requirements}
 use Rattle.rpkicert.specs.OutcomeView.{found_of}
+use Rattle.rpkicert.specs.Request.{Asked}
 use Rattle.rpkicert.specs.RequestView.{asked_of}
 use Rattle.rpkicert.specs.Moment.{Clock, IsMoment}
 use Rattle.rpkicert.specs.Run.{Holds, IsRunOf, RunsOver, RunsBy, issuer_in}
 use Rattle.rpkicert.specs.Requirements.{term_parts}
 use Rattle.rpkicert.specs.RequirementsView.{terms_of}
+use Rattle.rpkicert.specs.Under.{Lists, IsRunUnder}
 
 -- over files whose objects are checked against these terms
 abbrev pub RunsOn : Holds → (old new was is : Option (List ℕ)) → ℕ → Request → Requirements → Type 0
@@ -32,3 +34,16 @@ RunsOf holds old new was is status r name moment found =
 abbrev pub RunsAt : Holds → Clock → (old new was is : Option (List ℕ)) → ℕ → Request → Option DateTime → Type 0
 RunsAt holds clock old new was is status r moment =
     IsMoment clock (asked_of r).moment moment → IsRunOf holds clock old new was is status (asked_of r)
+
+-- of what is asked for, with the files in folders, by what these sources have
+abbrev pub RunsUnder : {S : Type 0} → (S → Lists) → (S → Holds) → (S → Clock) → S
+    → (old new was is : Option (List ℕ)) → ℕ → Asked → Type 0
+RunsUnder lists holds clock s old new was is status a =
+    IsRunUnder (lists s) (holds s) (clock s) old new was is status a
+
+-- the same, where those in folders are asked for, and there is memory for their names
+abbrev pub RunsBelow : {S E : Type 0} → (S → Lists) → (S → Holds) → (S → Clock) → S
+    → (old new was is : Option (List ℕ)) → Result ℕ E → Request → Type 0
+RunsBelow lists holds clock s old new was is result r =
+    r.recursive ≡ true
+    → IfOk result (λ status. IsRunUnder (lists s) (holds s) (clock s) old new was is status (asked_of r))

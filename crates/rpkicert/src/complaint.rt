@@ -73,6 +73,8 @@ fn option_in(word: &[u8]) -> Option<&'static [u8]>
         Some(b"--check")
     } else if is_of(b"--lax", word) {
         Some(b"--lax")
+    } else if is(word, b"-r") || is_of(b"--recursive", word) {
+        Some(b"--recursive")
     } else if is_of(b"--profile", word) {
         Some(b"--profile")
     } else if is_of(b"--issuer", word) {

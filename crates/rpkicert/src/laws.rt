@@ -14,7 +14,8 @@ ghost use Rattle.rpkicert.specs.Moment.{Clock};
 ghost use Rattle.rpkicert.specs.Request.{Asked};
 ghost use Rattle.rpkicert.specs.Requirements.{TermParts};
 ghost use Rattle.rpkicert.specs.Output.{IsTextOf, HasOneGoodAnswer, HasOneGoodText};
-ghost use Rattle.rpkicert.specs.Run.{Holds, IsKnown, RunsAlike};
+ghost use Rattle.rpkicert.specs.Run.{Holds};
+ghost use Rattle.rpkicert.specs.Under.{Lists, IsKnownUnder, RunsAlikeUnder};
 
 use crate::violation::Violation;
 use rpki::repository::error::ValidationError;
@@ -39,7 +40,8 @@ pub fn one_answer()
 
 /// Where a run of what is asked for ends with the status 0, each run of it that does writes the same.
 pub fn one_output()
-    ensures { (holds : Holds) (clock : Clock) (a : Asked) → IsKnown holds clock a → RunsAlike holds clock a }
+    ensures { (lists : Lists) (holds : Holds) (clock : Clock) (a : Asked) → IsKnownUnder lists holds clock a
+        → RunsAlikeUnder lists holds clock a }
 {}
 
 /// Of a certificate one profile at most is chosen.

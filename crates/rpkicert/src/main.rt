@@ -9,6 +9,7 @@ mod choice;
 mod complaint;
 mod fault;
 mod files;
+mod folders;
 mod input;
 mod issuer;
 mod laws;

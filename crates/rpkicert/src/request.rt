@@ -2,8 +2,8 @@
 
 ghost use Rattle.std.specs.Prelude.{◌≡◌, map, codes, IfOk, false, option_map, string_bytes};
 ghost use Rattle.clap.specs.Words.{all_of, app_of, first_of, rule_of};
-ghost use Rattle.rpkicert.specs.Request.{flag, help_flag, valued, files_rule, command_app, matched, is_given};
-ghost use Rattle.rpkicert.specs.Request.{form_of, named_inspection, some_files, request_of};
+ghost use Rattle.rpkicert.specs.Request.{flag, lettered, valued, files_rule, command_app, matched, is_given};
+ghost use Rattle.rpkicert.specs.Request.{form_of, named_inspection, some_files, request_of, with_files};
 ghost use Rattle.rpkicert.specs.RequestView.{asked_of, rows_in};
 
 use crate::choice::choice_of;
@@ -15,11 +15,13 @@ use std::alloc::{AllocError, Global};
 
 /// What the words ask for of files.
 #[derive(Clone, Copy)]
-pub struct Request<'m, 'a> {
+pub struct Request<'m, 'a, 'f> {
     /// How objects are printed.
     pub form: Form,
     /// Whether only a verdict is printed.
     pub check: bool,
+    /// Whether of a folder each file in it is printed.
+    pub recursive: bool,
     /// How certificates are checked against a profile, if they are.
     pub inspection: Option<Inspection>,
     /// The name of the file of the issuer.
@@ -27,7 +29,7 @@ pub struct Request<'m, 'a> {
     /// The text of the moment.
     pub moment: Option<&'a str>,
     /// The names of the files.
-    pub files: &'m [&'a str],
+    pub files: &'m [&'f str],
 }
 
 /// The flag of this name.
@@ -38,14 +40,14 @@ fn flag<'a>(alloc: Global, name: &'a str) -> Arg<'a>
     Arg::new(alloc, name).long(name).action(ArgAction::SetTrue)
 }
 
-/// The flag for help, which has a letter too.
-fn help_flag<'a>(alloc: Global) -> Arg<'a>
-    ensures rule { rule_of result ≡ help_flag }
+/// The flag of this name, which has this letter too.
+fn lettered<'a>(alloc: Global, letter: char, name: &'a str) -> Arg<'a>
+    ensures rule { rule_of result ≡ lettered letter name.entry.now }
     ensures local { result.global ≡ false }
 {
-    Arg::new(alloc, "help")
-        .short('h')
-        .long("help")
+    Arg::new(alloc, name)
+        .short(letter)
+        .long(name)
         .action(ArgAction::SetTrue)
 }
 
@@ -72,11 +74,12 @@ fn command<'a>(alloc: Global) -> Result<Command<'a>, AllocError>
     Command::new(alloc, "rpkicert")
         .no_binary_name(true)
         .disable_help_flag(true)
-        .arg(help_flag(alloc))?
+        .arg(lettered(alloc, 'h', "help"))?
         .arg(flag(alloc, "version"))?
         .arg(flag(alloc, "json"))?
         .arg(flag(alloc, "check"))?
         .arg(flag(alloc, "lax"))?
+        .arg(lettered(alloc, 'r', "recursive"))?
         .arg(valued(alloc, "profile"))?
         .arg(valued(alloc, "issuer"))?
         .arg(valued(alloc, "at"))?
@@ -149,10 +152,11 @@ fn some_files<'m, 'a>(files: Option<&'m [&'a str]>) -> Option<&'m [&'a str]>
     }
 }
 
-impl<'m, 'a> Request<'m, 'a> {
-    /// What is asked for of files: how objects are printed, a profile, an issuer and a moment, perhaps, and the files.
+impl<'m, 'a> Request<'m, 'a, 'a> {
+    /// What is asked for of files: how objects are printed, whether those in folders are, a profile, an issuer and a
+    /// moment, perhaps, and the files.
     /// None if there are none, or what belongs to a profile is asked for without one.
-    pub fn of(matches: &'m ArgMatches<'a>) -> Option<Request<'m, 'a>>
+    pub fn of(matches: &'m ArgMatches<'a>) -> Option<Request<'m, 'a, 'a>>
         ensures { option_map asked_of result ≡ request_of (rows_in matches.entry.now) }
     {
         let inspection = named_inspection(is_given(matches, "lax"), matches.get_str("profile"))?;
@@ -160,10 +164,29 @@ impl<'m, 'a> Request<'m, 'a> {
         Some(Request {
             form: form_of(is_given(matches, "json")),
             check: is_given(matches, "check"),
+            recursive: is_given(matches, "recursive"),
             inspection,
             issuer: matches.get_str("issuer"),
             moment: matches.get_str("at"),
             files,
         })
+    }
+}
+
+/// What is asked for, of these files.
+pub fn with_files<'m, 'a, 'f>(
+    request: &Request<'_, 'a, '_>,
+    files: &'m [&'f str],
+) -> Request<'m, 'a, 'f>
+    ensures { asked_of result ≡ with_files (asked_of request.now) (map (λ file. file.now) files.entry.now) }
+{
+    Request {
+        form: request.form,
+        check: request.check,
+        recursive: request.recursive,
+        inspection: request.inspection,
+        issuer: request.issuer,
+        moment: request.moment,
+        files,
     }
 }

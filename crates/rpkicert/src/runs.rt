@@ -1,13 +1,14 @@
 //! A run: words and files in, output and faults out.
 
-ghost use Rattle.std.specs.Prelude.{◌≡◌, Some, None, IfOk, IfErr};
+ghost use Rattle.std.specs.Prelude.{◌≡◌, Some, None, IfOk, IfErr, map, string_bytes};
 ghost use Rattle.rpkicert.specs.Request.{help, version};
 ghost use Rattle.rpkicert.specs.RequestView.{asked_of, wanted_by, AskedIn, AskHelp, AskVersion, AskRun, AskNothing};
 ghost use Rattle.std.specs.Option.{option_copied};
 ghost use Rattle.rpkicert.specs.Arguments.{wordless_text};
 ghost use Rattle.rpkicert.specs.ComplaintView.{complaint_of};
 ghost use Rattle.rpkicert.specs.Run.{IsRunOf};
-ghost use Rattle.rpkicert.specs.RunView.{RunsAt, RunsTo, RunsOf, RunsOn};
+ghost use Rattle.rpkicert.specs.RunView.{RunsAt, RunsTo, RunsOf, RunsOn, RunsUnder, RunsBelow};
+ghost use Rattle.rpkicert.specs.Under.{AreUnder};
 ghost use Rattle.rpkicert.specs.Output.{WritesBoth};
 ghost use Rattle.rpkicert.specs.OutputView.{seen_of, text_in};
 ghost use Rattle.rpkicert.specs.Words.{Prints, PrintsAlone};
@@ -19,7 +20,7 @@ use crate::issuer::{issuer_of, wrong_issuer, wrong_moment};
 use crate::moment::moment_at;
 use crate::outcome::{Outcome, find_issuer};
 use crate::output::Output;
-use crate::request::{Request, is_given, matched};
+use crate::request::{Request, is_given, matched, with_files};
 use crate::requirements::Requirements;
 use crate::sources::Sources;
 use crate::texts::{HELP, OUT_OF_MEMORY, VERSION};
@@ -57,7 +58,7 @@ fn write_shown<W: Write, F: Write>(
 /// status; 2 if the output or the faults fail.
 fn show_each<S: Sources, W: Write, F: Write>(
     alloc: Global,
-    request: &Request<'_, '_>,
+    request: &Request<'_, '_, '_>,
     terms: &Requirements<'_>,
     sources: &S,
     out: &mut W,
@@ -128,7 +129,7 @@ fn deny<F: Write>(text: Result<Vec<u8>, AllocError>, err: &mut F) -> u8
 /// moment. Returns the exit status.
 fn show_held<S: Sources, W: Write, F: Write>(
     alloc: Global,
-    request: &Request<'_, '_>,
+    request: &Request<'_, '_, '_>,
     issuer: Option<&TbsCert>,
     moment: Option<Time>,
     sources: &S,
@@ -150,7 +151,7 @@ fn show_held<S: Sources, W: Write, F: Write>(
 /// moment; or that what was found is none. Returns the exit status.
 fn show_issued<S: Sources, W: Write, F: Write>(
     alloc: Global,
-    request: &Request<'_, '_>,
+    request: &Request<'_, '_, '_>,
     name: &str,
     found: &Outcome,
     moment: Option<Time>,
@@ -171,7 +172,7 @@ fn show_issued<S: Sources, W: Write, F: Write>(
 /// for; or why the issuer that is asked for is none. Returns the exit status.
 fn show_at<S: Sources, W: Write, F: Write>(
     alloc: Global,
-    request: &Request<'_, '_>,
+    request: &Request<'_, '_, '_>,
     moment: Option<Time>,
     sources: &S,
     out: &mut W,
@@ -193,7 +194,7 @@ fn show_at<S: Sources, W: Write, F: Write>(
 /// for is none. Returns the exit status.
 fn show_all<S: Sources, W: Write, F: Write>(
     alloc: Global,
-    request: &Request<'_, '_>,
+    request: &Request<'_, '_, '_>,
     sources: &S,
     out: &mut W,
     err: &mut F,
@@ -207,6 +208,74 @@ fn show_all<S: Sources, W: Write, F: Write>(
             Some(moment) => show_at(alloc, request, Some(moment), sources, out, err),
             None => deny(wrong_moment(alloc, word), err),
         },
+    }
+}
+
+/// The names of the files under these names, in order.
+fn names_under<S: Sources>(
+    alloc: Global,
+    sources: &S,
+    files: &[&str],
+) -> Result<Vec<String>, AllocError>
+    ensures { IfOk result (λ names. AreUnder (S.lists sources.now) (map (λ file. file.now) files.now)
+        (map string_bytes names.items)) }
+{
+    let mut names = Vec::new(alloc);
+    'files: for file in files {
+        let mut own = sources.under(alloc, file)?;
+        names.append(&mut own)?;
+    }
+    Ok(names)
+}
+
+/// The texts of the names.
+fn texts_of<'a>(alloc: Global, names: &'a [String]) -> Result<Vec<&'a str>, AllocError>
+    ensures { IfOk result (λ v. map (λ text. text.now) v.items ≡ map string_bytes names.now) }
+{
+    let mut all = Vec::new(alloc);
+    'names: for name in names {
+        all.push(name.as_str())?;
+    }
+    Ok(all)
+}
+
+/// Shows the files under those that are asked for, as if each had been. Returns the exit status.
+///
+/// Returns `AllocError` if there is no memory for their names; then nothing is written.
+fn show_under<S: Sources, W: Write, F: Write>(
+    alloc: Global,
+    request: &Request<'_, '_, '_>,
+    sources: &S,
+    out: &mut W,
+    err: &mut F,
+) -> Result<u8, AllocError>
+    ensures shown { RunsBelow S.lists S.holds S.clock sources.now (W.contents out.old) (W.contents out.new)
+        (F.contents err.old) (F.contents err.new) result request.now }
+    ensures kept { IfErr result (λ _. (out.new ≡ out.old) × (err.new ≡ err.old)) }
+{
+    let names = names_under(alloc, sources, request.files)?;
+    let files = texts_of(alloc, names.as_slice())?;
+    let named = with_files(request, files.as_slice());
+    Ok(show_all(alloc, &named, sources, out, err))
+}
+
+/// Shows the files, or those under them, where that is asked for. Returns the exit status.
+fn show_named<S: Sources, W: Write, F: Write>(
+    alloc: Global,
+    request: &Request<'_, '_, '_>,
+    sources: &S,
+    out: &mut W,
+    err: &mut F,
+) -> u8
+    ensures { RunsUnder S.lists S.holds S.clock sources.now (W.contents out.old) (W.contents out.new)
+        (F.contents err.old) (F.contents err.new) result (asked_of request.now) }
+{
+    if !request.recursive {
+        return show_all(alloc, request, sources, out, err);
+    }
+    match show_under(alloc, request, sources, out, err) {
+        Ok(status) => status,
+        Err(_) => give_up(err),
     }
 }
 
@@ -225,7 +294,7 @@ fn answer<S: Sources, W: Write, F: Write>(
         (W.contents out.new) HELP.now 0 n (err.new ≡ err.old)) }
     ensures version { wanted_by matches.now ≡ Some version → IfOk result (λ n. PrintsAlone (W.contents out.old)
         (W.contents out.new) VERSION.now 0 n (err.new ≡ err.old)) }
-    ensures files { AskedIn matches.now result (IsRunOf (S.holds files.now) (S.clock files.now) (W.contents out.old)
+    ensures files { AskedIn matches.now result (RunsUnder S.lists S.holds S.clock files.now (W.contents out.old)
         (W.contents out.new) (F.contents err.old) (F.contents err.new)) }
     ensures usage { wanted_by matches.now ≡ None → IfOk result (λ n. PrintsAlone (F.contents err.old)
         (F.contents err.new) (complaint_of words.now) 2 n (out.new ≡ out.old)) }
@@ -238,7 +307,7 @@ fn answer<S: Sources, W: Write, F: Write>(
         return Ok(print(VERSION, out, 0));
     }
     match Request::of(matches) {
-        Some(request) => Ok(show_all(alloc, &request, files, out, err)),
+        Some(request) => Ok(show_named(alloc, &request, files, out, err)),
         None => complain(alloc, words, err),
     }
 }
@@ -247,9 +316,10 @@ fn answer<S: Sources, W: Write, F: Write>(
 ///
 /// `--help` and `--version` print a text. Else each file that the words name is shown, in order: the object that it is
 /// by its fields and items, and a fault by a line among the faults; with `--check` a line for either to the output. A
-/// text with several certificates is shown as so many files. The moment `now` is that of the clock, which no other word
-/// asks for. If the words name an issuer that is no certificate, or a moment that isn't one, only that is told, among
-/// the faults. Of other words what is wrong with them first, and how the program is used.
+/// text with several certificates is shown as so many files. With `-r` the files in a folder, and in the folders in it,
+/// are shown as if each had been named, in the order of their names. The moment `now` is that of the clock, which no
+/// other word asks for. If the words name an issuer that is no certificate, or a moment that isn't one, only that is
+/// told, among the faults. Of other words what is wrong with them first, and how the program is used.
 ///
 /// The status is 0 if all is well; 1 if a file is no such object, breaks a rule of its own, violates the profile, is of
 /// another issuer, or holds at another time; 2 if one can't be read, without the issuer or the moment, for other words,
@@ -266,7 +336,7 @@ pub fn run<S: Sources, W: Write, F: Write>(
         HELP.now 0 n (err.new ≡ err.old)) }
     ensures version { AskVersion words.now → IfOk result (λ n. PrintsAlone (W.contents out.old) (W.contents out.new)
         VERSION.now 0 n (err.new ≡ err.old)) }
-    ensures files { AskRun words.now result (IsRunOf (S.holds files.now) (S.clock files.now) (W.contents out.old)
+    ensures files { AskRun words.now result (RunsUnder S.lists S.holds S.clock files.now (W.contents out.old)
         (W.contents out.new) (F.contents err.old) (F.contents err.new)) }
     ensures usage { AskNothing words.now → IfOk result (λ n. PrintsAlone (F.contents err.old) (F.contents err.new)
         (complaint_of words.now) 2 n (out.new ≡ out.old)) }

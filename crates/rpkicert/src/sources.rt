@@ -1,22 +1,26 @@
 //! Where files are read, and a clock.
 
 use crate::fault::{Cause, Fault};
+use crate::folders::files_under;
 use crate::input::read_whole;
 use jiff::SignedDuration;
 use rpki::repository::x509::Time;
-use std::alloc::Global;
+use std::alloc::{AllocError, Global};
 use std::fs;
 use std::time::{SystemTime, UNIX_EPOCH};
 
 /// Files by their names, and a clock.
 pub trait Sources {
-    ghost use Rattle.std.specs.Prelude.{◌≡◌, ℕ, List, Option, IfSome};
+    ghost use Rattle.std.specs.Prelude.{◌≡◌, ℕ, List, Option, IfSome, IfOk, map, string_bytes};
     ghost use Rattle.rpkicert.specs.Moment.{Clock};
     ghost use Rattle.rpkicert.specs.Outcome.{IsRead};
     ghost use Rattle.rpkicert.specs.View.{read_of};
 
     // What there is by a name: the octets, or None where there is no file; or nothing is said of it.
     ghost holds: { Self → List ℕ → Option (Option (List ℕ)) };
+
+    // The names of the files under a name; or nothing is said of them.
+    ghost lists: { Self → List ℕ → Option (List (List ℕ)) };
 
     // The moment that the clock has, or None where it has none; or nothing is said of it.
     ghost clock: { Self → Clock };
@@ -27,6 +31,14 @@ pub trait Sources {
     /// end; `OutOfMemory` if allocation fails.
     fn read(&self, alloc: Global, name: &str) -> Result<Vec<u8>, Fault>
         ensures { IfSome (holds self.now name.now) (λ source. IsRead source (read_of result)) };
+
+    /// The names of the files under this name: of a folder those of the files in it, and in the folders in it, in
+    /// order; of a file, and of what can't be listed, this name itself.
+    ///
+    /// Returns `AllocError` if allocation fails.
+    fn under(&self, alloc: Global, name: &str) -> Result<Vec<String>, AllocError>
+        ensures { IfOk result (λ names.
+            IfSome (lists self.now name.now) (λ all. map string_bytes names.items ≡ all)) };
 
     /// The moment that the clock has, to the second. None where it can't be read, or has none of the years 0 to 9999.
     fn now(&self) -> Option<Time>
@@ -45,6 +57,8 @@ impl Sources for Host<'_> {
 
     ghost holds = { λ _ _. None };
 
+    ghost lists = { λ _ _. None };
+
     ghost clock = { λ _. None };
 
     fn read(&self, alloc: Global, name: &str) -> Result<Vec<u8>, Fault> {
@@ -55,6 +69,10 @@ impl Sources for Host<'_> {
             Ok(mut file) => read_whole(alloc, &mut file),
             Err(e) => Err(Fault::Unreadable(Cause::of(e.kind()))),
         }
+    }
+
+    fn under(&self, alloc: Global, name: &str) -> Result<Vec<String>, AllocError> {
+        files_under(alloc, self.rt, name)
     }
 
     fn now(&self) -> Option<Time> {

@@ -3,7 +3,7 @@
 /// How the program is used.
 pub const USAGE: &[u8] =
     b"usage: rpkicert [--json] [--check] [--profile NAME [--lax]] [--issuer FILE] [--at MOMENT] \
-FILE..\n";
+[-r] FILE..\n";
 
 /// The program's name and version.
 pub const VERSION: &[u8] = b"rpkicert 0.2.0\n";
@@ -22,7 +22,7 @@ pub const HELP: &[u8] = b"\
 rpkicert - verify and print the objects of a repository of the RPKI
 
 usage: rpkicert [--json] [--check] [--profile NAME [--lax]] [--issuer FILE]
-                [--at MOMENT] FILE..
+                [--at MOMENT] [-r] FILE..
        rpkicert -h | --help
        rpkicert --version
 
@@ -67,6 +67,9 @@ disagree both are told: the one that was found, and the one that is expected.
   --at MOMENT  hold periods of certificates, and those between the updates of
                revocation lists and manifests (RFC 9286 6.3), to a moment such
                as 2026-11-26T12:00:00Z (RFC 3339); now is that of the clock
+  -r, --recursive
+               of a FILE that is a folder print each file in it, and in the
+               folders in it, in the order of their paths, as if each were named
 
 Exit status: 0 if all is well; 1 if a file is no such object, breaks a rule of
 its own, violates the profile, is of another issuer, or holds at another time; 2

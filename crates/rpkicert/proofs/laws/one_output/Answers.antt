@@ -1,5 +1,5 @@
-use Rattle.rpkicert.proofs.OneAnswerLaws.{one-output}
+use Rattle.rpkicert.proofs.UnderLaws.{one-output-under}
 use Rattle.rpkicert.proofs.laws.one_output.Goals as goal
 
 pub returns : goal.returns
-returns c = one-output
+returns c = one-output-under

@@ -38,6 +38,7 @@ returns c =
     let moment = c.get_str-3.ensures ∙ first_value-rows (found_of c.args.matches.now) (codes "at") in
     let named = c.some_files.ensures ∙ ap some_files
     (c.get_raw.ensures ∙ raw_values-rows (found_of c.args.matches.now) (codes "FILE")) in
-    of-all rows _ _ _ _ c.in_ok-inspection.inspection (map (λ file. file.now) c.in_ok-files.files.now) issuer moment
-    (c.form_of.ensures ∙ ap form_of c.is_given-2.ensures) c.is_given-3.ensures (sym inspection ∙ given)
+    of-all rows _ _ _ _ _ c.in_ok-inspection.inspection (map (λ file. file.now) c.in_ok-files.files.now) issuer moment
+    (c.form_of.ensures ∙ ap form_of c.is_given-2.ensures) c.is_given-3.ensures c.is_given-4.ensures
+    (sym inspection ∙ given)
     (rw files at named)
