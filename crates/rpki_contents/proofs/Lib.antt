@@ -10,7 +10,7 @@
 -- The providers of a customer: AspaLaws. Attestations of providers that are written: AspaWritingLaws.
 -- Both in place: AspaViewLaws, PrefixLaws; what is found is spelled: FoundLaws, AspaFoundLaws, RoaFoundLaws.
 -- Parts of a manifest in place: InPlaceLaws.
--- Values whose header is two octets: ShortLaws; files of such: ShortFileLaws.
+-- Numbers and files whose headers are two octets: ShortLaws, ShortFileLaws.
 
 pub mod AspaFoundLaws
 pub mod AspaLaws

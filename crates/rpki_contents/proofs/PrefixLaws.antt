@@ -10,8 +10,8 @@ use Rattle.rpki_parse.proofs.ValueLaws.{value-read}
 use Rattle.rpki_parse.proofs.DecisionLaws.{bits_decides}
 use Rattle.rpki_parse.proofs.BackLaws.{leaf-read}
 use Rattle.rpki_contents.specs.RoaView.{fits, max_length_at, prefix_at, size_of}
-use Rattle.rpki_contents.specs.Short.{IsShort}
-use Rattle.rpki_contents.proofs.ShortLaws.{short-sequence, short-bits, short-integer}
+use Rattle.rpki_x509.specs.Short.{IsShort}
+use Rattle.rpki_x509.proofs.ShortLaws.{short-sequence, short-bits, short-integer}
 
 -- ---- a maximum length
 

@@ -6,9 +6,9 @@ use Rattle.rpki_contents.specs.FileName.{is_file_name}
 use Rattle.rpki_contents.specs.InPlace.{Follows}
 use Rattle.rpki_x509.specs.MessageDigest.{file_hash}
 use Rattle.rpki_contents.specs.ListedFile.{ListedFile, file_parts, file}
-use Rattle.rpki_contents.specs.Short.{IsShort}
+use Rattle.rpki_x509.specs.Short.{IsShort}
 use Rattle.rpki_contents.proofs.OneReadingLaws.{file-one}
-use Rattle.rpki_contents.proofs.ShortLaws.{short-sequence, short-bits, short-text}
+use Rattle.rpki_x509.proofs.ShortLaws.{short-sequence, short-bits, short-text}
 
 -- a BIT STRING of thirty-two octets, all bits of which are used
 hash-there : (b d : List ℕ) → b ≡ 3 ∷ 33 ∷ 0 ∷ d → length d ≡ 32 → file_hash.spells d b

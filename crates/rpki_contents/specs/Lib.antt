@@ -15,7 +15,6 @@ pub mod Roa
 pub mod RoaAddress
 pub mod RoaView
 pub mod RouteOrigin
-pub mod Short
 pub mod Within
 -- Lemmas that an impl cites.
 pub mod EncodedAspaLaws

@@ -6,10 +6,10 @@ ghost use Rattle.rpki_parse.specs.Words.{Moves, kinds, parsed};
 ghost use Rattle.rpki_resources.specs.Address.{width};
 ghost use Rattle.rpki_contents.specs.RoaView.{count_at, fits, max_length_at, prefix_at, size_of};
 
-use crate::short_form::short;
 use rpki_der::{BitString, Constructed, DecodeError, Tag};
 use rpki_parse::{Step, finish, fold, has_tag, take_bits, take_sequence, take_u8};
 use rpki_resources::AddressFamily;
+use rpki_x509::short_value;
 
 /// Whether so many bits are at most as many as an address of the family has, and a maximum length, where there is one,
 /// is from as many to that of an address.
@@ -59,10 +59,10 @@ fn after_short_prefix(octets: &[u8], family: AddressFamily) -> Option<&[u8]>
     ensures reads { IfSome result (λ r. Ok (tt, r.now) ≡ prefix_at (width family) octets.now) }
     ensures shorter { IfSome result (λ r. length r.now < length octets.now) }
 {
-    let Some((parts, rest)) = short(octets, 0x30) else {
+    let Some((parts, rest)) = short_value(octets, 0x30) else {
         return None;
     };
-    let Some((bits, behind)) = short(parts, 0x03) else {
+    let Some((bits, behind)) = short_value(parts, 0x03) else {
         return None;
     };
     let Some((unused, used)) = bits.split_first() else {

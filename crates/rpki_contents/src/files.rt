@@ -8,18 +8,18 @@ ghost use Rattle.rpki_contents.specs.ListedFile.{file};
 
 use crate::file_name::is_file_name;
 use crate::file_view::FileView;
-use crate::short_form::short;
 use rpki::der::Constructed;
+use rpki_x509::short_value;
 
 /// What follows the file at the front, where its header and that of its name are two octets each.
 #[inline(always)]
 fn after_short_file(octets: &[u8]) -> Option<&[u8]>
     ensures { IfSome result (λ r. Follows file.spells octets.now r.now) }
 {
-    let Some((parts, rest)) = short(octets, 0x30) else {
+    let Some((parts, rest)) = short_value(octets, 0x30) else {
         return None;
     };
-    let Some((name, behind)) = short(parts, 0x16) else {
+    let Some((name, behind)) = short_value(parts, 0x16) else {
         return None;
     };
     match behind {

@@ -1,27 +1,11 @@
-//! Values whose header is two octets, as nearly all in long lists have: what begins so is read without naming the
+//! Numbers whose header is two octets, as nearly all in long lists have: what begins so is read without naming the
 //! errors of what doesn't.
 
 ghost use Rattle.std.specs.Prelude.{◌≡◌, ◌≤◌, ◌<◌, ◌^◌, IfSome};
 ghost use Rattle.rpki_der.specs.Prelude.{Accepts, IsUnsignedBelow};
 ghost use Rattle.rpki_contents.specs.Aspa.{as_number};
-ghost use Rattle.rpki_contents.specs.Short.{IsShort};
 
-/// The contents of the value at the front, where its header is this octet and a length below 128, and what follows it.
-#[inline(always)]
-pub(crate) fn short(octets: &[u8], first: u8) -> Option<(&[u8], &[u8])>
-    ensures { IfSome result (λ x. IsShort first octets.now x.0.now x.1.now) }
-{
-    match octets {
-        [lead, length, following @ ..] => {
-            let length = usize::from(*length);
-            if *lead != first || length > 127 || following.len() < length {
-                return None;
-            }
-            Some(following.split_at(length))
-        }
-        _ => None,
-    }
-}
+use rpki_x509::short_value;
 
 /// The number, where it is at least the one and below the other.
 #[inline(always)]
@@ -63,7 +47,7 @@ fn number_in(contents: &[u8]) -> Option<u32>
 pub(crate) fn short_number(octets: &[u8]) -> Option<(u32, &[u8])>
     ensures { IfSome result (λ x. Accepts as_number.spells octets.now x.0 x.1.now) }
 {
-    match short(octets, 0x02) {
+    match short_value(octets, 0x02) {
         Some((contents, rest)) => match number_in(contents) {
             Some(number) => Some((number, rest)),
             None => None,

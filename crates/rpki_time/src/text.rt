@@ -1,7 +1,7 @@
 //! The texts of times: UTC time, YYMMDDHHMMSSZ, and generalized time, YYYYMMDDHHMMSSZ (X.690 11.7, 11.8;
 //! RFC 5280 4.1.2.5).
 
-ghost use Rattle.std.specs.Prelude.{◌≡◌, ◌↔◌, ◌+◌, ◌<◌, ◌≤◌, ℕ, ℤ, pos, length, IfSome, IfNone};
+ghost use Rattle.std.specs.Prelude.{◌≡◌, ◌↔◌, ◌+◌, ◌<◌, ◌≤◌, ℕ, ℤ, pos, length, IsTrue, IfSome, IfNone};
 ghost use Rattle.jiff.specs.Types.{DateTime as Civil};
 ghost use Rattle.rpki_time.specs.TimeText.{two_digits, utc_text, generalized_text, ReadsAsUtc, ReadsAsGeneralized};
 ghost use Rattle.rpki_time.specs.TimeText.{is_utc_year};
@@ -87,6 +87,18 @@ impl Time {
             1900 + short
         };
         tail_at(year, text, 2)
+    }
+
+    /// Whether the text writes a time as UTC time (X.690 11.8, RFC 5280 4.1.2.5.1), as [Time::take_from] reads it.
+    /// Allocates nothing.
+    #[inline]
+    pub fn is_utc_text(text: &[u8]) -> bool
+        ensures { IsTrue result ↔ ((t : Civil) × ReadsAsUtc text.now t) }
+    {
+        match Time::from_utc_text(text) {
+            Some(_) => true,
+            None => false,
+        }
     }
 
     /// The time that the text writes as generalized time (RFC 5280 4.1.2.5.2). None if it writes none.

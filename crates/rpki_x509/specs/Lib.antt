@@ -4,6 +4,7 @@ pub mod Frame
 pub mod InPlace
 pub mod MessageDigest
 pub mod Name
+pub mod Short
 pub mod Signed
 pub mod SignedParts
 pub mod Tag
