@@ -8,6 +8,7 @@ ghost use Rattle.rpki_crl.specs.Crl.{entry, each_entry};
 ghost use Rattle.rpki_crl.specs.CrlView.{FindsSerial, Keeps, Looks, TakesRevoked};
 
 use crate::crl_entry::CrlEntry;
+use crate::short_entry::after_short_entry;
 use rpki::der::{Constructed, DecodeError, Section, Tag};
 use rpki::repository::x509::Serial;
 
@@ -21,9 +22,15 @@ fn are_entries(contents: Constructed<'_>) -> bool
         |rest, all|
             ensures { TakesStep Keeps entry all (left rest.old) (left rest.new) result }
         {
-            match CrlEntry::take_from(rest) {
-                Ok(_) => Ok(all),
-                Err(e) => Err(e),
+            match after_short_entry(rest.rest()) {
+                Some(following) => {
+                    *rest = Constructed::from_slice(following);
+                    Ok(all)
+                }
+                None => match CrlEntry::take_from(rest) {
+                    Ok(_) => Ok(all),
+                    Err(e) => Err(e),
+                },
             }
         },
     );

@@ -13,6 +13,7 @@ mod encode;
 mod entries;
 pub mod laws;
 mod list_view;
+mod short_entry;
 mod tbs_cert_list;
 
 pub use crl::Crl;
