@@ -4,7 +4,8 @@ use Rattle.std.proofs.Common.{subst, append-nil, arith}
 use Rattle.jiff.specs.Types.{DateTime}
 use Rattle.rpki_der.specs.Number.{number_of}
 use Rattle.rpki_der.specs.Integer.{IsMinimal}
-use Rattle.rpki_der.specs.Prelude.{sequence, integer, utc_time, Accepts, Spells, SpellsContents, Format, leaf, only, then}
+use Rattle.rpki_der.specs.Prelude.{sequence, integer, utc_time, Accepts, Spells, SpellsContents, Format, leaf, only}
+use Rattle.rpki_der.specs.Prelude.{then}
 use Rattle.rpki_der.proofs.IntegerLaws.{minimal-IsUnsigned, octets-fit, one-number}
 use Rattle.rpki_der.proofs.OneFormatLaws.{IsLawful, leaf-lawful, only-lawful, then-lawful, around-lawful}
 use Rattle.rpki_time.specs.Serial.{IsSerialContents}

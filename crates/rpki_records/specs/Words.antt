@@ -1,5 +1,5 @@
 -- Readers as functions, whose error names the malformed part beside what is wrong with it.
-use Rattle.std.specs.Prelude.{ℕ, zero, suc, Bool, true, false, List, [], ◌∷◌, ◌++◌}
+use Rattle.std.specs.Prelude.{◌≡◌, ℕ, zero, suc, Bool, true, false, IsTrue, List, [], ◌∷◌, ◌++◌}
 use Rattle.std.specs.Prelude.{Option, Some, None, Result, Ok, Err}
 use Rattle.rpki_der.specs.Error.{error_number}
 use Rattle.rpki_der.specs.declared.error.DecodeError.{DecodeError}
@@ -19,6 +19,10 @@ at_part p (Err e) = Err (p, e)
 abbrev pub told : {X V P : Type 0} → (X → V) → Result X (Malformed P) → Result V (P × ℕ)
 told view (Ok x) = Ok (view x)
 told view (Err e) = Err (e.part, error_number e.error)
+
+-- two errors are of one part, and what is wrong with it is the same
+abbrev pub HaveSameParts : {P : Type 0} → (DecodeError → DecodeError → Bool) → Malformed P → Malformed P → Type 0
+HaveSameParts same p q = (p.part ≡ q.part) × IsTrue (same p.error q.error)
 
 -- whether it is there
 abbrev pub is_there : {V : Type 0} → Option V → Bool

@@ -14,6 +14,7 @@ mod checklist;
 mod entries;
 mod folds;
 pub mod identifier;
+pub mod laws;
 mod listed_digest;
 mod malformed;
 mod resources;

@@ -22,6 +22,11 @@ def rejected(text):
     return [f"rejected {text}"]
 
 
+# Dates of entries: the last second of both centuries of UTC time, a leap day, and both forms of others.
+DATES = "991231235959Z", "491231235959Z", "240229000000Z", "20500101000000Z", "20251231235959Z"
+NO_DATES = ["250229000000Z", "260431000000Z", "261301000000Z", "260001000000Z", "260100000000Z", "260101240000Z",
+            "260101006000Z", "260101000060Z", "260101000000z", "26010100000Z0", "2 0101000000Z"]
+
 OTHERS = rejected("extensions that no revocation list has")
 
 # A name, a list, and the lines that are expected.
@@ -34,6 +39,10 @@ ACCEPTED = [
     ("entries that do not ascend", listed(entries=sequence(entry(9), entry(1))),
      lines(entries=((9, REVOKED), (1, REVOKED)))),
     ("the highest serial number", listed(entries=sequence(entry(HIGHEST))), lines(entries=((HIGHEST, REVOKED),))),
+    ("the number 0", listed(entries=sequence(entry(0))), lines(entries=((0, REVOKED),))),
+    ("a number with a zero octet in front", listed(entries=sequence(entry(128))), lines(entries=((128, REVOKED),))),
+    *((f"an entry of the date {date}", listed(entries=sequence(entry(1, date), entry(2))),
+       lines(entries=((1, date), (2, REVOKED)))) for date in DATES),
     ("the number first", of([number(), authority()]), lines()),
     ("the number 0", of([authority(), number(unsigned(0))]), lines(crl_number=0)),
     ("the highest number", of([authority(), number(unsigned(HIGHEST))]), lines(crl_number=HIGHEST)),
@@ -66,6 +75,14 @@ REFUSED = [
      rejected("trailing data")),
     ("an entry without a date", listed(entries=sequence(sequence(unsigned(1)))), rejected("truncated value")),
     ("an entry without a number", listed(entries=sequence(sequence(time(REVOKED)))), rejected("unexpected value")),
+    *((f"an entry of the date {date}", listed(entries=sequence(entry(1, date), entry(2))),
+       rejected("malformed time value")) for date in NO_DATES),
+    ("an entry whose date has no time", listed(entries=sequence(sequence(unsigned(1), tlv(0x17, b"")))),
+     rejected("malformed time value")),
+    ("an entry whose date has another tag", listed(entries=sequence(sequence(unsigned(1), tlv(0x16, REVOKED.encode())))),
+     rejected("malformed time value")),
+    ("a serial number without octets", listed(entries=sequence(sequence(integer(b""), time(REVOKED)))),
+     rejected("malformed INTEGER")),
     ("a serial number below 0", listed(entries=sequence(sequence(integer(b"\x80"), time(REVOKED)))),
      rejected("malformed INTEGER")),
     ("a serial number of 21 octets", listed(entries=sequence(sequence(integer(b"\x01" + bytes(20)), time(REVOKED)))),
