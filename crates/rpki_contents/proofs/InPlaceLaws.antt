@@ -5,40 +5,14 @@ use Rattle.std.proofs.lemmas.Bool.Decides.{nat_tests}
 use Rattle.std.specs.Prelude.{IfSome}
 use Rattle.rpki_der.specs.declared.error.DecodeError.{DecodeError}
 use Rattle.rpki_der.specs.declared.error.DecodeError.TheVariants.{OutOfMemory}
-use Rattle.rpki_der.specs.Prelude.{sequence, Accepts, Refusal, Refuses, SpellsNothing, SpellsContents}
-use Rattle.rpki_der.specs.Prelude.{IsContentsFault}
+use Rattle.rpki_der.specs.Prelude.{Refusal, Refuses}
 use Rattle.rpki_der.proofs.PartsLaws.{Kind}
 use Rattle.rpki_der.proofs.InsideLaws.{unless-memory}
-use Rattle.rpki_der.proofs.LeavesLaws.{contents-no-memory}
-use Rattle.rpki_der.proofs.ComposedLaws.{all-read, nothing-after, nothing-whole}
-use Rattle.rpki_contents.specs.InPlace.{IsSequenceOf}
 
 -- an error of a reader that takes no memory
 pub refused : {V : Type 0} (G : V → List ℕ → Type 0) (K : Kind) (s r : List ℕ) (e : DecodeError)
     → (K s OutOfMemory → ⊥) → Refusal G K s r e → Refuses G s
 refused G K s r e never h = unless-memory e (λ z. never (subst (K s) z h.kind)) h.refuses
-
--- ---- a SEQUENCE that is all of s
-
-module _ (s r : List ℕ) where
-  contents-missing : (e : DecodeError)
-      → Refusal (SpellsContents sequence true) (IsContentsFault sequence true) s r e
-      → Refuses (SpellsContents sequence true) s
-  contents-missing e h =
-      refused (SpellsContents sequence true) (IsContentsFault sequence true) s r e
-      (λ k. contents-no-memory sequence true s OutOfMemory k refl) h
-
-  pub no-sequence : (e : DecodeError) → Refusal (SpellsContents sequence true) (IsContentsFault sequence true) s r e
-      → SpellsNothing (SpellsContents sequence true) s
-  no-sequence e h = nothing-whole (SpellsContents sequence true) s (contents-missing e h)
-
-  module _ (c : List ℕ) (a : Accepts (SpellsContents sequence true) s c r) where
-    pub sequence-all : r ≡ [] → IsSequenceOf s c
-    sequence-all end =
-        let h = all-read (SpellsContents sequence true) s c r a end in record { spelled = h.0; only = h.1 }
-
-    pub sequence-more : (r ≡ [] → ⊥) → SpellsNothing (SpellsContents sequence true) s
-    sequence-more some = nothing-after (SpellsContents sequence true) s r c a some
 
 -- ---- whether octets remain
 

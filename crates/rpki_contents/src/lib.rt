@@ -35,7 +35,6 @@ mod roa_family;
 mod roa_view;
 mod route_origin;
 mod short_form;
-mod whole_value;
 
 pub use aspa::AsProviderAttestation;
 pub use aspa_encoder::{AspaEncoder, AspaVersion, NumbersEncoder, VersionFrame};
