@@ -18,6 +18,7 @@ mod json;
 mod json_keys;
 mod json_vaps;
 mod key_filters;
+pub mod laws;
 mod lines;
 mod members;
 mod metrics;
