@@ -1,5 +1,7 @@
 """Where rpkicert and rpki-client differ: the changes of alterations.py and the lists of tests/python/variants, by the
 reason."""
+from variants.lists import NO_DATES
+
 # Why they differ: the changes for which rpki-client alone says yes, by the reason, and then rpkicert alone.
 STRICTER = {
     "version 3 alone (RFC 6487 4.1)": [
@@ -130,6 +132,9 @@ LISTS = {
     ],
     "an entry is a serial number of twenty octets at most, and a time (RFC 6487 5, RFC 5280 4.1.2.2)": [
         "an entry with extensions", "a serial number below 0", "a serial number of 21 octets",
+    ],
+    "the date of an entry is one (RFC 5280 5.1.2.6, 4.1.2.5); there by OpenSSL, which doesn't read it": [
+        "an entry whose date has no time", *(f"an entry of the date {date}" for date in NO_DATES),
     ],
     "there are two extensions, neither critical, and no other (RFC 6487 5)": [
         "a third extension", "a third extension between the two", "a critical number",
