@@ -78,7 +78,7 @@ def build(folder):
 
 
 def main():
-    if len(sys.argv) != 2:
+    if len(sys.argv) != 2 or sys.argv[1].startswith("-"):
         sys.exit(__doc__)
     print("building the C library without proof", file=sys.stderr, flush=True)
     build(sys.argv[1])
