@@ -25,6 +25,7 @@ ghost use Rattle.rpki.specs.declared.crypto.keys.verification.SignatureVerificat
 ghost use Rattle.rpki.specs.declared.repository.error.InspectionError.{InspectionError};
 ghost use Rattle.rpki.specs.declared.repository.error.VerificationError.{VerificationError};
 ghost use Rattle.rpki.specs.declared.repository.error.ValidationError.{ValidationError};
+ghost use Rattle.rpki.specs.declared.repository.x509.name.rule.NameRule.{NameRule as BrokenRule};
 
 use crate::crypto::{
     BgpsecSignatureAlgorithm, DigestAlgorithm, KeyIdentifier, PublicKey, PublicKeyFormat,
@@ -32,7 +33,7 @@ use crate::crypto::{
     SigningAlgorithm,
 };
 use crate::repository::error::{InspectionError, ValidationError, VerificationError};
-use crate::repository::x509::{CertExtension, Name, SignedData};
+use crate::repository::x509::{CertExtension, Name, NameRule, SignedData};
 use rpki_der::{DecodeError, PrimitiveContent};
 use std::hash::Hash;
 
@@ -123,6 +124,13 @@ pub fn algorithms_are_compared_by_their_values()
         ↔ (a ≡ b) }
     ensures bgpsec { IsTrue (⟦<BgpsecSignatureAlgorithm as PartialEq>⟧.eq tt tt) }
     ensures digest { (a b : DigestAlgorithm) → IsTrue (⟦<DigestAlgorithm as PartialEq>⟧.eq a b) }
+    ensures digest_hash { (a b : DigestAlgorithm)
+        → ⟦<DigestAlgorithm as Hash>⟧.hash_input a ≡ ⟦<DigestAlgorithm as Hash>⟧.hash_input b }
+{}
+
+/// Rules of names are equal exactly where they are one.
+pub fn equal_rules_are_one()
+    ensures { (p q : BrokenRule) → IsTrue (⟦<NameRule as PartialEq>⟧.eq p q) ↔ (p ≡ q) }
 {}
 
 /// Errors are equal where they are of one kind and have the same text.

@@ -5,6 +5,7 @@ ghost use Rattle.rpki_cert.specs.declared.extension.key_usage.KeyUsage.{KeyUsage
 ghost use Rattle.rpki_cert.specs.declared.extension.kind.ExtensionKind.{ExtensionKind as KindOfExtension};
 ghost use Rattle.rpki_cert.specs.declared.extension.known_part.KnownPart.{KnownPart as WrongExtension};
 ghost use Rattle.rpki_cert.specs.declared.extension.policy.Overclaim.{Overclaim as Policy};
+ghost use Rattle.rpki_cert.specs.declared.profile.CheckError.{CheckError as FailedCheck};
 ghost use Rattle.rpki_cert.specs.declared.profile.Profile.{Profile as HeldProfile};
 ghost use Rattle.rpki_cert.specs.declared.profile.rule.CertRule.{CertRule as BrokenRule};
 ghost use Rattle.rpki_cert.specs.declared.read.cert_error.CertError.{CertError as WrongCert};
@@ -14,8 +15,8 @@ use crate::extension::key_usage::KeyUsage;
 use crate::extension::kind::ExtensionKind;
 use crate::extension::known_part::KnownPart;
 use crate::extension::policy::Overclaim;
-use crate::profile::Profile;
 use crate::profile::rule::CertRule;
+use crate::profile::{CheckError, Profile};
 use crate::read::cert_error::CertError;
 use crate::read::cert_part::CertPart;
 use rpki::der::DecodeError;
@@ -39,8 +40,9 @@ pub fn equal_errors_have_equal_parts()
         ↔ ((p.part ≡ q.part) × IsTrue (⟦<DecodeError as PartialEq>⟧.eq p.error q.error)) }
 {}
 
-/// Profiles, and their rules, are equal exactly where they are one.
+/// Profiles, their rules, and what a check says, are equal exactly where they are one.
 pub fn equal_profiles_are_one()
     ensures profile { (p q : HeldProfile) → IsTrue (⟦<Profile as PartialEq>⟧.eq p q) ↔ (p ≡ q) }
     ensures rule { (p q : BrokenRule) → IsTrue (⟦<CertRule as PartialEq>⟧.eq p q) ↔ (p ≡ q) }
+    ensures check { (p q : FailedCheck) → IsTrue (⟦<CheckError as PartialEq>⟧.eq p q) ↔ (p ≡ q) }
 {}

@@ -32,3 +32,7 @@ HasOneKind K = (s : List ℕ) (d e : DecodeError) → K s d → K s e → error_
 -- K says of no octets two errors
 abbrev pub HasOneError : (List ℕ → DecodeError → Type 0) → Type 0
 HasOneError K = (s : List ℕ) (d e : DecodeError) → K s d → K s e → d ≡ e
+
+-- two errors are of one kind, and have one text
+abbrev pub AreSame : DecodeError → DecodeError → Type 0
+AreSame d e = (error_number d ≡ error_number e) × (error_text d ≡ error_text e)

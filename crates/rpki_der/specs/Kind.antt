@@ -1,7 +1,6 @@
 -- What an entry of an index keeps of a header in one word of 32 bits: in the lowest 28 the number of the tag, in the
 -- next two its class (X.690 8.1.2.2, table 1), then the form, and at the top whether another value holds its value.
-use Rattle.std.specs.Prelude.{ℕ, Bool, nat_eq, ◌+◌, ◌*◌, ◌/◌, ◌%◌, ◌^◌, ◌==◌}
-use Rattle.std.specs.Ordering.{on}
+use Rattle.std.specs.Prelude.{ℕ, Bool, ◌+◌, ◌*◌, ◌/◌, ◌%◌, ◌^◌, ◌==◌}
 use Rattle.rpki_der.specs.TagName.{TagName, tag_of}
 use Rattle.rpki_der.specs.Header.{class_number, form_number}
 use Rattle.rpki_der.specs.HeaderReading.{class_at}
@@ -26,7 +25,3 @@ abbrev pub kind_of : ℕ → HeaderKind
 kind_of word =
     let tag = tag_of (class_at (word / 2 ^ 28 % 4)) (word % 2 ^ 28) in
     kind tag (word / 2 ^ 30 % 2 == 1) (word / 2 ^ 31 == 1)
-
--- the same tag, form and holding
-abbrev pub same_kind : HeaderKind → HeaderKind → Bool
-same_kind = on word_of nat_eq

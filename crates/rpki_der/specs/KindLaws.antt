@@ -1,10 +1,8 @@
--- Lemmas: a word of 32 bits and what it stands for; equality of what two stand for is an equivalence.
+-- Lemmas: a word of 32 bits and what it stands for.
 use Rattle.std.proofs.Common.{◌≡◌, ℕ, zero, suc, ◌/◌, ◌%◌, ◌^◌, ◌<◌, eqb, refl, arith}
 use Rattle.rpki_der.specs.Header.{class_number, form_number}
 use Rattle.rpki_der.specs.HeaderReading.{class_at}
-use Rattle.std.specs.Cmp.{IsEquivalence}
-use Rattle.std.proofs.lemmas.Cmp.{on_equiv, nat_eq_equiv}
-use Rattle.rpki_der.specs.Kind.{word_of, kind_of, same_kind}
+use Rattle.rpki_der.specs.Kind.{word_of, kind_of}
 
 pub class-takes : (n : ℕ) → n < 4 → class_number (class_at n) ≡ n
 class-takes zero lt = refl
@@ -25,6 +23,3 @@ word-again w lt =
     let f = form-takes (w / 2 ^ 30 % 2) (omega arith) in
     let i = form-takes (w / 2 ^ 31) (omega arith) in
     omega (arith, c, f, i)
-
-pub same_kind_equivalence : IsEquivalence same_kind
-same_kind_equivalence = on_equiv word_of nat_eq_equiv

@@ -7,7 +7,7 @@ use crate::tag::{Header, Tag};
 use std::marker::Model;
 
 /// A header in an index: where it and its contents are, and what it says.
-#[derive(Clone, Copy, Debug, PartialEq, Eq)]
+#[derive(Clone, Copy, Debug)]
 pub struct HeaderEntry {
     place: usize,
     /// The number of the parent, or 0 where there is none.

@@ -32,26 +32,6 @@ impl Model for Kind {
     ghost inverse_ok = { λ k h i. record { word = word-again k.word h.0 i } };
 }
 
-impl PartialEq for Kind {
-    ghost use Rattle.rpki_der.specs.Kind.{same_kind};
-    ghost use Rattle.rpki_der.specs.KindLaws.{same_kind_equivalence};
-    ghost use Rattle.std.specs.Cmp.{partial_equiv_from_equiv};
-
-    ghost eq = { same_kind };
-
-    ghost laws = { partial_equiv_from_equiv same_kind_equivalence };
-
-    fn eq(&self, other: &Kind) -> bool {
-        self.word == other.word
-    }
-}
-
-impl Eq for Kind {
-    ghost use Rattle.rpki_der.specs.KindLaws.{same_kind_equivalence};
-
-    ghost laws = { same_kind_equivalence };
-}
-
 impl Kind {
     /// The tag, the form, and whether another value holds the value.
     pub(crate) fn new(tag: Tag, constructed: bool, is_inner: bool) -> Kind

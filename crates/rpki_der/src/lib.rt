@@ -17,6 +17,7 @@ mod contents;
 mod cursor;
 mod each;
 mod encode;
+pub mod equal_laws;
 mod error;
 mod from_values;
 mod front;

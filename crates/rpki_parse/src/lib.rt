@@ -7,8 +7,10 @@
 //! `let mut contents = take_sequence(&mut cons)?; let number = take_u32(&mut contents)?; finish(contents)?;`
 #![tactic(auto)]
 
+pub mod laws;
 mod leaf;
 mod list;
+mod malformed;
 mod octets;
 mod optional;
 mod part;
@@ -20,6 +22,7 @@ pub use leaf::{
     take_oid, take_u8, take_u32, take_u64, take_unsigned,
 };
 pub use list::{Step, fold};
+pub use malformed::{Malformed, at_part};
 pub use optional::{take_bool_default_false, take_directory_string, take_opt_null};
 pub use part::at;
 pub use text::{take_ia5, take_printable, take_utf8};

@@ -25,7 +25,7 @@ use Rattle.rpki_records.specs.declared.tak.TakPart.{TakPart}
 use Rattle.rpki_records.specs.declared.tak.TakPart.TheVariants as P
 use Rattle.rpki_records.specs.declared.tak.TakView.{TakView}
 use Rattle.rpki_records.specs.Checklist.{first_tag, second_tag}
-use Rattle.rpki_records.specs.Words.{at_part}
+use Rattle.rpki_parse.specs.Parts.{at_part}
 
 -- ---- a key (3.2.2)
 

@@ -24,7 +24,7 @@ use Rattle.rpki_records.specs.declared.card_property.CardProperty.{CardProperty}
 use Rattle.rpki_records.specs.declared.card_property.PropertyKind.{PropertyKind}
 use Rattle.rpki_records.specs.declared.card_property.PropertyKind.TheVariants as K
 use Rattle.rpki_records.specs.Folds.{after_folds, begins_fold, next_octet, unfolded}
-use Rattle.rpki_records.specs.Words.{at_part}
+use Rattle.rpki_parse.specs.Parts.{at_part}
 
 -- ---- octets (RFC 6350 3.3)
 

@@ -28,7 +28,8 @@ use Rattle.rpki_records.specs.declared.checklist.Named.{Named}
 use Rattle.rpki_records.specs.declared.checklist.ChecklistPart.{ChecklistPart}
 use Rattle.rpki_records.specs.declared.checklist.ChecklistPart.TheVariants as P
 use Rattle.rpki_records.specs.declared.listed_digest.ListedDigest.{ListedDigest}
-use Rattle.rpki_records.specs.Words.{at_part, is_there}
+use Rattle.rpki_parse.specs.Parts.{at_part}
+use Rattle.rpki_records.specs.Words.{is_there}
 
 -- the explicit tags [0] and [1]
 abbrev pub first_tag : TagName

@@ -7,13 +7,12 @@ ghost use Rattle.rpki_der.specs.Prelude.{left};
 ghost use Rattle.rpki_parse.specs.Words.{kinds};
 ghost use Rattle.rpki_records.specs.Card.{card_in, card_line_at, card_lines_in, found_card, found_property};
 ghost use Rattle.rpki_records.specs.Card.{given_property_at, holds, seen_end, seen_with};
-ghost use Rattle.rpki_records.specs.Words.{told};
+ghost use Rattle.rpki_parse.specs.Parts.{told};
 
 use crate::card_octets::{is_word, take_line, take_text_line};
 use crate::card_property::{CardProperty, PropertyKind, read_property};
-use crate::malformed::{Malformed, at_part};
 use rpki_der::{Constructed, DecodeError};
-use rpki_parse::{Step, fold};
+use rpki_parse::{Malformed, Step, at_part, fold};
 
 /// The malformed part of a card.
 #[derive(Clone, Copy, Debug, PartialEq, Eq)]

@@ -7,14 +7,15 @@ ghost use Rattle.rpki_parse.specs.Words.{kinds, parsed};
 ghost use Rattle.rpki_records.specs.Checklist.{algorithm_at, checklist, checklist_parts, count_at, file_of};
 ghost use Rattle.rpki_records.specs.Checklist.{found_checklist, given_file_at, named_of, resources_at, skip_file_at};
 ghost use Rattle.rpki_records.specs.Checklist.{under_first, under_second, version_at};
-ghost use Rattle.rpki_records.specs.Words.{is_there, told};
+ghost use Rattle.rpki_parse.specs.Parts.{told};
+ghost use Rattle.rpki_records.specs.Words.{is_there};
 
 use crate::listed_digest::ListedDigest;
-use crate::malformed::{Malformed, at_part};
 use rpki::oid::SHA256;
 use rpki_der::{Class, Constructed, DecodeError, Tag};
 use rpki_parse::{
-    Step, finish, fold, has_tag, skip_oid_if, take_constructed_if, take_opt_null, take_sequence,
+    Malformed, Step, at_part, finish, fold, has_tag, skip_oid_if, take_constructed_if,
+    take_opt_null, take_sequence,
 };
 
 /// The malformed part of a checklist.

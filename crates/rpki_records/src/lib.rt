@@ -16,7 +16,6 @@ mod folds;
 pub mod identifier;
 pub mod laws;
 mod listed_digest;
-mod malformed;
 mod resources;
 mod tak;
 
@@ -26,6 +25,5 @@ pub use card_property::{CardProperty, PropertyKind};
 pub use checklist::{Checklist, ChecklistPart, ListedDigestCursor};
 pub use folds::unfold;
 pub use listed_digest::ListedDigest;
-pub use malformed::Malformed;
 pub use resources::ResourceBlock;
 pub use tak::{TakPart, TakView};

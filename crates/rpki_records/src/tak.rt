@@ -5,12 +5,11 @@ ghost use Rattle.rpki_der.specs.Prelude.{left, optional_of};
 ghost use Rattle.rpki_parse.specs.Words.{parsed};
 ghost use Rattle.rpki_records.specs.AnchorKeys.{found_key, found_tak, key_under, predecessor_at, successor_at, tak};
 ghost use Rattle.rpki_records.specs.AnchorKeys.{tak_parts, version_at};
-ghost use Rattle.rpki_records.specs.Words.{told};
+ghost use Rattle.rpki_parse.specs.Parts.{told};
 
 use crate::anchor_key::AnchorKey;
-use crate::malformed::{Malformed, at_part};
 use rpki_der::{Class, Constructed, DecodeError, Tag};
-use rpki_parse::{finish, has_tag, take_constructed_if, take_sequence};
+use rpki_parse::{Malformed, at_part, finish, has_tag, take_constructed_if, take_sequence};
 
 /// The malformed part of a content of trust anchor keys.
 #[derive(Clone, Copy, Debug, PartialEq, Eq)]

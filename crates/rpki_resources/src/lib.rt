@@ -18,6 +18,7 @@ mod choice_view;
 mod compared;
 mod difference;
 mod encode;
+pub mod equal_laws;
 mod family;
 mod frames;
 mod ip_read;

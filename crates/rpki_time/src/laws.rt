@@ -2,6 +2,7 @@
 //! law of a call makes that call. The contract is the law.
 
 ghost use Rattle.std.specs.Prelude.{◌≡◌, ◌≤◌, ◌<◌, ◌^◌, ◌<ℤ◌, ◌↔◌, ℕ, ℤ, List, ◌++◌, length, true, IsTrue, IfOk, Ok};
+ghost use Rattle.std.specs.Ordering.{int_cmp};
 ghost use Rattle.jiff.specs.Types.{DateTime as Civil};
 ghost use Rattle.jiff.specs.Words.{civil_nanos};
 ghost use Rattle.rpki_der.specs.Prelude.{left, IsUnsigned};
@@ -11,11 +12,14 @@ ghost use Rattle.rpki_time.specs.Time.{IsTimeYear, cut, ReadsCut};
 ghost use Rattle.rpki_time.specs.TimeText.{IsUtcYear, is_utc_year, utc_text, generalized_text, ReadsAsUtc};
 ghost use Rattle.rpki_time.specs.TimeText.{ReadsAsGeneralized};
 ghost use Rattle.rpki_time.specs.TimeValue.{time_octets, utc_octets, generalized_octets};
+ghost use Rattle.rpki_time.specs.declared.decimal.RepresentationError.{RepresentationError as NoDecimal};
 ghost use Rattle.rpki_time.specs.declared.serial.SerialSliceError.{SerialSliceError as NoSerial};
+ghost use Rattle.rpki_time.specs.declared.time.TimeParseError.{TimeParseError as NoTime};
 ghost use Rattle.rpki_time.specs.Validity.{Period, AreTimeYears, HaveSameEnds, IsTrimmed, cut_period};
 
+use crate::decimal::RepresentationError;
 use crate::serial::{Serial, SerialSliceError};
-use crate::time::Time;
+use crate::time::{Time, TimeParseError};
 use crate::time_encoder::{GeneralizedTime, UtcTime, VariedTime};
 use crate::validity::Validity;
 use rpki_der::{Constructed, DecodeError, PrimitiveContent, Values};
@@ -133,6 +137,11 @@ pub fn equal_times_are_one()
     ensures { (t u : Civil) → IsTrue (⟦<Time as PartialEq>⟧.eq t u) ↔ (civil_nanos t ≡ civil_nanos u) }
 {}
 
+/// Times are in the order of their moments.
+pub fn times_are_in_order_of_moments()
+    ensures { (t u : Civil) → ⟦<Time as Ord>⟧.cmp t u ≡ int_cmp (civil_nanos t) (civil_nanos u) }
+{}
+
 /// Periods are equal where the moments of their starts are one, and those of their ends.
 pub fn equal_periods_are_one()
     ensures { (p q : Period) → IsTrue (⟦<Validity as PartialEq>⟧.eq p q) ↔ HaveSameEnds p q }
@@ -156,9 +165,11 @@ pub fn periods_are_hashed_by_moments()
         ↔ HaveSameEnds p q }
 {}
 
-/// Errors of slices are equal where they are of one kind.
+/// Errors of slices and of texts are equal exactly where they are one.
 pub fn equal_errors_are_of_one_kind()
-    ensures { (d e : NoSerial) → IsTrue (⟦<SerialSliceError as PartialEq>⟧.eq d e) ↔ (d ≡ e) }
+    ensures slice { (d e : NoSerial) → IsTrue (⟦<SerialSliceError as PartialEq>⟧.eq d e) ↔ (d ≡ e) }
+    ensures decimal { (d e : NoDecimal) → IsTrue (⟦<RepresentationError as PartialEq>⟧.eq d e) ↔ (d ≡ e) }
+    ensures time { (d e : NoTime) → IsTrue (⟦<TimeParseError as PartialEq>⟧.eq d e) ↔ (d ≡ e) }
 {}
 
 /// What is written of serial numbers and times is what the standards say (RFC 5280 4.1.2.2, 4.1.2.5).

@@ -4,6 +4,7 @@
 
 mod authority;
 mod frame;
+pub mod laws;
 mod message_digest;
 mod name;
 mod nested;

@@ -1,8 +1,8 @@
-//! Why octets are no record: a part, and what is wrong with it.
+//! Errors that say which part is malformed, and why.
 
 ghost use Rattle.std.specs.Prelude.{◌≡◌};
+ghost use Rattle.rpki_parse.specs.Parts.{at_part, told};
 ghost use Rattle.rpki_parse.specs.Words.{kinds};
-ghost use Rattle.rpki_records.specs.Words.{at_part, told};
 
 use rpki_der::DecodeError;
 
@@ -17,10 +17,7 @@ pub struct Malformed<P> {
 
 /// What was read; an error is of this part.
 #[inline(always)]
-pub(crate) fn at_part<T: Drop, P: Drop>(
-    part: P,
-    read: Result<T, DecodeError>,
-) -> Result<T, Malformed<P>>
+pub fn at_part<T: Drop, P: Drop>(part: P, read: Result<T, DecodeError>) -> Result<T, Malformed<P>>
     ensures { told (λ x. x) result ≡ at_part part (kinds read) }
 {
     match read {
