@@ -10,7 +10,7 @@
  *
  * Where the status is not 0, `out` is left as it was; only `*count` and `*written` of the calls that say so are written
  * with RPKI_TOO_SMALL too, `*at` of rpki_base64_read with RPKI_INVALID_SYMBOL to RPKI_INVALID_PADDING, and `*error` of
- * rpki_certificate_error with each status but RPKI_OK.
+ * rpki_certificate_error and rpki_crl_error with each status but RPKI_OK.
  *
  * What a call takes of memory it frees before it returns. At the peak rpki_walk, rpki_index, rpki_fault and
  * rpki_signed_data take up to 24 octets for each level of nesting, and 64 more. rpki_signed_data_write and
@@ -959,6 +959,16 @@ rpki_status rpki_distribution_point(const uint8_t *octets, size_t size, struct r
  * else 79.
  */
 rpki_status rpki_crl(const uint8_t *octets, size_t size, struct rpki_crl_parts *out) RPKI_CHECKED;
+
+/*
+ * What is wrong with the malformed part. The status is that of rpki_crl. Where it is an RPKI_PART_ number, `*error`
+ * becomes one of RPKI_TRUNCATED to RPKI_TRAILING, as a reader of that part returns it: of RPKI_PART_REVOKED_CERTS the
+ * error of the first that is no entry; of RPKI_PART_EXTENSIONS that of the first that is no extension, then
+ * RPKI_CONTENT, where they are not the two, then RPKI_TRAILING; RPKI_CONTENT of RPKI_PART_SAME_ALGORITHM. Of
+ * RPKI_PART_SIGNATURE RPKI_TRAILING, for what follows it, comes before RPKI_CONTENT, for unused bits. RPKI_OK: the
+ * octets are a revocation list, and `*error` is left as it was. Takes no memory.
+ */
+rpki_status rpki_crl_error(const uint8_t *octets, size_t size, rpki_status *error) RPKI_CHECKED;
 
 /*
  * Takes the entry at the front of `rest`, as of revoked_certs: a SEQUENCE of a serial number and a time, and nothing

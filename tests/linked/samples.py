@@ -33,10 +33,12 @@ def of_certificate(words):
 
 
 def of_list(words):
-    """Which outcome a row of a revocation list has."""
+    """Which outcome a row of a revocation list has: a part and a reason, or what is said."""
     if words[0] != "list":
         return []
-    return [tuple(words[2:3]) + (min(len(words), 22), words[17] if len(words) > 17 else "")]
+    if words[2] != "0":
+        return [tuple(words[2:4])]
+    return [(min(len(words), 22), words[17] if len(words) > 17 else "")]
 
 
 def main():

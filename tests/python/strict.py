@@ -11,11 +11,11 @@ T = TypeVar("T")
 
 
 class Wrong(Exception):
-    """The status: an error, or the number of a malformed part."""
+    """The status: an error, or the number of a malformed part; then `error` is what is wrong with it."""
 
-    def __init__(self, status: int) -> None:
+    def __init__(self, status: int, error: Optional[int] = None) -> None:
         super().__init__(status)
-        self.status = status
+        self.status, self.error = status, status if error is None else error
 
 
 def need(holds: object, status: int = CONTENT) -> None:
@@ -27,8 +27,8 @@ def part(number: int, call: Callable[..., T], *words: Any) -> T:
     """What the call returns; where it can't, this part is malformed."""
     try:
         return call(*words)
-    except Wrong:
-        raise Wrong(number) from None
+    except Wrong as wrong:
+        raise Wrong(number, wrong.error) from None
 
 
 def status_of(call: Callable[..., T], *words: Any) -> Tuple[int, Optional[T]]:
@@ -190,6 +190,9 @@ def seconds(first: int, text: bytes) -> int:
 
 
 def moment(octets: Octets) -> int:
-    """The seconds of a UTCTime or a GeneralizedTime."""
-    first = 0x18 if octets.begins_with(0x18) else 0x17
-    return seconds(first, octets.take(first).octets)
+    """The seconds of a UTCTime or a GeneralizedTime. Of another primitive value the contents are what is wrong."""
+    (kind, constructed, tag), length = octets.tag(), octets.length()
+    need(not constructed, UNEXPECTED)
+    text = octets.cut(length).octets
+    need(kind == 0 and tag in (0x17, 0x18))
+    return seconds(tag, text)

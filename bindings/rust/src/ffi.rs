@@ -379,6 +379,14 @@ pub(crate) fn certificate_error(octets: &[u8]) -> Result<(), (Status, Status)> {
     done(unsafe { rpki_certificate_error(octets.as_ptr(), octets.len(), &mut error) }).map_err(|part| (part, error))
 }
 
+/// The malformed part of a revocation list, and what is wrong with it, as statuses.
+pub(crate) fn crl_error(octets: &[u8]) -> Result<(), (Status, Status)> {
+    compared();
+    let mut error = OK;
+    // SAFETY: pointer and size are those of one slice, which is borrowed for the call.
+    done(unsafe { rpki_crl_error(octets.as_ptr(), octets.len(), &mut error) }).map_err(|part| (part, error))
+}
+
 pub(crate) fn signed_object(octets: &[u8], strict: bool) -> Result<SignedObjectParts, Status> {
     // SAFETY: pointer and size are those of one slice, which is borrowed for the call.
     told(|out| unsafe { rpki_signed_object(octets.as_ptr(), octets.len(), strict, out) })

@@ -6,6 +6,7 @@ use rpki_proved::crypto::RpkiSignatureAlgorithm;
 use rpki_proved::repository::crl::{Crl, CrlEntry, CrlError, CrlStore};
 use rpki_proved::repository::x509::{Serial, Time};
 use rpki_proved::uri;
+use rpki_proved::view::DecodeError;
 
 const LIST: &str =
     "3081b330819a020101300d06092a864886f70d01010b0500300c310a30080603550403130141170d32363031303130303030\
@@ -28,6 +29,16 @@ const ERRORS: [(usize, CrlError, &str); 13] = [
     (120, CrlError::ThisUpdate, "malformed time of issue"),
     (121, CrlError::NextUpdate, "malformed time of the next list"),
     (122, CrlError::RevokedCerts, "malformed entry of a revoked certificate"),
+];
+
+/// What is wrong with a part, by its number less one.
+const REASONS: [DecodeError; 6] = [
+    DecodeError::Truncated,
+    DecodeError::BadTag,
+    DecodeError::BadLength,
+    DecodeError::Unexpected,
+    DecodeError::Content,
+    DecodeError::Trailing,
 ];
 
 fn octets(digits: &str) -> Vec<u8> {
@@ -87,6 +98,7 @@ fn compare_rows(rows: &str) -> (usize, usize) {
         match Crl::decode(all.clone()) {
             Ok(mut list) => {
                 assert_eq!(status, 0, "{row}");
+                assert_eq!(CrlError::find(&all), None);
                 compare(&all, &mut list, &words[3..]);
                 read += 1;
             }
@@ -94,6 +106,8 @@ fn compare_rows(rows: &str) -> (usize, usize) {
                 let known = ERRORS.iter().find(|(number, ..)| *number == status).expect("a status of a list");
                 assert_eq!(error, known.1, "{row}");
                 assert_eq!(error.to_string(), known.2);
+                let reason = REASONS[words[3].parse::<usize>().unwrap() - 1];
+                assert_eq!(CrlError::find(&all), Some((error, reason)), "{row}");
                 refused += 1;
             }
         }

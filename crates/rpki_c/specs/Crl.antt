@@ -1,10 +1,11 @@
 -- What a status says of the octets of a revocation list.
 use Rattle.std.specs.Prelude.{◌≡◌, ◌⊎◌, ◌≤◌, ◌<◌, ℕ, Bool, List, slice_index}
+use Rattle.rpki_der.specs.Error.{error_number}
 use Rattle.rpki_der.specs.Prelude.{number_of}
 use Rattle.rpki_crl.specs.declared.crl_part.CrlPart.{CrlPart}
 use Rattle.rpki_crl.specs.declared.crl_part.CrlPart.TheVariants as P
 use Rattle.rpki_crl.specs.Crl.{CrlParts as CrlValue, Entry, entry, each_entry, crl, listed, is_revoked}
-use Rattle.rpki_crl.specs.CrlView.{AreEntriesFault, IsCrlWrong}
+use Rattle.rpki_crl.specs.CrlView.{AreEntriesFault, CrlError, IsCrlError, IsCrlWrong}
 use Rattle.rpki_c.specs.declared.crl.CrlParts.{CrlParts}
 use Rattle.rpki_c.specs.declared.crl.RevokedCertificate.{RevokedCertificate}
 use Rattle.rpki_c.specs.declared.span.Span.{Span}
@@ -48,6 +49,13 @@ pub record HasCrl (s : List ℕ) (p : CrlParts) : Type 0 where
 -- written.
 abbrev pub IsCrlRead : List ℕ → ℕ → CrlParts → CrlParts → Type 0
 IsCrlRead s = IsRead (HasCrl s) crl_part_number (IsCrlWrong s)
+
+-- Status 0: the octets are a revocation list, and nothing is written. Else the number of the malformed part, and the
+-- number of the error, as a reader of that part returns it, is written.
+abbrev pub IsCrlErrorRead : List ℕ → ℕ → ℕ → ℕ → Type 0
+IsCrlErrorRead s status old new =
+    ((status ≡ 0) × ((x : CrlValue) × crl.spells x s) × (new ≡ old))
+    ⊎ ((q : CrlError) × IsCrlError s q × (status ≡ crl_part_number q.part) × (new ≡ error_number q.error))
 
 -- Status 0: the octets are entries, and it was written whether one of them is of the certificate of this serial number.
 -- Else nothing is written: the first bit of the number is set; or an octet is wrong, and the status is the number of

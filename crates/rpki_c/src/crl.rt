@@ -3,7 +3,7 @@
 ghost use Rattle.std.specs.Prelude.{◌≡◌};
 ghost use Rattle.rpki_crl.specs.Crl.{CrlParts as CrlValue};
 ghost use Rattle.rpki_crl.specs.CrlView.{IsCrlAt};
-ghost use Rattle.rpki_c.specs.Crl.{crl_part_number, HasCrl, IsCrlRead, IsCrlSearched, IsEntryTaken};
+ghost use Rattle.rpki_c.specs.Crl.{crl_part_number, HasCrl, IsCrlErrorRead, IsCrlRead, IsCrlSearched, IsEntryTaken};
 
 use crate::span::Span;
 use crate::status::CONTENT;
@@ -94,7 +94,24 @@ pub extern "C" fn rpki_crl<'a>(octets: &'a [u8], out: &mut CrlParts<'a>) -> u8
             *out = list_of(octets, &found);
             0
         }
-        Err(part) => crl_part_number(part),
+        Err(wrong) => crl_part_number(wrong.part),
+    }
+}
+
+/// Reads a revocation list, as [rpki_crl] does, and says what is wrong with the malformed part.
+///
+/// The status is that of [rpki_crl]. Where it is a part, `error` is the number of the error, that of `DecodeError`, as
+/// a reader of that part returns it; where it is 0, `error` is unchanged. Nothing is allocated.
+#[unsafe(no_mangle)]
+pub extern "C" fn rpki_crl_error(octets: &[u8], error: &mut u8) -> u8
+    ensures { IsCrlErrorRead octets.now result error.old error.new }
+{
+    match CrlView::read(octets) {
+        Ok(_) => 0,
+        Err(wrong) => {
+            *error = wrong.error.number();
+            crl_part_number(wrong.part)
+        }
     }
 }
 

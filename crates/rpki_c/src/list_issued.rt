@@ -92,7 +92,7 @@ pub extern "C" fn rpki_crl_issued_by(octets: &[u8], issuer: &[u8], moment: &Mome
 {
     let list = match CrlView::read(octets) {
         Ok(list) => list,
-        Err(part) => return crl_part_number(part),
+        Err(wrong) => return crl_part_number(wrong.part),
     };
     let authority = match CertView::read(issuer) {
         Ok(authority) => authority,

@@ -1,15 +1,18 @@
 -- Revocation lists that are read in place.
 use Rattle.std.proofs.Common.{◌≡◌, ◌∙◌, ℕ, true, List, refl, sym, subst}
+use Rattle.std.specs.Prelude.{codes}
+use Rattle.rpki_der.specs.declared.error.DecodeError.{DecodeError}
 use Rattle.rpki_der.specs.TagName.{sequence}
 use Rattle.rpki_der.specs.Values.{SpellsContents}
+use Rattle.rpki.specs.UnknownAlgorithm.{IsContentWith}
 use Rattle.rpki_x509.specs.declared.signed_parts.Parts.{Parts}
 use Rattle.rpki_x509.specs.SignedParts.{ArePartsAt}
 use Rattle.rpki_crl.specs.declared.crl_part.CrlPart.{CrlPart}
 use Rattle.rpki_crl.specs.declared.crl_view.CrlView.{CrlView}
 use Rattle.rpki_crl.specs.declared.list_view.TbsCertListView.{TbsCertListView}
 use Rattle.rpki_crl.specs.Crl.{fields_of, tbs_cert_list, CrlParts, crl_parts}
-use Rattle.rpki_crl.specs.CrlView.{IsTbsWrong, IsCrlAt, IsCrlWrong, signed_in}
-use Rattle.rpki_crl.specs.CrlView.IsCrlWrong.{InSigned, Differ}
+use Rattle.rpki_crl.specs.CrlView.{CrlError, crl_error, IsTbsWrong, IsCrlAt, IsCrlError, signed_in}
+use Rattle.rpki_crl.specs.CrlView.IsCrlError.{InSigned, Differ}
 use Rattle.rpki_crl.proofs.ListViewLaws.{IsTbsAt}
 
 pub list-read : (s c d : List ℕ) (v : CrlView) → SpellsContents sequence true c s → ArePartsAt c (signed_in v)
@@ -36,17 +39,18 @@ list-read s c d v h k is l same =
 
 -- ---- what is wrong with it
 
-pub in-signed : (s c d : List ℕ) (v : Parts) (q : CrlPart) → SpellsContents sequence true c s → ArePartsAt c v
-    → d ≡ v.signed.octets.now → IsTbsWrong d q → IsCrlWrong s q
+pub in-signed : (s c d : List ℕ) (v : Parts) (q : CrlError) → SpellsContents sequence true c s → ArePartsAt c v
+    → d ≡ v.signed.octets.now → IsTbsWrong d q → IsCrlError s q
 in-signed s c d v q h k is wrong =
     let (x, spelled, stand) = k in
     InSigned c x h spelled stand.used (subst (λ (y : List ℕ). IsTbsWrong y q) (is ∙ stand.signed.octets) wrong)
 
 pub differ : (s c d : List ℕ) (v : Parts) (f : TbsCertListView) → SpellsContents sequence true c s → ArePartsAt c v
     → d ≡ v.signed.octets.now → IsTbsAt d f → (f.signature ≡ v.signature_algorithm → ⊥)
-    → IsCrlWrong s CrlPart.SameAlgorithm
-differ s c d v f h k is l other =
+    → (e : DecodeError) → IsContentWith (codes "signature algorithms differ") e
+    → IsCrlError s (crl_error CrlPart.SameAlgorithm e)
+differ s c d v f h k is l other e text =
     let (x, spelled, stand) = k in
     let (t, tbs, there) = l in
     Differ c x t h spelled stand.used (subst (tbs_cert_list.spells (fields_of t)) (is ∙ stand.signed.octets) tbs)
-    (λ e. other (there.algorithm ∙ e ∙ sym stand.same)) refl
+    (λ same. other (there.algorithm ∙ same ∙ sym stand.same)) refl text

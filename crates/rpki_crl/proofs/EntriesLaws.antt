@@ -1,30 +1,27 @@
 -- The entries of a revocation list, read in place.
-use Rattle.std.proofs.Common.{◌≡◌, ◌≢◌, ◌∙◌, ◌++◌, ℕ, Bool, true, false, List, [], ◌∷◌, refl, sym, ap, subst, Result}
-use Rattle.std.proofs.Common.{Ok, Err}
-use Rattle.std.proofs.Common.{IsTrue}
-use Rattle.std.proofs.lemmas.Bool.{false≢true}
-use Rattle.std.specs.Prelude.{◌||◌, ◌↔◌, nat_eq}
-use Rattle.std.specs.Result.{is_ok}
+use Rattle.std.proofs.Common.{◌≡◌, ◌≢◌, ◌⊎◌, ◌∙◌, ◌++◌, ℕ, Bool, true, false, List, [], ◌∷◌, refl, sym, ap, subst}
+use Rattle.std.proofs.Common.{Result, Ok, Err}
+use Rattle.std.specs.Prelude.{◌||◌, nat_eq}
 use Rattle.rpki_der.specs.declared.error.DecodeError.{DecodeError}
 use Rattle.rpki_der.specs.declared.error.DecodeError.TheVariants.{OutOfMemory}
 use Rattle.rpki_der.specs.TagName.{integer, sequence}
-use Rattle.rpki_der.specs.Reading.{Accepts, Refuses, Refusal, Spells, SpellsNothing}
+use Rattle.rpki_der.specs.Reading.{Accepts, Refuses, Refusal, Spells, SpellsNothing, OrMemoryWhere, Finds}
 use Rattle.rpki_der.specs.Values.{SpellsContents, IsContentsFault}
 use Rattle.rpki_der.specs.FirstFault.{RepeatedFault, IsEndFault}
+use Rattle.rpki_der.specs.FirstFault.FirstFault.{AtPart, Later}
 use Rattle.rpki_der.specs.FirstFault.RepeatedFault.{AtMember, AfterMember}
-use Rattle.rpki_der.specs.Format.{Format, only}
+use Rattle.rpki_der.specs.Format.{Format, only, in_place}
 use Rattle.rpki_der.specs.Fold.{Lead, FoldFault, TakesFold}
 use Rattle.rpki_der.specs.Fold.FoldFault.{AtValue, LeadsNowhere, AfterValue}
 use Rattle.rpki_der.proofs.EachLaws.{leaf-some}
 use Rattle.rpki_der.proofs.FirstFaultLaws.{inside-no-memory, first-no-memory, end-no-memory}
-use Rattle.rpki_der.proofs.InsideLaws.{unless-memory}
+use Rattle.rpki_der.proofs.InsideLaws.{unless-memory, no-memory}
 use Rattle.rpki_der.proofs.LeavesLaws.{leaf-no-memory}
 use Rattle.rpki_der.proofs.LeavesLaws.{contents-no-memory}
-use Rattle.rpki.specs.AnyValue.{SpellsAny}
 use Rattle.rpki_time.specs.Serial.{IsSerialContents, serial_number}
 use Rattle.rpki_time.specs.TimeValue.{time}
 use Rattle.rpki_crl.specs.Crl.{Entry, entry, entry_parts, each_entry, entries, is_revoked}
-use Rattle.rpki_crl.specs.CrlView.{AreEntriesFault, FindsSerial, Keeps, Looks}
+use Rattle.rpki_crl.specs.CrlView.{AreEntriesFault, FindsSerial, Keeps, Looks, ReadsEntries}
 
 -- ---- values that lead on whatever they say
 
@@ -35,6 +32,14 @@ module _ {S V : Type 0} (step : S → V → S → Type 0) (F : Format V)
   each-fault from s e (AtValue some none k) = AtMember some none k
   each-fault from s e (LeadsNowhere v r a nowhere k) = absurd (nowhere (on from v).0 (on from v).1)
   each-fault from s e (AfterValue v next r a st h) = AfterMember v r a (each-fault next r e h)
+
+-- ---- values that aren't kept have the errors of those that are, but allocation failure
+
+pub repeated-kind : {V : Type 0} (G : V → List ℕ → Type 0) (K L : List ℕ → DecodeError → Type 0)
+    → ((s : List ℕ) (e : DecodeError) → e ≢ OutOfMemory → K s e → L s e) → (s : List ℕ) (e : DecodeError)
+    → e ≢ OutOfMemory → RepeatedFault G K s e → RepeatedFault G L s e
+repeated-kind G K L f s e n (AtMember some none k) = AtMember some none (f s e n k)
+repeated-kind G K L f s e n (AfterMember v r a h) = AfterMember v r a (repeated-kind G K L f r e n h)
 
 -- ---- entries take no memory
 
@@ -103,21 +108,17 @@ finds n s r (Err e) h = entries-wrong s e (each-fault (Looks n) entry (λ from v
 
 -- ---- whether all of it is entries
 
-pub all-entries : (s r : List ℕ) (x : Result (Unit {0}) DecodeError) → TakesFold Keeps entry tt s r x
-    → IsTrue (is_ok x) ↔ SpellsAny each_entry.spells tt s
-all-entries s r (Ok u) h = (λ z. (h.1, h.2), λ k. refl)
-all-entries s r (Err e) h = (
-  λ z. absurd (false≢true z),
-  λ k. absurd (entries-nothing s e (each-fault Keeps entry (λ from v. (_, refl)) tt s e h.1) k.0 k.1),
-)
+pub all-entries : (s r : List ℕ) (x : Result (Unit {0}) DecodeError) → TakesFold Keeps entry tt s r x → ReadsEntries s x
+all-entries s r (Ok u) h = (h.1, h.2)
+all-entries s r (Err e) h = entries-wrong s e (each-fault Keeps entry (λ from v. (_, refl)) tt s e h.1)
 
 -- ---- the list of them
 
 module _ (s c r : List ℕ) (a : Accepts (SpellsContents sequence true) s c r) where
-  pub no-entries : (SpellsAny each_entry.spells tt c → ⊥) → Refuses entries.spells s
+  pub no-entries : SpellsNothing each_entry.spells c → Refuses entries.spells s
   no-entries none xs q k =
       let here = a.only k.spelled.contents q (record { front = k.front; parts = k.parts; spelled = k.spelled.value }) in
-      none (xs, subst (each_entry.spells xs) here.0 k.spelled.spelled)
+      none xs (subst (each_entry.spells xs) here.0 k.spelled.spelled)
 
   pub entries-there : (xs : List Entry) → each_entry.spells xs c
       → (b : Spells entries.spells s xs r) × (b.spelled.contents ≡ c)
@@ -129,6 +130,27 @@ module _ (s c r : List ℕ) (a : Accepts (SpellsContents sequence true) s c r) w
     },
     refl,
   )
+
+-- the error of the list where one of them is wrong, or its SEQUENCE isn't there
+kept : (s : List ℕ) (e : DecodeError) → e ≢ OutOfMemory → entry.fault s e
+    → OrMemoryWhere (λ r. entry.fault r OutOfMemory ⊎ Finds entry.spells r) entry.fault s e
+kept s e n k = no-memory (λ r. entry.fault r OutOfMemory ⊎ Finds entry.spells r) entry.fault s e n k
+
+pub entry-fault : (s c r : List ℕ) (e : DecodeError) → Accepts (SpellsContents sequence true) s c r
+    → AreEntriesFault c e → (in_place entries).fault s e
+entry-fault s c r e a h = record {
+  other = h.other;
+  kind = Later c r a
+      (repeated-kind entry.spells entry.fault
+      (OrMemoryWhere (λ r. entry.fault r OutOfMemory ⊎ Finds entry.spells r) entry.fault) kept c e h.other h.kind);
+}
+
+pub sequence-fault : (s r : List ℕ) (e : DecodeError)
+    → Refusal (SpellsContents sequence true) (IsContentsFault sequence true) s r e → (in_place entries).fault s e
+sequence-fault s r e h = record {
+  other = contents-no-memory sequence true s e h.kind;
+  kind = AtPart h.refuses h.kind;
+}
 
 pub no-sequence : (s r : List ℕ) (e : DecodeError)
     → Refusal (SpellsContents sequence true) (IsContentsFault sequence true) s r e → Refuses entries.spells s

@@ -1,5 +1,6 @@
 -- What is signed of a revocation list, read in place.
-use Rattle.std.proofs.Common.{ℕ, Bool, true, false, List, Option, None, Some, Result, Ok, Err, refl, subst, inl, inr}
+use Rattle.std.proofs.Common.{◌≢◌, ℕ, Bool, true, false, List, Option, None, Some, Result, Ok, Err, refl, subst}
+use Rattle.std.proofs.Common.{inl, inr}
 use Rattle.std.specs.Prelude.{IfOk, IfErr}
 use Rattle.jiff.specs.Types.{DateTime}
 use Rattle.rpki_der.specs.declared.error.DecodeError.{DecodeError}
@@ -9,21 +10,24 @@ use Rattle.rpki_der.specs.Reading.{Accepts, Refuses, Refusal, SpellsNothing}
 use Rattle.rpki_der.specs.Values.{SpellsContents, HasTag}
 use Rattle.rpki_der.specs.Integer.{IsNumber}
 use Rattle.rpki_der.specs.Parts.{OptionalThen}
-use Rattle.rpki_der.specs.Format.{only}
+use Rattle.rpki_der.specs.Format.{only, in_place}
 use Rattle.rpki_der.specs.LeafFormats.{this_number}
 use Rattle.rpki_der.proofs.LeavesLaws.{leaf-no-memory}
-use Rattle.rpki_der.proofs.InsideLaws.{unless-memory}
+use Rattle.rpki_der.proofs.InsideLaws.{unless-memory, no-memory}
 use Rattle.rpki_time.specs.TimeValue.{time}
 use Rattle.rpki.specs.Name.{SpellsNameOctets}
+use Rattle.rpki.specs.NameValue.{HasNameValue}
+use Rattle.rpki.specs.NameFault.{borrowed_name, name}
+use Rattle.rpki.proofs.NameFaultLaws.{name-never}
 use Rattle.rpki_der.specs.declared.section.Section.{Section}
 use Rattle.rpki_der.specs.Section.{IsSection}
 use Rattle.rpki_crl.specs.declared.crl_part.CrlPart.{CrlPart}
 use Rattle.rpki_crl.specs.declared.list_view.TbsCertListView.{TbsCertListView}
 use Rattle.rpki_crl.specs.Crl.{Entry, entries, ListExtensions, extensions_of, extensions, ListParts, fields_of}
 use Rattle.rpki_crl.specs.Crl.{signature, fields, tbs_cert_list}
-use Rattle.rpki_crl.specs.CrlView.{TakesRevoked, IsListAt, entries_in_front, after_entries, AreFieldsWrong}
-use Rattle.rpki_crl.specs.CrlView.{AreListedWrong, IsTbsWrong}
-use Rattle.rpki_crl.specs.CrlView.FirstPart.{AtPart, Later}
+use Rattle.rpki_crl.specs.CrlView.{CrlError, crl_error, TakesRevoked, AreExtensionsFault, IsListAt}
+use Rattle.rpki_crl.specs.CrlView.{entries_in_front, after_entries, AreFieldsWrong, AreListedWrong, IsTbsWrong}
+use Rattle.rpki_crl.specs.CrlView.FirstWrong.{AtPart, Later}
 use Rattle.rpki_crl.specs.CrlView.IsTbsWrong.{InTbs}
 
 -- ---- readers that take no memory
@@ -41,6 +45,12 @@ version-refused s r e =
 pub time-refused : (s r : List ℕ) (e : DecodeError) → Refusal time.spells time.fault s r e → Refuses time.spells s
 time-refused s r e = refused time.spells time.fault s r e (λ m. m)
 
+-- the error of a name that isn't kept
+pub name-kind : (s : List ℕ) (e : DecodeError) → borrowed_name.fault s e → (in_place name).fault s e
+name-kind s e k =
+    let other : e ≢ OutOfMemory = λ z. name-never s (subst (borrowed_name.fault s) z k) in
+    record { other = other; kind = no-memory HasNameValue borrowed_name.fault s e other k }
+
 -- ---- a list that may be left out, and what follows it
 
 -- what the section is of, with what follows it
@@ -49,7 +59,7 @@ pub record Listed (s : List ℕ) (p : Section) (v : ListExtensions) : Type 0 whe
   pub spelled : OptionalThen entries.spells (only extensions).spells (revoked, v) s
   pub section : IsSection p (entries_in_front revoked v s spelled) (after_entries revoked v s spelled)
 
-pub listed : (s r : List ℕ) (p : Section) (v : ListExtensions) → TakesRevoked s r (Some p) → extensions.spells v r
+pub listed : (s r : List ℕ) (p : Section) (v : ListExtensions) → TakesRevoked s r (Ok p) → extensions.spells v r
     → Listed s p v
 listed s r p v (inl h) k = record {
   revoked = Some h.1;
@@ -132,13 +142,22 @@ fields-read s v w x y z f i version algorithm issuer at this next l = (
 )
 
 -- what follows the times is no list of entries and extensions
-pub extensions-wrong : (s r : List ℕ) (p : Section) → TakesRevoked s r (Some p) → SpellsNothing extensions.spells r
-    → AreListedWrong s CrlPart.Extensions
-extensions-wrong s r p (inl h) none = inr (h.0, Later h.1 r h.2 (none, refl))
-extensions-wrong s r p (inr h) none = inl (h.0, (subst (SpellsNothing extensions.spells) h.1 none, refl))
+pub extensions-wrong : (s r : List ℕ) (p : Section) (e : DecodeError) → TakesRevoked s r (Ok p)
+    → SpellsNothing extensions.spells r × AreExtensionsFault r e → AreListedWrong s (crl_error CrlPart.Extensions e)
+extensions-wrong s r p e (inl h) k = inr (h.0, Later h.1 r h.2 (k.0, k.1, refl))
+extensions-wrong s r p e (inr h) k = inl (
+  h.0,
+  (
+    subst (SpellsNothing extensions.spells) h.1 k.0,
+    subst (λ (q : List ℕ). AreExtensionsFault q e) h.1 k.1,
+    refl,
+  ),
+)
 
-pub revoked-wrong : (s : List ℕ) → HasTag sequence s × Refuses entries.spells s → AreListedWrong s CrlPart.RevokedCerts
-revoked-wrong s h = inr (h.0, AtPart h.1 refl)
+pub revoked-wrong : (s : List ℕ) (e : DecodeError)
+    → HasTag sequence s × Refuses entries.spells s × (in_place entries).fault s e
+    → AreListedWrong s (crl_error CrlPart.RevokedCerts e)
+revoked-wrong s e h = inr (h.0, AtPart h.1 h.2 refl)
 
 -- ---- TBSCertList
 
@@ -147,12 +166,12 @@ abbrev pub IsTbsAt : List ℕ → TbsCertListView → Type 0
 IsTbsAt s f = (t : ListParts) × (h : tbs_cert_list.spells (fields_of t) s) × IsListAt t h.contents h.spelled f
 
 -- the reader of the fields, whose result is handed on
-pub tbs-handed : (s c : List ℕ) (x : Result TbsCertListView CrlPart) → SpellsContents sequence true c s
+pub tbs-handed : (s c : List ℕ) (x : Result TbsCertListView CrlError) → SpellsContents sequence true c s
     → IfOk x (IsFieldsAt c) → IfOk x (IsTbsAt s)
 tbs-handed s c (Ok f) h k = (k.0, record { contents = c; value = h; spelled = k.1 }, k.2)
 tbs-handed s c (Err q) h k = k
 
-pub tbs-handed-wrong : (s c : List ℕ) (x : Result TbsCertListView CrlPart) → SpellsContents sequence true c s
+pub tbs-handed-wrong : (s c : List ℕ) (x : Result TbsCertListView CrlError) → SpellsContents sequence true c s
     → IfErr x (λ q. AreFieldsWrong c q) → IfErr x (λ q. IsTbsWrong s q)
 tbs-handed-wrong s c (Ok f) h k = k
 tbs-handed-wrong s c (Err q) h k = InTbs c h k

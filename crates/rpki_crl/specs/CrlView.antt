@@ -1,15 +1,19 @@
--- Revocation lists that are read in place: what is where, and which part is wrong (RFC 5280 5.1).
+-- Revocation lists that are read in place: what is where, and which part is wrong, and why (RFC 5280 5.1).
 use Rattle.std.specs.Prelude.{◌≡◌, ◌⊎◌, ◌++◌, ◌||◌, ℕ, Bool, true, List, [], Option, None, Some, Result, Ok, Err}
-use Rattle.std.specs.Prelude.{nat_eq}
+use Rattle.std.specs.Prelude.{codes, nat_eq}
 use Rattle.rpki_der.specs.declared.error.DecodeError.{DecodeError}
 use Rattle.rpki_der.specs.Prelude.{sequence, Accepts, Refuses, Spells, SpellsNothing, SpellsContents, SpellsEach}
-use Rattle.rpki_der.specs.Prelude.{HasTag, IsValue, SpellsValue, TakesNoMemory, this_number, only}
+use Rattle.rpki_der.specs.Prelude.{HasTag, IsValue, SpellsValue, IsCaptureFault, TakesNoMemory, Format, this_number}
+use Rattle.rpki_der.specs.Prelude.{only, in_place}
 use Rattle.rpki_der.specs.Parts.{OptionalThen}
 use Rattle.rpki_der.specs.FirstFault.{RepeatedFault}
+use Rattle.rpki_parse.specs.declared.malformed.Malformed.{Malformed}
 use Rattle.rpki_time.specs.TimeValue.{time}
-use Rattle.rpki.specs.Prelude.{ExtensionParts, SignedParts, SpellsExtension, SpellsNameOctets, IsSignedContents}
+use Rattle.rpki.specs.Prelude.{ExtensionParts, SignedParts, SpellsExtension, IsSignedContents, name, IsContentWith}
+use Rattle.rpki.specs.ExtensionFault.{extension}
 use Rattle.rpki_der.specs.declared.section.Section.{Section}
 use Rattle.rpki_x509.specs.declared.signed_parts.Parts.{Parts}
+use Rattle.rpki_x509.specs.Frame.{IsFrameFault}
 use Rattle.rpki_x509.specs.Signed.{SpellsRpkiAlgorithm}
 use Rattle.rpki_x509.specs.declared.signed_parts.SignedError.{SignedError}
 use Rattle.rpki_x509.specs.declared.signed_parts.SignedPart.{SignedPart}
@@ -20,18 +24,26 @@ use Rattle.rpki_crl.specs.declared.crl_part.CrlPart.{CrlPart}
 use Rattle.rpki_crl.specs.declared.crl_part.CrlPart.TheVariants as P
 use Rattle.rpki_crl.specs.declared.crl_view.CrlView.{CrlView}
 use Rattle.rpki_crl.specs.declared.list_view.TbsCertListView.{TbsCertListView}
-use Rattle.rpki_crl.specs.Crl.{Entry, entry, each_entry, entries, ListExtensions, AreExtensions, extensions_of}
-use Rattle.rpki_crl.specs.Crl.{extensions, ListParts, fields_of, signature, fields, tbs_cert_list, CrlParts, crl}
+use Rattle.rpki_crl.specs.Crl.{Entry, entry, each_entry, entries, ListExtensions, AreExtensions, AreOthers}
+use Rattle.rpki_crl.specs.Crl.{extensions_of, extensions, ListParts, fields_of, signature, fields}
+use Rattle.rpki_crl.specs.Crl.{tbs_cert_list, CrlParts, crl}
 use Rattle.rpki_crl.specs.Crl.{is_revoked}
 
 -- ---- a part, or that it is wrong
 
--- q is wrong in s, which a value of G should begin: it doesn't, and q is this part; or it does, and L says it of what
--- follows
-pub data FirstPart {V : Type 0} (G : V → List ℕ → Type 0) (part : CrlPart) (L : List ℕ → CrlPart → Type 0)
-    (s : List ℕ) (q : CrlPart) : Type 0 where
-  AtPart : Refuses G s → q ≡ part → FirstPart G part L s q
-  Later : (v : V) (r : List ℕ) → Spells G s v r → L r q → FirstPart G part L s q
+-- the malformed part of a list, and why
+abbrev pub CrlError : Type 0
+CrlError = Malformed CrlPart
+
+abbrev pub crl_error : CrlPart → DecodeError → CrlError
+crl_error part error = record { part = part; error = error }
+
+-- q is wrong in s, which a value of F should begin: it doesn't, and q is this part, with the error of F; or it does,
+-- and L says it of what follows
+pub data FirstWrong {V : Type 0} (F : Format V) (part : CrlPart) (L : List ℕ → CrlError → Type 0) (s : List ℕ)
+    (q : CrlError) : Type 0 where
+  AtPart : Refuses F.spells s → F.fault s q.error → q.part ≡ part → FirstWrong F part L s q
+  Later : (v : V) (r : List ℕ) → Spells F.spells s v r → L r q → FirstWrong F part L s q
 
 -- ---- the entries
 
@@ -53,13 +65,18 @@ abbrev pub FindsSerial : ℕ → List ℕ → Result Bool DecodeError → Type 0
 FindsSerial n s (Ok found) = (xs : List Entry) × each_entry.spells xs s × (found ≡ is_revoked n xs)
 FindsSerial n s (Err e) = SpellsNothing each_entry.spells s × AreEntriesFault s e
 
--- A reader of the list of entries found s and left r: Some is the contents of the list, where a SEQUENCE is there, and
--- else no octets, in front of all; and None says that the SEQUENCE is no such list.
-abbrev pub TakesRevoked : List ℕ → List ℕ → Option Section → Type 0
-TakesRevoked s r (Some p) =
+-- All of s is entries; or the error is that of the first that is no entry.
+abbrev pub ReadsEntries : List ℕ → Result (Unit {0}) DecodeError → Type 0
+ReadsEntries s (Ok u) = (xs : List Entry) × each_entry.spells xs s
+ReadsEntries s (Err e) = SpellsNothing each_entry.spells s × AreEntriesFault s e
+
+-- A reader of the list of entries found s and left r: Ok is the contents of the list, where a SEQUENCE is there, and
+-- else no octets, in front of all; and the error says that the SEQUENCE is no such list.
+abbrev pub TakesRevoked : List ℕ → List ℕ → Result Section DecodeError → Type 0
+TakesRevoked s r (Ok p) =
     (HasTag sequence s × (xs : List Entry) × (a : Spells entries.spells s xs r) × IsSection p a.spelled.contents r)
     ⊎ ((HasTag sequence s → ⊥) × (r ≡ s) × IsSection p [] s)
-TakesRevoked s r None = HasTag sequence s × Refuses entries.spells s
+TakesRevoked s r (Err e) = HasTag sequence s × Refuses entries.spells s × (in_place entries).fault s e
 
 -- ---- the extensions
 
@@ -68,6 +85,20 @@ pub record AreTwo (v : ListExtensions) (c : List ℕ) : Type 0 where
   pub extensions : List ExtensionParts
   pub each : SpellsEach SpellsExtension extensions c
   pub say : AreExtensions v extensions
+
+-- one extension more, whatever it says
+abbrev pub Passes : Unit {0} → ExtensionParts → Unit {0} → Type 0
+Passes from x to = to ≡ from
+
+-- they aren't: the error of the first that is no extension; or all are extensions, and not those of a list
+abbrev pub AreTwoFault : List ℕ → DecodeError → Type 0
+AreTwoFault s e =
+    RepeatedFault SpellsExtension extension.fault s e
+    ⊎ ((xs : List ExtensionParts) × SpellsEach SpellsExtension xs s × AreOthers xs [] e)
+
+-- no extensions of a list are all of s: the error where they are kept, but allocation failure
+abbrev pub AreExtensionsFault : List ℕ → DecodeError → Type 0
+AreExtensionsFault = (in_place (only extensions)).fault
 
 -- ---- TBSCertList
 
@@ -101,26 +132,28 @@ pub record IsListAt (t : ListParts) (s : List ℕ) (h : fields.spells (fields_of
   pub extensions : extensions_of v.extensions ≡ t.extensions
 
 -- all of s is to be the extensions
-abbrev pub AreExtensionsWrong : List ℕ → CrlPart → Type 0
-AreExtensionsWrong s q = SpellsNothing extensions.spells s × (q ≡ P.Extensions)
+abbrev pub AreExtensionsWrong : List ℕ → CrlError → Type 0
+AreExtensionsWrong s q = SpellsNothing extensions.spells s × AreExtensionsFault s q.error × (q.part ≡ P.Extensions)
 
 -- all of s is to be a list of entries, which may be left out, and extensions
-abbrev pub AreListedWrong : List ℕ → CrlPart → Type 0
+abbrev pub AreListedWrong : List ℕ → CrlError → Type 0
 AreListedWrong s q =
     ((HasTag sequence s → ⊥) × AreExtensionsWrong s q)
-    ⊎ (HasTag sequence s × FirstPart entries.spells P.RevokedCerts AreExtensionsWrong s q)
+    ⊎ (HasTag sequence s × FirstWrong (in_place entries) P.RevokedCerts AreExtensionsWrong s q)
 
-abbrev pub AreFieldsWrong : List ℕ → CrlPart → Type 0
+-- The parts of `fields`, each with the error that it has where it is kept, but allocation failure.
+abbrev pub AreFieldsWrong : List ℕ → CrlError → Type 0
 AreFieldsWrong =
-    FirstPart (this_number 1).spells P.Version
-    (FirstPart signature.spells P.TbsAlgorithm
-    (FirstPart SpellsNameOctets P.Issuer
-    (FirstPart time.spells P.ThisUpdate
-    (FirstPart time.spells P.NextUpdate AreListedWrong))))
+    FirstWrong (this_number 1) P.Version
+    (FirstWrong signature P.TbsAlgorithm
+    (FirstWrong (in_place name) P.Issuer
+    (FirstWrong time P.ThisUpdate
+    (FirstWrong time P.NextUpdate AreListedWrong))))
 
 -- all of d is to be a TBSCertList
-pub data IsTbsWrong (d : List ℕ) (q : CrlPart) : Type 0 where
-  NoTbs : SpellsNothing (SpellsContents sequence true) d → q ≡ P.Tbs → IsTbsWrong d q
+pub data IsTbsWrong (d : List ℕ) (q : CrlError) : Type 0 where
+  NoTbs : SpellsNothing (SpellsContents sequence true) d → IsFrameFault sequence d q.error → q.part ≡ P.Tbs
+      → IsTbsWrong d q
   InTbs : (c : List ℕ) → SpellsContents sequence true c d → AreFieldsWrong c q → IsTbsWrong d q
 
 -- ---- a revocation list
@@ -146,20 +179,30 @@ abbrev pub signed_part : SignedPart → CrlPart
 signed_part Algorithm = P.Algorithm
 signed_part Signature = P.Signature
 
+-- the error of a list whose signed data has this one
+abbrev pub of_signed : SignedError → CrlError
+of_signed p = crl_error (signed_part p.part) p.error
+
 -- all of s is to be a revocation list: the SEQUENCE around all; then the parts of signed data; then what is signed;
 -- then that the algorithms are the same
-pub data IsCrlWrong (s : List ℕ) (q : CrlPart) : Type 0 where
-  NoList : SpellsNothing (SpellsContents sequence true) s → q ≡ P.List → IsCrlWrong s q
-  NoSigned : (c : List ℕ) → SpellsContents sequence true c s → Refuses SpellsValue c → q ≡ P.Signed → IsCrlWrong s q
+pub data IsCrlError (s : List ℕ) (q : CrlError) : Type 0 where
+  NoList : SpellsNothing (SpellsContents sequence true) s → IsFrameFault sequence s q.error → q.part ≡ P.List
+      → IsCrlError s q
+  NoSigned : (c : List ℕ) → SpellsContents sequence true c s → Refuses SpellsValue c → IsCaptureFault c q.error
+      → q.part ≡ P.Signed → IsCrlError s q
   BehindSigned : (c v r : List ℕ) (p : SignedError) → SpellsContents sequence true c s → Accepts SpellsValue c v r
-      → AreMalformed r p → q ≡ signed_part p.part → IsCrlWrong s q
+      → AreMalformed r p → q ≡ of_signed p → IsCrlError s q
   InSigned : (c : List ℕ) (x : SignedParts Bool) → SpellsContents sequence true c s
       → (h : IsSignedContents SpellsRpkiAlgorithm x c) → h.signature.unused ≡ 0 → IsTbsWrong x.signed q
-      → IsCrlWrong s q
+      → IsCrlError s q
   Differ : (c : List ℕ) (x : SignedParts Bool) (t : ListParts) → SpellsContents sequence true c s
       → (h : IsSignedContents SpellsRpkiAlgorithm x c) → h.signature.unused ≡ 0
-      → tbs_cert_list.spells (fields_of t) x.signed → (t.algorithm ≡ x.algorithm → ⊥) → q ≡ P.SameAlgorithm
-      → IsCrlWrong s q
+      → tbs_cert_list.spells (fields_of t) x.signed → (t.algorithm ≡ x.algorithm → ⊥) → q.part ≡ P.SameAlgorithm
+      → IsContentWith (codes "signature algorithms differ") q.error → IsCrlError s q
+
+-- this part is wrong, whatever the error
+abbrev pub IsCrlWrong : List ℕ → CrlPart → Type 0
+IsCrlWrong s part = (e : DecodeError) × IsCrlError s (crl_error part e)
 
 -- ---- a list, of whose signed part the header alone was read
 
@@ -168,5 +211,5 @@ abbrev pub IsCrlBehind : List ℕ → List ℕ → CrlView → Type 0
 IsCrlBehind d m v = (s : List ℕ) → SpellsContents sequence true (d ++ m) s → (x : CrlParts) × IsCrlAt s v x
 
 -- where d is a value, this is wrong in it
-abbrev pub IsWrongBehind : List ℕ → List ℕ → CrlPart → Type 0
-IsWrongBehind d m q = (s : List ℕ) → SpellsContents sequence true (d ++ m) s → IsValue d → IsCrlWrong s q
+abbrev pub IsWrongBehind : List ℕ → List ℕ → CrlError → Type 0
+IsWrongBehind d m q = (s : List ℕ) → SpellsContents sequence true (d ++ m) s → IsValue d → IsCrlError s q

@@ -1,11 +1,13 @@
 //! The extensions of a revocation list: an authority key identifier and a number (RFC 6487 5).
 
 ghost use Rattle.std.specs.Prelude.{◌≡◌, ◌↔◌, ℕ, List, [], ◌∷◌, false, IsTrue, IfSome, IfNone};
-ghost use Rattle.rpki_der.specs.Prelude.{left, Decodes, Takes, TakesAll};
+ghost use Rattle.rpki_der.specs.Fold.{TakesStep};
+ghost use Rattle.rpki_der.specs.Prelude.{left, Decodes, SpellsNothing, Takes, TakesAll};
+ghost use Rattle.rpki.specs.ExtensionFault.{extension};
 ghost use Rattle.rpki_x509.specs.Authority.{SpellsAuthority};
 ghost use Rattle.rpki_crl.specs.Crl.{AreExtensions, IsAuthority, IsCrlNumber, ListExtensions, extensions_of};
 ghost use Rattle.rpki_crl.specs.Crl.{each_extension, extension_list, known_extensions, extensions};
-ghost use Rattle.rpki_crl.specs.CrlView.{AreTwo};
+ghost use Rattle.rpki_crl.specs.CrlView.{AreExtensionsFault, AreTwo, AreTwoFault, Passes};
 ghost use Rattle.rpki_x509.specs.InPlace.{IsWholeOf};
 ghost use Rattle.rpki_x509.specs.Authority.{WholeFault, authority_content};
 
@@ -13,7 +15,7 @@ use rpki::crypto::KeyIdentifier;
 use rpki::der::{Class, Constructed, DecodeError, Keep, Oid, Tag};
 use rpki::oid;
 use rpki::repository::x509::{ExtensionOctets, ExtensionView, Serial};
-use rpki_x509::{inside, take_authority};
+use rpki_x509::take_authority;
 
 /// What the extensions of a revocation list say.
 #[derive(Clone, Copy)]
@@ -134,18 +136,55 @@ fn read_two(contents: Constructed<'_>) -> Option<CrlExtensions>
     of_two(&first, &second)
 }
 
-/// What the extensions of a list say, which are the whole rest, under their tag: as [CrlExtensions::take_from] reads
-/// them. Allocates nothing.
-pub(crate) fn read_extensions(rest: Constructed<'_>) -> Option<CrlExtensions>
-    ensures { IsWholeOf extensions_of extensions.spells (left rest.entry) result }
+/// The error of contents that are no such two: of the first that is no extension; else `Content` with the text
+/// `extensions that no revocation list has`. Requires that they are none.
+fn two_fault(contents: Constructed<'_>) -> DecodeError
+    requires { SpellsNothing AreTwo (left contents) }
+    ensures { AreTwoFault (left contents.entry) result }
 {
-    let Ok(list) = inside(rest, Tag::new(Class::Context, 0)) else {
-        return None;
+    let mut rest = contents;
+    let read = rest.fold_each(
+        (),
+        |rest, all|
+            ensures { TakesStep Passes extension all (left rest.old) (left rest.new) result }
+        {
+            match ExtensionView::take_from(rest) {
+                Ok(_) => Ok(all),
+                Err(e) => Err(e),
+            }
+        },
+    );
+    match read {
+        Ok(()) => DecodeError::content("extensions that no revocation list has"),
+        Err(e) => e,
+    }
+}
+
+/// What the extensions of a list say, which are the whole rest, under their tag: as [CrlExtensions::take_from] reads
+/// them, with the same errors but for `OutOfMemory`; then `Trailing`. Allocates nothing.
+pub(crate) fn read_extensions(rest: Constructed<'_>) -> Result<CrlExtensions, DecodeError>
+    ensures { Decodes extensions_of extensions.spells AreExtensionsFault (left rest.entry) result }
+{
+    let mut after = rest;
+    let mut list = match after.take_constructed_if(Tag::new(Class::Context, 0)) {
+        Ok(list) => list,
+        Err(e) => return Err(e),
     };
-    let Ok(contents) = inside(list, Tag::SEQUENCE) else {
-        return None;
+    let contents = match list.take_sequence() {
+        Ok(contents) => contents,
+        Err(e) => return Err(e),
     };
-    read_two(contents)
+    let found = match read_two(contents) {
+        Some(found) => found,
+        None => return Err(two_fault(contents)),
+    };
+    if !list.is_empty() {
+        return Err(DecodeError::Trailing);
+    }
+    if !after.is_empty() {
+        return Err(DecodeError::Trailing);
+    }
+    Ok(found)
 }
 
 /// The extensions that these contents are, in sequence.

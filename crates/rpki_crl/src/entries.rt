@@ -1,23 +1,21 @@
 //! The entries of a revocation list, read in place without memory (RFC 5280 5.1.2.6).
 
-ghost use Rattle.std.specs.Prelude.{◌↔◌, IsTrue};
 ghost use Rattle.rpki_der.specs.Cursor.{left};
 ghost use Rattle.rpki_der.specs.Fold.{TakesStep};
-ghost use Rattle.rpki.specs.Prelude.{SpellsAny};
-ghost use Rattle.rpki_crl.specs.Crl.{entry, each_entry};
-ghost use Rattle.rpki_crl.specs.CrlView.{FindsSerial, Keeps, Looks, TakesRevoked};
+ghost use Rattle.rpki_crl.specs.Crl.{entry};
+ghost use Rattle.rpki_crl.specs.CrlView.{FindsSerial, Keeps, Looks, ReadsEntries, TakesRevoked};
 
 use crate::crl_entry::CrlEntry;
 use crate::short_entry::after_short_entry;
 use rpki::der::{Constructed, DecodeError, Section, Tag};
 use rpki::repository::x509::Serial;
 
-/// Whether the rest is entries, in sequence.
-fn are_entries(contents: Constructed<'_>) -> bool
-    ensures { IsTrue result ↔ SpellsAny each_entry.spells tt (left contents.entry) }
+/// Passes over entries, in sequence, which are the whole rest. The errors are those of the first that is no entry.
+fn read_entries(contents: Constructed<'_>) -> Result<(), DecodeError>
+    ensures { ReadsEntries (left contents.entry) result }
 {
     let mut rest = contents;
-    let read = rest.fold_each(
+    rest.fold_each(
         (),
         |rest, all|
             ensures { TakesStep Keeps entry all (left rest.old) (left rest.new) result }
@@ -33,32 +31,34 @@ fn are_entries(contents: Constructed<'_>) -> bool
                 },
             }
         },
-    );
-    read.is_ok()
+    )
 }
 
 /// The contents of the list of entries at the front; none, in front of the whole rest, where no SEQUENCE is there.
 /// Moves past it.
-pub(crate) fn take_revoked<'a>(cons: &mut Constructed<'a>) -> Option<Section<'a>>
+///
+/// The errors are those of a SEQUENCE; then those of the first that is no entry, of [CrlEntry::take_from].
+pub(crate) fn take_revoked<'a>(cons: &mut Constructed<'a>) -> Result<Section<'a>, DecodeError>
     ensures { TakesRevoked (left cons.old) (left cons.new) result }
 {
     if !cons.has_tag(Tag::SEQUENCE) {
-        return Some(Section {
+        return Ok(Section {
             octets: &[],
             following: cons.rest().len(),
         });
     }
     match cons.take_sequence() {
         Ok(contents) => {
-            if !are_entries(contents) {
-                return None;
+            match read_entries(contents) {
+                Ok(()) => {}
+                Err(e) => return Err(e),
             }
-            Some(Section {
+            Ok(Section {
                 octets: contents.rest(),
                 following: cons.rest().len(),
             })
         }
-        Err(_) => None,
+        Err(e) => Err(e),
     }
 }
 

@@ -11,6 +11,7 @@ use crate::entries::take_revoked;
 use rpki::crypto::{RpkiSignatureAlgorithm, SignatureAlgorithm};
 use rpki::der::{Constructed, Section, Tag};
 use rpki::repository::x509::Time;
+use rpki_parse::Malformed;
 use rpki_x509::{inside, take_name};
 
 /// The fields of a TBSCertList.
@@ -31,7 +32,7 @@ pub struct TbsCertListView<'a> {
 }
 
 /// The fields, which are the whole rest.
-fn read_fields<'a>(contents: Constructed<'a>) -> Result<TbsCertListView<'a>, CrlPart>
+fn read_fields<'a>(contents: Constructed<'a>) -> Result<TbsCertListView<'a>, Malformed<CrlPart>>
     ensures ok { IfOk result (λ v. (t : ListParts) × (h : fields.spells (fields_of t) (left contents.entry))
         × IsListAt t (left contents.entry) h v) }
     ensures err { IfErr result (λ q. AreFieldsWrong (left contents.entry) q) }
@@ -39,30 +40,48 @@ fn read_fields<'a>(contents: Constructed<'a>) -> Result<TbsCertListView<'a>, Crl
     let mut rest = contents;
     match rest.skip_u8_if(1) {
         Ok(()) => {}
-        Err(_) => return Err(CrlPart::Version),
+        Err(e) => return Err(Malformed {
+            part: CrlPart::Version,
+            error: e,
+        }),
     }
     let signature = match RpkiSignatureAlgorithm::x509_take_from(&mut rest) {
         Ok(signature) => signature,
-        Err(_) => return Err(CrlPart::TbsAlgorithm),
+        Err(e) => return Err(Malformed {
+            part: CrlPart::TbsAlgorithm,
+            error: e,
+        }),
     };
     let issuer = match take_name(&mut rest) {
         Ok(issuer) => issuer,
-        Err(_) => return Err(CrlPart::Issuer),
+        Err(e) => return Err(Malformed {
+            part: CrlPart::Issuer,
+            error: e,
+        }),
     };
     let this_update = match Time::take_from(&mut rest) {
         Ok(time) => time,
-        Err(_) => return Err(CrlPart::ThisUpdate),
+        Err(e) => return Err(Malformed {
+            part: CrlPart::ThisUpdate,
+            error: e,
+        }),
     };
     let next_update = match Time::take_from(&mut rest) {
         Ok(time) => time,
-        Err(_) => return Err(CrlPart::NextUpdate),
+        Err(e) => return Err(Malformed {
+            part: CrlPart::NextUpdate,
+            error: e,
+        }),
     };
     let revoked_certs = match take_revoked(&mut rest) {
-        Some(entries) => entries,
-        None => return Err(CrlPart::RevokedCerts),
+        Ok(entries) => entries,
+        Err(e) => return Err(Malformed {
+            part: CrlPart::RevokedCerts,
+            error: e,
+        }),
     };
     match read_extensions(rest) {
-        Some(extensions) => Ok(TbsCertListView {
+        Ok(extensions) => Ok(TbsCertListView {
             signature,
             issuer,
             this_update,
@@ -70,18 +89,26 @@ fn read_fields<'a>(contents: Constructed<'a>) -> Result<TbsCertListView<'a>, Crl
             revoked_certs,
             extensions,
         }),
-        None => Err(CrlPart::Extensions),
+        Err(e) => Err(Malformed {
+            part: CrlPart::Extensions,
+            error: e,
+        }),
     }
 }
 
 /// The TBSCertList that these octets are; the sections are in them.
-pub(crate) fn read_tbs<'a>(signed: Constructed<'a>) -> Result<TbsCertListView<'a>, CrlPart>
+pub(crate) fn read_tbs<'a>(
+    signed: Constructed<'a>,
+) -> Result<TbsCertListView<'a>, Malformed<CrlPart>>
     ensures ok { IfOk result (λ v. (t : ListParts) × (h : tbs_cert_list.spells (fields_of t) (left signed.entry))
         × IsListAt t h.contents h.spelled v) }
     ensures err { IfErr result (λ q. IsTbsWrong (left signed.entry) q) }
 {
     match inside(signed, Tag::SEQUENCE) {
         Ok(contents) => read_fields(contents),
-        Err(_) => Err(CrlPart::Tbs),
+        Err(e) => Err(Malformed {
+            part: CrlPart::Tbs,
+            error: e,
+        }),
     }
 }

@@ -51,7 +51,7 @@ fn list_place(octets: &[u8]) -> Option<Part>
 {
     match CrlView::read(octets) {
         Ok(_) => None,
-        Err(part) => Some(Part::List(part)),
+        Err(wrong) => Some(Part::List(wrong.part)),
     }
 }
 

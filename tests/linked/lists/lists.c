@@ -1,7 +1,7 @@
 /*
- * Reads revocation lists with rpki_crl, and compares statuses and what is found with those of rows that rows.py writes;
- * then asks rpki_crl_contains, and the table that rpki_serials makes, for each serial number on a list, and for others.
- * What a call refuses leaves `out` as it was. No call allocates.
+ * Reads revocation lists with rpki_crl, and compares statuses and what is found with those of rows that rows.py writes,
+ * and what rpki_crl_error writes; then asks rpki_crl_contains, and the table that rpki_serials makes, for each serial
+ * number on a list, and for others. What a call refuses leaves `out` as it was. No call allocates.
  *
  * usage: lists ROWS
  */
@@ -24,6 +24,21 @@ static rpki_status read_list(const uint8_t *octets, size_t size, struct rpki_crl
     *clean = took_none();
     if (status != RPKI_OK) *clean = *clean && untouched(out, sizeof *out);
     return status;
+}
+
+/* Asks what is wrong with a copy of exactly these octets. Status 0 writes nothing. */
+static bool is_wrong(const uint8_t *octets, size_t size, unsigned wanted, unsigned error) {
+    struct octets copy = new_octets(octets, size, 0);
+    rpki_status status, written;
+    bool clean;
+    memset(&written, FILL, sizeof written);
+    count_allocations(0);
+    status = rpki_crl_error(copy.at, size, &written);
+    clean = took_none();
+    free(copy.at);
+    if (status == RPKI_OK) return clean && wanted == RPKI_OK && untouched(&written, sizeof written);
+    if (written != error) printf("error %u, not %u\n", written, error);
+    return clean && status == wanted && written == error;
 }
 
 /* The status of a search, and what it answers: 0, 1, or FILL where nothing is written. */
@@ -154,16 +169,18 @@ static void walk(unsigned line, struct rpki_span entries, const char *words) {
     judge(line, "no entry after the last", well && !memcmp(&rest, &end, sizeof rest));
 }
 
-/* The words are a status and what is found. */
+/* The words are a status, and what is found or the number of the error. */
 static void list(unsigned line, const uint8_t *octets, size_t size, const char *words) {
     static char told[1024];
     struct rpki_crl_parts out;
     unsigned wanted = (unsigned)strtoul(words, (char **)&words, 10);
+    unsigned error = wanted == RPKI_OK ? 0 : (unsigned)strtoul(words, NULL, 10);
     bool clean;
     rpki_status status = read_list(octets, size, &out, &clean);
     const char *numbers;
     judge(line, "allocates, or writes what it refuses", clean);
     judge_status(line, "the status", status, wanted);
+    judge(line, "the error", is_wrong(octets, size, wanted, error));
     if (wanted != RPKI_OK || status != RPKI_OK) return;
     tell(octets, size, &out, told);
     numbers = following(told, words);
@@ -200,6 +217,7 @@ static void beginnings(const uint8_t *octets, size_t size) {
     for (count = 0; count < size; count++) {
         struct octets copy = new_octets(octets, count, 0);
         well = read_list(copy.at, count, &out, &clean) == RPKI_PART_CERTIFICATE && clean && well;
+        well = is_wrong(copy.at, count, RPKI_PART_CERTIFICATE, RPKI_TRUNCATED) && well;
         free(copy.at);
     }
     judge(1, "each beginning", well);

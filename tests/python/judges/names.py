@@ -5,6 +5,7 @@ from strict import Octets, Wrong, are_values, identifier, is_identifier, need
 def attribute(relative):
     parts = relative.take(0x30)
     identifier(parts)
+    need(not parts.is_empty())
     parts.nested()
     parts.end()
 

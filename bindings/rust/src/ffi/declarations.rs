@@ -584,6 +584,7 @@ extern "C" {
     pub(super) fn rpki_general_name(rest: *mut Span, out: *mut GeneralNameParts) -> Status;
     pub(super) fn rpki_distribution_point(octets: *const u8, size: usize, out: *mut Span) -> Status;
     pub(super) fn rpki_crl(octets: *const u8, size: usize, out: *mut CrlParts) -> Status;
+    pub(super) fn rpki_crl_error(octets: *const u8, size: usize, error: *mut Status) -> Status;
     pub(super) fn rpki_crl_entry(rest: *mut Span, out: *mut RevokedCertificate) -> Status;
     pub(super) fn rpki_crl_contains(octets: *const u8, size: usize, serial: *const [u8; 20], out: *mut bool) -> Status;
     pub(super) fn rpki_serials(

@@ -10,6 +10,7 @@ use crate::repository::cert::{Cert, ResourceCert};
 use crate::repository::error::ValidationError;
 use crate::repository::x509::{Name, Serial, Time};
 use crate::uri;
+use crate::view::DecodeError;
 use bytes::Bytes;
 use std::collections::HashSet;
 use std::error::Error;
@@ -50,6 +51,20 @@ pub enum CrlError {
 }
 
 impl CrlError {
+    /// Why these octets are no revocation list: the malformed part, and what is wrong with it, as a reader of that part
+    /// returns it. None where they are a list.
+    ///
+    /// ```
+    /// use rpki_proved::repository::crl::CrlError;
+    /// use rpki_proved::view::DecodeError;
+    ///
+    /// assert_eq!(CrlError::find(b"\x30\x00\x30\x00"), Some((CrlError::List, DecodeError::Trailing)));
+    /// ```
+    pub fn find(octets: &[u8]) -> Option<(CrlError, DecodeError)> {
+        let (part, reason) = ffi::crl_error(octets).err()?;
+        Some((CrlError::from_status(part), DecodeError::from_status(reason)))
+    }
+
     fn from_status(status: Status) -> CrlError {
         match status {
             64 => CrlError::List,

@@ -1,17 +1,15 @@
 use Rattle.std.proofs.Common.{◌∙◌, rules, inl, ap, length, sym}
-use Rattle.std.proofs.lemmas.Bool.{iff_false}
-use Rattle.rpki_crl.proofs.EntriesLaws.{no-entries, no-sequence, entries-there}
+use Rattle.rpki_crl.proofs.EntriesLaws.{no-entries, no-sequence, entries-there, entry-fault, sequence-fault}
 use Rattle.rpki_crl.proofs.entries.take_revoked.Goals as goal
 
-pub returns-then-not-are_entries : goal.returns-then-not-are_entries
-returns-then-not-are_entries c = (
-  c.has_tag.ensures.0 (search rules),
-  no-entries _ _ _ c.in-Ok.ensures (iff_false c.are_entries.ensures c.if-not-are_entries.true),
-)
+pub returns-in-Err-read_entries : goal.returns-in-Err-read_entries
+returns-in-Err-read_entries c =
+    let h = c.in-Err-read_entries.ensures in
+    (c.has_tag.ensures.0 (search rules), no-entries _ _ _ c.in-Ok.ensures h.0, entry-fault _ _ _ _ c.in-Ok.ensures h.1)
 
-pub returns-else-not-are_entries : goal.returns-else-not-are_entries
-returns-else-not-are_entries c =
-    let found = c.are_entries.ensures.0 c.if-not-are_entries.false in
+pub returns-in-Ok-read_entries : goal.returns-in-Ok-read_entries
+returns-in-Ok-read_entries c =
+    let found = c.in-Ok-read_entries.ensures in
     let list = entries-there _ _ _ c.in-Ok.ensures found.0 found.1 in
     inl (
       c.has_tag.ensures.0 (search rules),
@@ -21,4 +19,6 @@ returns-else-not-are_entries c =
     )
 
 pub returns-in-Err : goal.returns-in-Err
-returns-in-Err c = (c.has_tag.ensures.0 (search rules), no-sequence _ _ c.in-Err.field-0 c.in-Err.ensures)
+returns-in-Err c =
+    let h = c.in-Err.ensures in
+    (c.has_tag.ensures.0 (search rules), no-sequence _ _ c.in-Err.e h, sequence-fault _ _ _ h)

@@ -1,6 +1,6 @@
 use Rattle.std.proofs.Common.{refl}
 use Rattle.rpki_der.specs.Fold.FoldFault.{AtValue}
-use Rattle.rpki_crl.proofs.entries.fn.are_entries.fold_each.Goals as goal
+use Rattle.rpki_crl.proofs.entries.fn.read_entries.fold_each.Goals as goal
 
 pub returns-in-Err : goal.returns-in-Err
 returns-in-Err c = λ some. AtValue some c.in-Err.ensures.refuses c.in-Err.ensures.kind

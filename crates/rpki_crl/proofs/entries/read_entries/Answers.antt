@@ -3,10 +3,8 @@ use Rattle.rpki_der.proofs.FoldLaws.{takes-fold}
 use Rattle.rpki_crl.specs.Crl.{entry}
 use Rattle.rpki_crl.specs.CrlView.{Keeps}
 use Rattle.rpki_crl.proofs.EntriesLaws.{all-entries, nowhere}
-use Rattle.rpki_crl.proofs.entries.are_entries.Goals as goal
+use Rattle.rpki_crl.proofs.entries.read_entries.Goals as goal
 
 pub returns : goal.returns
 returns c =
-    rw c.is_ok.ensures.value
-    (all-entries _ _ c.fold_each-read.result
-    (takes-fold Keeps entry _ (λ from b a x h. search rules) nowhere tt _ _ _ c.fold_each-read.ensures))
+    all-entries _ _ _ (takes-fold Keeps entry _ (λ from b a x h. search rules) nowhere tt _ _ _ c.fold_each.ensures)
