@@ -10,7 +10,7 @@
  *
  * Where the status is not 0, `out` is left as it was; only `*count` and `*written` of the calls that say so are written
  * with RPKI_TOO_SMALL too, `*at` of rpki_base64_read with RPKI_INVALID_SYMBOL to RPKI_INVALID_PADDING, and `*error` of
- * rpki_certificate_error and rpki_crl_error with each status but RPKI_OK.
+ * rpki_certificate_error and the other calls so named with each status but RPKI_OK.
  *
  * What a call takes of memory it frees before it returns. At the peak rpki_walk, rpki_index, rpki_fault and
  * rpki_signed_data take up to 24 octets for each level of nesting, and 64 more. rpki_signed_data_write and
@@ -1025,6 +1025,15 @@ rpki_status rpki_signed_object(const uint8_t *octets, size_t size, bool strict,
                                struct rpki_signed_object_parts *out) RPKI_CHECKED;
 
 /*
+ * What is wrong with the malformed part. The status is that of rpki_signed_object. Where it is an RPKI_PART_ number,
+ * `*error` becomes one of RPKI_TRUNCATED to RPKI_TRAILING, as a reader of that part returns it: of a part of the
+ * certificate as of rpki_certificate_error; of RPKI_PART_SIGNED_ATTRIBUTES the error of their tag, then that of the
+ * first that is no attribute, then RPKI_CONTENT, where they are others than those of RFC 6488 2.1.6.4. RPKI_OK: the
+ * octets are a signed object, and `*error` is left as it was. Takes no memory.
+ */
+rpki_status rpki_signed_object_error(const uint8_t *octets, size_t size, bool strict, rpki_status *error) RPKI_CHECKED;
+
+/*
  * Reads a signed object and its signer's certificate once: writes what rpki_signed_object writes to `object`, and what
  * rpki_certificate_checked writes of that certificate, by the profile RPKI_CERTIFICATE_EE, to `certificate` and
  * `extensions`. `attributes` and `names` are what these calls have as `strict`. Takes no memory, and verifies nothing.
@@ -1048,6 +1057,14 @@ rpki_status rpki_signed_object_checked(const uint8_t *octets, size_t size, bool 
  * Where a status is not 0, it is an RPKI_PART_ number: from 138 to 143 the leftmost malformed part; else 144.
  */
 rpki_status rpki_manifest(const uint8_t *octets, size_t size, struct rpki_manifest_parts *out) RPKI_CHECKED;
+
+/*
+ * What is wrong with the malformed part. The status is that of rpki_manifest. Where it is an RPKI_PART_ number,
+ * `*error` becomes one of RPKI_TRUNCATED to RPKI_TRAILING, as a reader of that part returns it; RPKI_CONTENT of
+ * RPKI_PART_UPDATE_ORDER. Of RPKI_PART_FILE_LIST RPKI_TRAILING, for what follows it, comes before what is wrong in it.
+ * RPKI_OK: the octets are a manifest, and `*error` is left as it was. Takes no memory.
+ */
+rpki_status rpki_manifest_error(const uint8_t *octets, size_t size, rpki_status *error) RPKI_CHECKED;
 
 /*
  * Takes the file at the front of `rest`, as of `files`: a SEQUENCE of a name and a digest, and nothing else. Takes no
@@ -1078,6 +1095,14 @@ rpki_status rpki_manifest_names(const uint8_t *octets, size_t size, struct rpki_
 rpki_status rpki_roa(const uint8_t *octets, size_t size, bool strict, struct rpki_roa_parts *out) RPKI_CHECKED;
 
 /*
+ * What is wrong with the malformed part. The status is that of rpki_roa. Where it is an RPKI_PART_ number, `*error`
+ * becomes one of RPKI_TRUNCATED to RPKI_TRAILING: the leftmost error, as a reader of that part returns it; RPKI_CONTENT
+ * also of a list of no families, of a third one, of one that is there twice, and of IPv6 in front if `strict`.
+ * RPKI_OK: the octets are an attestation, and `*error` is left as it was. Takes no memory.
+ */
+rpki_status rpki_roa_error(const uint8_t *octets, size_t size, bool strict, rpki_status *error) RPKI_CHECKED;
+
+/*
  * Takes the prefix at the front of `rest`, as of `v4` or `v6`, of this family, RPKI_IPV4 or RPKI_IPV6: a SEQUENCE of
  * its bits and of a maximum length, which may be left out, and nothing else. Takes no memory.
  *
@@ -1095,6 +1120,14 @@ rpki_status rpki_roa_address(struct rpki_span *rest, uint8_t family, struct rpki
  * Where a status is not 0, it is an RPKI_PART_ number, from 148 to 151: the leftmost malformed part.
  */
 rpki_status rpki_aspa(const uint8_t *octets, size_t size, struct rpki_aspa_parts *out) RPKI_CHECKED;
+
+/*
+ * What is wrong with the malformed part. The status is that of rpki_aspa. Where it is an RPKI_PART_ number, `*error`
+ * becomes one of RPKI_TRUNCATED to RPKI_TRAILING: the leftmost error, as a reader of that part returns it; RPKI_CONTENT
+ * also of another version, of no providers, and of one that is not above the one before it, or is the customer.
+ * RPKI_OK: the octets are an attestation, and `*error` is left as it was. Takes no memory.
+ */
+rpki_status rpki_aspa_error(const uint8_t *octets, size_t size, rpki_status *error) RPKI_CHECKED;
 
 /*
  * Takes the provider at the front of `rest`, as of `providers`, and writes its AS number: an INTEGER below 2^32. Takes

@@ -10,9 +10,9 @@ MOST = {"objects": 5000, "contents": 600, "certificates": 8000, "lists": 2000}
 
 
 def of_object(words):
-    """Which outcome a row of an object has, and of one that is read each thing that it says."""
-    if len(words) < 7:
-        return [tuple(words[1:3]) + tuple(words[5:6])]
+    """Which outcome a row of an object has, without the reason, and of one that is read each thing that it says."""
+    if len(words) < 8:
+        return [tuple(words[1:3]) + tuple(words[5:6] if words[2] == "0" else ())]
     return [(words[1], place, len(words[place]) > 1, words[place] if place > 17 else "") for place in (16, 17, 18, 19)]
 
 
@@ -20,6 +20,8 @@ def of_content(words):
     """Which outcome a row of a content has; of entries, how many there are, and the sizes of their numbers."""
     if words[0] not in ("manifest", "roa0", "roa1", "aspa"):
         return []
+    if words[2] != "0":
+        return [(words[0], *words[2:4])]
     return [tuple(words[:1]) + (words[2], min(len(words), 16), len(words[3]) if len(words) > 3 else 0,
                                 words[10] if words[0][:3] == "roa" and len(words) > 10 else "")]
 

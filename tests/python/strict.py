@@ -11,7 +11,7 @@ T = TypeVar("T")
 
 
 class Wrong(Exception):
-    """The status: an error, or the number of a malformed part; then `error` is what is wrong with it."""
+    """The status: an error, or the number of a malformed part; and of that part the error."""
 
     def __init__(self, status: int, error: Optional[int] = None) -> None:
         super().__init__(status)

@@ -371,20 +371,30 @@ pub(crate) fn certificate_checked(
     Ok((parts, extensions))
 }
 
-/// The malformed part of a certificate, and what is wrong with it, as statuses.
-pub(crate) fn certificate_error(octets: &[u8]) -> Result<(), (Status, Status)> {
+/// The malformed part, and what is wrong with it, as statuses, by a call that writes the second.
+fn faulted(call: impl FnOnce(&mut Status) -> Status) -> Result<(), (Status, Status)> {
     compared();
     let mut error = OK;
-    // SAFETY: pointer and size are those of one slice, which is borrowed for the call.
-    done(unsafe { rpki_certificate_error(octets.as_ptr(), octets.len(), &mut error) }).map_err(|part| (part, error))
+    let status = call(&mut error);
+    done(status).map_err(|part| (part, error))
 }
 
-/// The malformed part of a revocation list, and what is wrong with it, as statuses.
-pub(crate) fn crl_error(octets: &[u8]) -> Result<(), (Status, Status)> {
-    compared();
-    let mut error = OK;
+/// The malformed part of a certificate, and what is wrong with it.
+pub(crate) fn certificate_error(octets: &[u8]) -> Result<(), (Status, Status)> {
     // SAFETY: pointer and size are those of one slice, which is borrowed for the call.
-    done(unsafe { rpki_crl_error(octets.as_ptr(), octets.len(), &mut error) }).map_err(|part| (part, error))
+    faulted(|error| unsafe { rpki_certificate_error(octets.as_ptr(), octets.len(), error) })
+}
+
+/// The same of a revocation list.
+pub(crate) fn crl_error(octets: &[u8]) -> Result<(), (Status, Status)> {
+    // SAFETY: pointer and size are those of one slice, which is borrowed for the call.
+    faulted(|error| unsafe { rpki_crl_error(octets.as_ptr(), octets.len(), error) })
+}
+
+/// The same of a signed object.
+pub(crate) fn signed_object_error(octets: &[u8], strict: bool) -> Result<(), (Status, Status)> {
+    // SAFETY: pointer and size are those of one slice, which is borrowed for the call.
+    faulted(|error| unsafe { rpki_signed_object_error(octets.as_ptr(), octets.len(), strict, error) })
 }
 
 pub(crate) fn signed_object(octets: &[u8], strict: bool) -> Result<SignedObjectParts, Status> {
@@ -412,6 +422,24 @@ pub(crate) fn signed_object_checked(
 pub(crate) fn roa(octets: &[u8], strict: bool) -> Result<RoaParts, Status> {
     // SAFETY: pointer and size are those of one slice, which is borrowed for the call.
     told(|out| unsafe { rpki_roa(octets.as_ptr(), octets.len(), strict, out) })
+}
+
+/// The malformed part of a manifest, and what is wrong with it.
+pub(crate) fn manifest_error(octets: &[u8]) -> Result<(), (Status, Status)> {
+    // SAFETY: pointer and size are those of one slice, which is borrowed for the call.
+    faulted(|error| unsafe { rpki_manifest_error(octets.as_ptr(), octets.len(), error) })
+}
+
+/// The malformed part of a route origin attestation, and what is wrong with it.
+pub(crate) fn roa_error(octets: &[u8], strict: bool) -> Result<(), (Status, Status)> {
+    // SAFETY: pointer and size are those of one slice, which is borrowed for the call.
+    faulted(|error| unsafe { rpki_roa_error(octets.as_ptr(), octets.len(), strict, error) })
+}
+
+/// The same of an attestation of providers.
+pub(crate) fn aspa_error(octets: &[u8]) -> Result<(), (Status, Status)> {
+    // SAFETY: pointer and size are those of one slice, which is borrowed for the call.
+    faulted(|error| unsafe { rpki_aspa_error(octets.as_ptr(), octets.len(), error) })
 }
 
 /// What a call takes off the front of the octets, and the octets that follow it.

@@ -9,6 +9,7 @@ use rpki_proved::repository::roa::{
     FriendlyRoaIpAddress, RoaError, RoaIpAddress, RoaIpAddresses, RouteOriginAttestation,
 };
 use rpki_proved::uri;
+use rpki_proved::view::DecodeError;
 use std::collections::HashSet;
 use std::str::FromStr;
 
@@ -36,6 +37,16 @@ const ASPA_ERRORS: [(usize, AspaError, &str); 4] = [
     (151, AspaError::Providers, "malformed list of providers"),
 ];
 
+/// What may be wrong with a part, by its number from 1 on.
+const REASONS: [DecodeError; 6] = [
+    DecodeError::Truncated,
+    DecodeError::BadTag,
+    DecodeError::BadLength,
+    DecodeError::Unexpected,
+    DecodeError::Content,
+    DecodeError::Trailing,
+];
+
 fn octets(digits: &str) -> Vec<u8> {
     let digits = if digits == "-" { "" } else { digits };
     (0..digits.len()).step_by(2).map(|at| u8::from_str_radix(&digits[at..at + 2], 16).unwrap()).collect()
@@ -61,6 +72,11 @@ fn error_of<E: Copy, const N: usize>(errors: &[(usize, E, &str); N], status: usi
     errors.iter().find(|(number, ..)| *number == status).expect("a status").1
 }
 
+/// What is wrong with the part, by the words that follow its status.
+fn reason_of(words: &[&str]) -> DecodeError {
+    REASONS[number(words[0]) - 1]
+}
+
 /// The names of the files that the words of a row tell.
 fn names<'a>(all: &'a [u8], words: &[&str]) -> Vec<&'a [u8]> {
     let mut rest = part(all, &words[0..2]);
@@ -77,6 +93,7 @@ fn names<'a>(all: &'a [u8], words: &[&str]) -> Vec<&'a [u8]> {
 fn compare_manifest(all: &[u8], words: &[&str]) {
     let names = names(all, words);
     let found = ManifestContent::decode(all.to_vec());
+    assert_eq!(ManifestContent::reason(all), None);
     if names.iter().collect::<HashSet<_>>().len() < names.len() {
         assert_eq!(found.unwrap_err(), ManifestError::FileTwice);
         return;
@@ -118,6 +135,7 @@ fn compare_family(all: &[u8], found: &RoaIpAddresses, v4: bool, words: &[&str], 
 }
 
 fn compare_roa(all: &[u8], roa: &RouteOriginAttestation, words: &[&str]) {
+    assert_eq!(RouteOriginAttestation::reason(all, false), None);
     assert_eq!(roa.as_id().into_u32().to_string(), words[0]);
     let entries: Vec<&[&str]> = words[7..].chunks(5).collect();
     let (v4, v6) = entries.split_at(number(words[3]));
@@ -136,6 +154,7 @@ fn compare_roa(all: &[u8], roa: &RouteOriginAttestation, words: &[&str]) {
 
 fn compare_aspa(all: &[u8], aspa: &AsProviderAttestation, words: &[&str]) {
     let providers = aspa.provider_as_set();
+    assert_eq!(AsProviderAttestation::reason(all), None);
     assert_eq!(aspa.customer_as().into_u32().to_string(), words[0]);
     assert_eq!(providers.as_slice(), part(all, &words[1..3]));
     assert_eq!((providers.len().to_string(), providers.is_empty()), (words[3].to_string(), false));
@@ -150,15 +169,19 @@ fn compare(kind: &str, all: &[u8], status: usize, words: &[&str]) {
         ("manifest", _) => {
             let error = ManifestContent::decode(all.to_vec()).unwrap_err();
             assert_eq!(error, error_of(&MANIFEST_ERRORS, status));
+            assert_eq!(ManifestContent::reason(all), Some((error, reason_of(words))));
         }
         ("aspa", 0) => compare_aspa(all, &AsProviderAttestation::decode(all.to_vec()).unwrap(), words),
         ("aspa", _) => {
-            assert_eq!(AsProviderAttestation::decode(all.to_vec()).unwrap_err(), error_of(&ASPA_ERRORS, status));
+            let error = AsProviderAttestation::decode(all.to_vec()).unwrap_err();
+            assert_eq!(error, error_of(&ASPA_ERRORS, status));
+            assert_eq!(AsProviderAttestation::reason(all), Some((error, reason_of(words))));
         }
         (_, 0) => compare_roa(all, &RouteOriginAttestation::decode(all.to_vec(), kind == "roa1").unwrap(), words),
         (_, _) => {
             let error = RouteOriginAttestation::decode(all.to_vec(), kind == "roa1").unwrap_err();
             assert_eq!(error, error_of(&ROA_ERRORS, status));
+            assert_eq!(RouteOriginAttestation::reason(all, kind == "roa1"), Some((error, reason_of(words))));
         }
     }
 }

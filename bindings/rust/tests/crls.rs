@@ -98,7 +98,7 @@ fn compare_rows(rows: &str) -> (usize, usize) {
         match Crl::decode(all.clone()) {
             Ok(mut list) => {
                 assert_eq!(status, 0, "{row}");
-                assert_eq!(CrlError::find(&all), None);
+                assert_eq!(Crl::reason(&all), None);
                 compare(&all, &mut list, &words[3..]);
                 read += 1;
             }
@@ -107,7 +107,7 @@ fn compare_rows(rows: &str) -> (usize, usize) {
                 assert_eq!(error, known.1, "{row}");
                 assert_eq!(error.to_string(), known.2);
                 let reason = REASONS[words[3].parse::<usize>().unwrap() - 1];
-                assert_eq!(CrlError::find(&all), Some((error, reason)), "{row}");
+                assert_eq!(Crl::reason(&all), Some((error, reason)), "{row}");
                 refused += 1;
             }
         }

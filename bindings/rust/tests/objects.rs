@@ -7,6 +7,7 @@ use rpki_proved::oid::Oid;
 use rpki_proved::repository::cert::{Cert, CertPart, CertRule};
 use rpki_proved::repository::error::ValidationError;
 use rpki_proved::repository::sigobj::{MessageDigest, ObjectVerificationError, SignedObject, SignedObjectError};
+use rpki_proved::view::DecodeError;
 
 /// The errors by their statuses, and their texts.
 const ERRORS: [(usize, SignedObjectError, &str); 15] = [
@@ -25,6 +26,16 @@ const ERRORS: [(usize, SignedObjectError, &str); 15] = [
     (135, SignedObjectError::SignedAttrs, "signed attributes that no signed object has"),
     (136, SignedObjectError::SignatureAlgorithm, "other algorithm of the signature"),
     (137, SignedObjectError::Signature, "malformed signature of the object"),
+];
+
+/// What is wrong with a part, by its number less one.
+const REASONS: [DecodeError; 6] = [
+    DecodeError::Truncated,
+    DecodeError::BadTag,
+    DecodeError::BadLength,
+    DecodeError::Unexpected,
+    DecodeError::Content,
+    DecodeError::Trailing,
 ];
 
 /// A provider that says one thing of all.
@@ -72,17 +83,20 @@ fn compare(all: &[u8], object: &SignedObject, words: &[&str]) {
     assert_eq!(is_default, words[13] == "1");
 }
 
-/// The error of a row, and what an object says, if it has none.
-fn expected<'a>(all: &[u8], words: &'a [&'a str]) -> Result<&'a [&'a str], SignedObjectError> {
-    let error = |status: &str| ERRORS.iter().find(|(number, ..)| number.to_string() == status).expect("a status").1;
+/// The error of a row with what is wrong, and what an object says, if it has none.
+fn expected<'a>(all: &[u8], words: &'a [&'a str]) -> Result<&'a [&'a str], (SignedObjectError, DecodeError)> {
+    let error = |words: &[&str]| {
+        let known = ERRORS.iter().find(|(number, ..)| number.to_string() == words[0]).expect("a status");
+        (known.1, REASONS[words[1].parse::<usize>().unwrap() - 1])
+    };
     if words[2] != "0" {
-        return Err(error(words[2]));
+        return Err(error(&words[2..]));
     }
     let cert = Cert::decode(part(all, &words[3..5]).to_vec());
-    cert.map_err(|error| SignedObjectError::Certificate(error.part()))?;
+    cert.map_err(|error| (SignedObjectError::Certificate(error.part()), error.reason()))?;
     match words[5] {
         "0" => Ok(&words[6..]),
-        status => Err(error(status)),
+        _ => Err(error(&words[5..])),
     }
 }
 
@@ -111,13 +125,15 @@ fn compare_rows(rows: &str) -> (usize, usize, usize) {
             Ok(said) => {
                 let object = found.unwrap();
                 compare(&all, &object, said);
+                assert_eq!(SignedObject::reason(&all, words[1] == "1"), None);
                 compare_certificates(row, object.cert());
                 read += 1;
                 let verdict = object.verify_signature();
                 verified += usize::from(matches!(verdict, Err(ObjectVerificationError::Certificate(_))));
             }
-            Err(error) => {
+            Err((error, reason)) => {
                 assert_eq!(found.unwrap_err(), error, "{row}");
+                assert_eq!(SignedObject::reason(&all, words[1] == "1"), Some((error, reason)), "{row}");
                 refused += 1;
             }
         }

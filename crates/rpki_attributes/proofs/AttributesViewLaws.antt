@@ -21,15 +21,17 @@ use Rattle.rpki_attributes.specs.SignedAttributes.{attribute_parts, value_set}
 use Rattle.rpki_attributes.specs.SignedAttributesView.{AreTogether, TakesAttributes}
 use Rattle.rpki_attributes.proofs.AttributesLaws.{parts_from}
 
-pub attribute-refused : (s r : List ℕ) (e : DecodeError) → Refusal attribute.spells attribute.fault s r e
-    → Refuses attribute.spells s
-attribute-refused s r e =
-    refused attribute.spells attribute.fault s r e
-    (inside-no-memory sequence true attribute_parts.fault s
+pub attribute-no-memory : (s : List ℕ) → attribute.fault s OutOfMemory → ⊥
+attribute-no-memory s =
+    inside-no-memory sequence true attribute_parts.fault s
     (λ c. first-no-memory any_oid.spells any_oid.fault (λ a. (only value_set).fault) c
     (λ k. leaf-no-memory oid false IsOidOf c OutOfMemory k refl)
     (λ a q. first-no-memory value_set.spells value_set.fault (λ v. IsEndFault) q
-    (λ k. contents-no-memory set true q OutOfMemory k refl) (λ v p. end-no-memory p))))
+    (λ k. contents-no-memory set true q OutOfMemory k refl) (λ v p. end-no-memory p)))
+
+pub attribute-refused : (s r : List ℕ) (e : DecodeError) → Refusal attribute.spells attribute.fault s r e
+    → Refuses attribute.spells s
+attribute-refused s r e = refused attribute.spells attribute.fault s r e (attribute-no-memory s)
 
 module _ (strict : Bool) (s c r : List ℕ) (a : Accepts (SpellsContents attributes_tag true) s c r) where
   record Contained (x : AttributesParts) (q front : List ℕ) : Type 0 where

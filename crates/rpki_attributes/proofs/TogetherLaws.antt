@@ -84,7 +84,7 @@ pub data Begins : List ℕ → List Attribute → List ℕ → Type 0 where
       → Begins s (x ∷ xs) r
 
 -- others that are all of s are these, and then those of the rest
-others : (s r : List ℕ) (xs : List Attribute) → Begins s xs r → (ys : List Attribute) → Each ys s
+pub others : (s r : List ℕ) (xs : List Attribute) → Begins s xs r → (ys : List Attribute) → Each ys s
     → (zs : List Attribute) × (ys ≡ xs ++ zs) × Each zs r
 others s r [] NoneYet ys h = (ys, refl, h)
 others s r (x ∷ xs) (OneMore a b) [] h = absurd (leaf-nowhere sequence true attribute_parts.spells s x _ h a.spells)
@@ -93,11 +93,11 @@ others s r (x ∷ xs) (OneMore a b) (y ∷ ys) h =
     let k = others _ r xs b ys (subst (Each ys) e.1 h.2) in
     (k.0, ap (λ (w : Attribute). w ∷ ys) e.0 ∙ ap (λ (ws : List Attribute). x ∷ ws) k.1, k.2)
 
-all-these : (s r : List ℕ) (xs : List Attribute) → Begins s xs r → r ≡ [] → Each xs s
+pub all-these : (s r : List ℕ) (xs : List Attribute) → Begins s xs r → r ≡ [] → Each xs s
 all-these s r [] NoneYet end = end
 all-these s r (x ∷ xs) (OneMore a b) end = (_, a.spells, all-these _ r xs b end)
 
-none-left : (r : List ℕ) → r ≡ [] → (zs : List Attribute) → Each zs r → zs ≡ []
+pub none-left : (r : List ℕ) → r ≡ [] → (zs : List Attribute) → Each zs r → zs ≡ []
 none-left r end [] h = refl
 none-left r end (z ∷ zs) h = absurd (leaf-nowhere sequence true attribute_parts.spells r z h.0 end h.1)
 

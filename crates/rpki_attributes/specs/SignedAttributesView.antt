@@ -13,6 +13,11 @@ pub record AreTogether (strict : Bool) (v : AttributeValues) (c : List ℕ) : Ty
   pub each : each_attribute.spells attributes c
   pub say : AreSigned strict attributes v
 
+-- these octets are attributes, and are no others
+abbrev pub AreOnly : List ℕ → Type 0
+AreOnly c =
+    (xs : List Attribute) × each_attribute.spells xs c × ((ys : List Attribute) → each_attribute.spells ys c → ys ≡ xs)
+
 -- the attributes, whose octets are p, are in front of these octets; what is signed is made of their section
 pub record AreAttributesAt (x : AttributesParts) (p behind : List ℕ) (v : SignedAttrsView) : Type 0 where
   pub section : IsSection v.octets p behind

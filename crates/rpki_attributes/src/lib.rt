@@ -6,6 +6,7 @@
 
 mod attribute;
 mod encode;
+mod fault;
 mod known_attributes;
 pub mod laws;
 mod signed_attrs;
@@ -13,6 +14,7 @@ mod signed_attrs_view;
 
 pub use attribute::AttributeView;
 pub use encode::{AttributesBuilder, MessageEncoder, SignedAttrsEncoder};
+pub use fault::attributes_fault;
 pub use known_attributes::KnownAttributes;
 pub use signed_attrs::SignedAttrs;
 pub use signed_attrs_view::SignedAttrsView;

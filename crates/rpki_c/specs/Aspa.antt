@@ -20,10 +20,14 @@ aspa_part_number P.Providers = 151
 abbrev pub passed : Parts → FoundAspa
 passed p = record { customer = p.customer; providers = p.providers.octets.now; count = p.count }
 
+-- this part is the leftmost that is malformed
+abbrev pub IsAspaWrong : List ℕ → AspaPart → Type 0
+IsAspaWrong s q = (e : ℕ) × (attestation s ≡ Err (q, e))
+
 -- Status 0: the octets are an attestation of these parts. Else the number of the malformed part, and nothing is
 -- written.
 abbrev pub IsAspaRead : List ℕ → ℕ → Parts → Parts → Type 0
-IsAspaRead s = IsRead (λ p. attestation s ≡ Ok (passed p)) aspa_part_number (λ q. attestation s ≡ Err q)
+IsAspaRead s = IsRead (λ p. attestation s ≡ Ok (passed p)) aspa_part_number (IsAspaWrong s)
 
 -- a provider is taken off the span
 abbrev pub IsProviderTaken : ℕ → Span → Span → ℕ → ℕ → Type 0

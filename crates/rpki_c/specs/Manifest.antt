@@ -1,11 +1,13 @@
 -- What a status says of a manifest, and of the names of its files.
 use Rattle.std.specs.Prelude.{◌≡◌, ℕ, List, length, ◌⊎◌, ◌≤◌, ◌<◌, ◌↔◌, Bool, IsTrue}
+use Rattle.rpki_der.specs.Error.{error_number}
 use Rattle.rpki_der.specs.Prelude.{number_of}
+use Rattle.rpki_parse.specs.declared.malformed.Malformed.{Malformed}
 use Rattle.rpki_contents.specs.declared.manifest_part.ManifestPart.{ManifestPart}
 use Rattle.rpki_contents.specs.FilesInPlace.{AreFiles}
 use Rattle.rpki_contents.specs.ListedFile.{ListedFile, file, AreDistinct}
 use Rattle.rpki_contents.specs.Manifest.{ManifestParts, fields_of, AreInOrder}
-use Rattle.rpki_contents.specs.ManifestView.{view_manifest, IsManifestWrong}
+use Rattle.rpki_contents.specs.ManifestView.{view_manifest, IsManifestError, IsManifestWrong}
 use Rattle.rpki_c.specs.declared.manifest.ManifestParts.{ManifestParts as Parts}
 use Rattle.rpki_c.specs.declared.manifest.ManifestFile.{ManifestFile}
 use Rattle.rpki_c.specs.declared.span.Span.{Span}
@@ -46,6 +48,14 @@ pub record HasManifest (s : List ℕ) (p : Parts) : Type 0 where
 -- written.
 abbrev pub IsManifestRead : List ℕ → ℕ → Parts → Parts → Type 0
 IsManifestRead s = IsRead (HasManifest s) manifest_part_number (IsManifestWrong s)
+
+-- Status 0: the octets are such a manifest, and nothing is written. Else the number of the malformed part, and the
+-- number of the error, as a reader of that part returns it, is written.
+abbrev pub IsManifestErrorRead : List ℕ → ℕ → ℕ → ℕ → Type 0
+IsManifestErrorRead s status old new =
+    ((status ≡ 0) × ((x : ManifestParts) × IsListing x s) × (new ≡ old))
+    ⊎ ((q : Malformed ManifestPart) × IsManifestError s q × (status ≡ manifest_part_number q.part)
+    × (new ≡ error_number q.error))
 
 -- what is written of a file: its name and its digest
 pub record HasFile (x : ListedFile) (p : ManifestFile) : Type 0 where

@@ -26,11 +26,15 @@ roa_part_number P.AddressBlocks = 147
 abbrev pub passed : RoaParts → FoundRoa
 passed p = found p.as_id (listed p.v4.octets.now p.v4_count, listed p.v6.octets.now p.v6_count)
 
+-- this part is the leftmost that is malformed
+abbrev pub IsRoaWrong : Bool → List ℕ → RoaPart → Type 0
+IsRoaWrong strict s q = (e : ℕ) × (route_origin strict s ≡ Err (q, e))
+
 -- Status 0: the octets are an attestation of these parts. Else the number of the malformed part, and nothing is
 -- written.
 abbrev pub IsRoaRead : Bool → List ℕ → ℕ → RoaParts → RoaParts → Type 0
 IsRoaRead strict s =
-    IsRead (λ p. route_origin strict s ≡ Ok (passed p)) roa_part_number (λ q. route_origin strict s ≡ Err q)
+    IsRead (λ p. route_origin strict s ≡ Ok (passed p)) roa_part_number (IsRoaWrong strict s)
 
 -- what is written of a prefix
 pub record HasAddress (family : AddressFamily) (x : RoaIpAddress) (p : RoaAddress) : Type 0 where

@@ -7,7 +7,9 @@ use Rattle.rpki_objects.specs.declared.object_part.ObjectPart.{ObjectPart}
 use Rattle.rpki_attributes.specs.SignedAttributes.{AttributeValues, message_of}
 use Rattle.rpki_objects.specs.SignedObject.{SignerParts, signer_fields_of, signer_fields, ObjectParts, data_fields_of}
 use Rattle.rpki_objects.specs.SignedObject.{data_fields, object_fields_of, signed_object}
-use Rattle.rpki_objects.specs.SignedObjectView.{IsObjectWrong}
+use Rattle.rpki_der.specs.Error.{error_number}
+use Rattle.rpki_objects.specs.SignedObjectView.{IsObjectError, IsObjectWrong}
+use Rattle.rpki_parse.specs.declared.malformed.Malformed.{Malformed}
 use Rattle.rpki_c.specs.declared.signed_object.SignedObjectParts.{SignedObjectParts as Parts, SignedObjectParts}
 use Rattle.rpki_c.specs.declared.times.Moment.{Moment}
 use Rattle.rpki_c.specs.Certificate.{part_number, known_number}
@@ -106,6 +108,14 @@ IsNoObject strict s =
 abbrev pub IsObjectRead : Bool → List ℕ → ℕ → Parts → Parts → Type 0
 IsObjectRead strict s =
     IsRead (HasObject strict s) object_part_number (λ q. IsObjectWrong strict s q × IsNoObject strict s)
+
+-- Status 0: the octets are a signed object, and nothing is written. Else the number of the malformed part, and the
+-- number of the error, as a reader of that part returns it, is written.
+abbrev pub IsObjectErrorRead : Bool → List ℕ → ℕ → ℕ → ℕ → Type 0
+IsObjectErrorRead strict s status old new =
+    ((status ≡ 0) × ((x : ObjectParts) × (signed_object strict).spells (object_fields_of x) s) × (new ≡ old))
+    ⊎ ((q : Malformed ObjectPart) × IsObjectError strict s q × IsNoObject strict s
+    × (status ≡ object_part_number q.part) × (new ≡ error_number q.error))
 
 -- ---- What a status says of a signed object, and of whether the key of its certificate has signed it (RFC 6488 3)
 

@@ -34,6 +34,12 @@ pub record IsFrontRefused {V : Type 0} (G : V → List ℕ → Type 0) (K : List
   pub number : status ≡ error_number error
   pub refusal : Refusal G K s s error
 
+-- What a reader of all parts found, as a status and the error that is written: 0, and the error is left as it was; else
+-- the numbers of the malformed part, and of what is wrong with it.
+abbrev pub told_error : {V Q : Type 0} → (Q → ℕ) → ℕ → Result V (Q × ℕ) → ℕ × ℕ
+told_error number old (Ok x) = (0, old)
+told_error number old (Err q) = (number q.0, q.1)
+
 -- Status 0: the octets were read, and this is said of what is written. Else the number of the malformed part, and
 -- nothing is written.
 abbrev pub IsRead : {O Q : Type 0} → (O → Type 0) → (Q → ℕ) → (Q → Type 0) → ℕ → O → O → Type 0

@@ -1,8 +1,9 @@
 //! Attestations of the providers of an autonomous system.
 
-ghost use Rattle.std.specs.Prelude.{◌≡◌, Ok};
-ghost use Rattle.rpki_contents.specs.AspaView.{found_of};
+ghost use Rattle.std.specs.Prelude.{◌≡◌};
+ghost use Rattle.rpki_contents.specs.AspaView.{attestation, found_aspa};
 ghost use Rattle.rpki_c.specs.Aspa.{aspa_part_number, passed, IsAspaRead, IsProviderTaken};
+ghost use Rattle.rpki_c.specs.Whole.{told_error};
 
 use crate::span::Span;
 use rpki_contents::{AspaPart, AspaView};
@@ -35,7 +36,7 @@ pub(crate) fn aspa_part_number(part: AspaPart) -> u8
 
 /// The parts of the attestation.
 fn aspa_of<'a>(found: AspaView<'a>) -> AspaParts<'a>
-    ensures { Ok (passed result) ≡ found_of (Ok found.entry) }
+    ensures { passed result ≡ found_aspa found.entry }
 {
     AspaParts {
         providers: Span::of(found.providers),
@@ -58,7 +59,24 @@ pub extern "C" fn rpki_aspa<'a>(octets: &'a [u8], out: &mut AspaParts<'a>) -> u8
             *out = aspa_of(found);
             0
         }
-        Err(part) => aspa_part_number(part),
+        Err(wrong) => aspa_part_number(wrong.part),
+    }
+}
+
+/// Reads an attestation of providers, as [rpki_aspa] does, and says what is wrong with the malformed part.
+///
+/// The status is that of [rpki_aspa]. Where it is a part, 148 to 151, `error` is the number of the error, that of
+/// `DecodeError`, as a reader of that part returns it; where it is 0, `error` is unchanged. Nothing is allocated.
+#[unsafe(no_mangle)]
+pub extern "C" fn rpki_aspa_error(octets: &[u8], error: &mut u8) -> u8
+    ensures { (result, error.new) ≡ told_error aspa_part_number error.old (attestation octets.now) }
+{
+    match AspaView::read(octets) {
+        Ok(_) => 0,
+        Err(wrong) => {
+            *error = wrong.error.number();
+            aspa_part_number(wrong.part)
+        }
     }
 }
 

@@ -42,7 +42,7 @@ pub extern "C" fn rpki_roa_is_within(
     }
     match RoaView::read(octets, strict) {
         Ok(_) => {}
-        Err(part) => return roa_part_number(part),
+        Err(wrong) => return roa_part_number(wrong.part),
     }
     let Ok(roa) = RouteOriginAttestation::decode(alloc, octets, strict) else {
         return OUT_OF_MEMORY;
@@ -94,7 +94,7 @@ pub extern "C" fn rpki_aspa_is_within(octets: &[u8], blocks: &[AsEntry]) -> u8
                 OTHER_RESOURCES
             }
         }
-        Err(part) => aspa_part_number(part),
+        Err(wrong) => aspa_part_number(wrong.part),
     }
 }
 

@@ -3,7 +3,8 @@
 ghost use Rattle.std.specs.Prelude.{◌≡◌, List};
 ghost use Rattle.rpki_contents.specs.ListedFile.{ListedFile};
 ghost use Rattle.rpki_contents.specs.ManifestView.{IsManifestAt};
-ghost use Rattle.rpki_c.specs.Manifest.{manifest_part_number, HasManifest, IsManifestRead, IsFileTaken};
+ghost use Rattle.rpki_c.specs.Manifest.{manifest_part_number, HasManifest, IsManifestErrorRead, IsManifestRead};
+ghost use Rattle.rpki_c.specs.Manifest.{IsFileTaken};
 
 use crate::span::Span;
 use crate::times::{Moment, moment_of};
@@ -69,7 +70,24 @@ pub extern "C" fn rpki_manifest<'a>(octets: &'a [u8], out: &mut ManifestParts<'a
             *out = manifest_of(octets, &found);
             0
         }
-        Err(part) => manifest_part_number(part),
+        Err(wrong) => manifest_part_number(wrong.part),
+    }
+}
+
+/// Reads a manifest, as [rpki_manifest] does, and says what is wrong with the malformed part.
+///
+/// The status is that of [rpki_manifest]. Where it is a part, 138 to 144, `error` is the number of the error, that of
+/// `DecodeError`, as a reader of that part returns it; where it is 0, `error` is unchanged. Nothing is allocated.
+#[unsafe(no_mangle)]
+pub extern "C" fn rpki_manifest_error(octets: &[u8], error: &mut u8) -> u8
+    ensures { IsManifestErrorRead octets.now result error.old error.new }
+{
+    match ManifestView::read(octets) {
+        Ok(_) => 0,
+        Err(wrong) => {
+            *error = wrong.error.number();
+            manifest_part_number(wrong.part)
+        }
     }
 }
 

@@ -28,6 +28,6 @@ pub extern "C" fn rpki_manifest_names<'a>(
             *out = found.files.names_differ(room);
             0
         }
-        Err(part) => manifest_part_number(part),
+        Err(wrong) => manifest_part_number(wrong.part),
     }
 }

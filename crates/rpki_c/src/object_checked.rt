@@ -30,7 +30,7 @@ pub extern "C" fn rpki_signed_object_checked<'a>(
 {
     let found = match SignedObjectView::read(octets, attributes) {
         Ok(found) => found,
-        Err(part) => return object_part_number(part),
+        Err(wrong) => return object_part_number(wrong.part),
     };
     let cert = &found.cert;
     match cert.parts.check(Profile::Ee, names) {

@@ -112,7 +112,7 @@ pub extern "C" fn rpki_object_verify(octets: &[u8], strict: bool) -> u8
 {
     let found = match SignedObjectView::read(octets, strict) {
         Ok(found) => found,
-        Err(part) => return object_part_number(part),
+        Err(wrong) => return object_part_number(wrong.part),
     };
     match test_content(&found) {
         Ok(()) => signer_told(

@@ -1,8 +1,9 @@
 //! Route origin attestations.
 
-ghost use Rattle.std.specs.Prelude.{◌≡◌, Ok};
-ghost use Rattle.rpki_contents.specs.RoaView.{found_of};
+ghost use Rattle.std.specs.Prelude.{◌≡◌};
+ghost use Rattle.rpki_contents.specs.RoaView.{found_roa, route_origin};
 ghost use Rattle.rpki_c.specs.Roa.{roa_part_number, passed, IsRoaRead, IsAddressTaken};
+ghost use Rattle.rpki_c.specs.Whole.{told_error};
 
 use crate::block_texts::family_of;
 use crate::ip_blocks::octets_of;
@@ -40,7 +41,7 @@ pub(crate) fn roa_part_number(part: RoaPart) -> u8
 
 /// The parts of the attestation.
 fn roa_of<'a>(found: RoaView<'a>) -> RoaParts<'a>
-    ensures { Ok (passed result) ≡ found_of (Ok found.entry) }
+    ensures { passed result ≡ found_roa found.entry }
 {
     RoaParts {
         v4: Span::of(found.v4),
@@ -65,7 +66,24 @@ pub extern "C" fn rpki_roa<'a>(octets: &'a [u8], strict: bool, out: &mut RoaPart
             *out = roa_of(found);
             0
         }
-        Err(part) => roa_part_number(part),
+        Err(wrong) => roa_part_number(wrong.part),
+    }
+}
+
+/// Reads a route origin attestation, as [rpki_roa] does, and says what is wrong with the malformed part.
+///
+/// The status is that of [rpki_roa]. Where it is a part, 145 to 147, `error` is the number of the error, that of
+/// `DecodeError`, as a reader of that part returns it; where it is 0, `error` is unchanged. Nothing is allocated.
+#[unsafe(no_mangle)]
+pub extern "C" fn rpki_roa_error(octets: &[u8], strict: bool, error: &mut u8) -> u8
+    ensures { (result, error.new) ≡ told_error roa_part_number error.old (route_origin strict octets.now) }
+{
+    match RoaView::read(octets, strict) {
+        Ok(_) => 0,
+        Err(wrong) => {
+            *error = wrong.error.number();
+            roa_part_number(wrong.part)
+        }
     }
 }
 

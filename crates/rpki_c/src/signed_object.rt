@@ -4,7 +4,7 @@ ghost use Rattle.std.specs.Prelude.{◌≡◌, ◌↔◌, IsTrue, IfSome};
 ghost use Rattle.rpki_c.specs.Time.{IsMoment};
 ghost use Rattle.rpki_objects.specs.SignedObject.{ObjectParts};
 ghost use Rattle.rpki_objects.specs.SignedObjectView.{IsObjectAt};
-ghost use Rattle.rpki_c.specs.SignedObject.{object_part_number, HasObject, IsObjectRead};
+ghost use Rattle.rpki_c.specs.SignedObject.{object_part_number, HasObject, IsObjectErrorRead, IsObjectRead};
 
 use crate::certificate::part_number;
 use crate::span::Span;
@@ -136,6 +136,23 @@ pub extern "C" fn rpki_signed_object<'a>(
             *out = object_of(octets, strict, &found);
             0
         }
-        Err(part) => object_part_number(part),
+        Err(wrong) => object_part_number(wrong.part),
+    }
+}
+
+/// Reads a signed object, as [rpki_signed_object] does, and says what is wrong with the malformed part.
+///
+/// The status is that of [rpki_signed_object]. Where it is a part, `error` is the number of the error, that of
+/// `DecodeError`, as a reader of that part returns it; where it is 0, `error` is unchanged. Nothing is allocated.
+#[unsafe(no_mangle)]
+pub extern "C" fn rpki_signed_object_error(octets: &[u8], strict: bool, error: &mut u8) -> u8
+    ensures { IsObjectErrorRead strict octets.now result error.old error.new }
+{
+    match SignedObjectView::read(octets, strict) {
+        Ok(_) => 0,
+        Err(wrong) => {
+            *error = wrong.error.number();
+            object_part_number(wrong.part)
+        }
     }
 }

@@ -135,14 +135,14 @@ members-found c x b e =
     let v = part-ok P.Version (version_at c) _ x e in
     let n = part-ok P.Customer (number_at v.0.1) _ x v.2 in
     let p = part-ok P.Providers (value_at sequence true n.0.1) _ x n.2 in
-    let z = part-ok P.Providers (ended p.0.1) _ x p.2 in
-    let k = part-ok P.Providers (providers_at n.0.0 p.0.0) _ x z.2 in
+    let k = part-ok P.Providers (providers_at n.0.0 p.0.0) _ x p.2 in
+    let z = part-ok P.Providers (ended p.0.1) _ x k.2 in
     let one = version-found c v.0.0 v.0.1 b v.1 in
     let bytes = following b one in
     let two = number-found v.0.1 n.0.0 n.0.1 bytes n.1 in
     let list = whole-found n.0.1 p.0.0 p.0.1 z.0 (following bytes two) p.1 z.1 in
     let g = providers-found n.0.0 p.0.0 k.0 list.1 k.1 in
-    subst (AreParts c) (ok-is _ _ k.2) (record {
+    subst (AreParts c) (ok-is _ _ z.2) (record {
       providers = g.0;
       spelled = record {
         first = one.front;

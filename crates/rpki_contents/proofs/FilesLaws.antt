@@ -2,11 +2,13 @@
 use Rattle.std.proofs.Common.{◌≡◌, ◌≢◌, ◌∙◌, ◌++◌, ◌<◌, ℕ, true, false, List, [], ◌∷◌, length, Some, None}
 use Rattle.std.proofs.Common.{refl, sym, ap, subst, arith, length-append, append_assoc, append-nil}
 use Rattle.rpki_der.specs.declared.error.DecodeError.{DecodeError}
-use Rattle.rpki_der.specs.declared.error.DecodeError.TheVariants.{OutOfMemory}
+use Rattle.rpki_der.specs.declared.error.DecodeError.TheVariants.{Truncated, BadTag, BadLength, Unexpected, Content}
+use Rattle.rpki_der.specs.declared.error.DecodeError.TheVariants.{Trailing, OutOfMemory}
 use Rattle.rpki_der.specs.TagName.{ia5_string, bit_string, sequence}
-use Rattle.rpki_der.specs.Reading.{Accepts, Refuses, Refusal, SpellsNothing}
+use Rattle.rpki_der.specs.Reading.{Accepts, Refuses, Refusal, SpellsNothing, UnlessMemory}
 use Rattle.rpki_der.specs.Leaves.{IsBits}
-use Rattle.rpki_der.specs.FirstFault.{IsEndFault}
+use Rattle.rpki_der.specs.FirstFault.{IsEndFault, RepeatedFault}
+use Rattle.rpki_der.specs.FirstFault.RepeatedFault.{AfterMember}
 use Rattle.rpki_der.specs.Format.{StandsForNothing, octets_under, only}
 use Rattle.rpki_der.specs.LeafFormats.{bits_value}
 use Rattle.rpki_der.proofs.EachLaws.{leaf-some}
@@ -41,6 +43,15 @@ file-no-memory s =
 
 pub no-file : (s r : List ℕ) (e : DecodeError) → Refusal file.spells file.fault s r e → Refuses file.spells s
 no-file s r e h = unless-memory e (λ z. file-no-memory s (subst (file.fault s) z h.kind)) h.refuses
+
+pub unless : (e : DecodeError) {P : Type 0} → P → UnlessMemory e P
+unless Truncated h = h
+unless BadTag h = h
+unless BadLength h = h
+unless Unexpected h = h
+unless (Content x) h = h
+unless Trailing h = h
+unless OutOfMemory h = tt
 
 -- ---- a file takes some octets
 
@@ -84,13 +95,14 @@ module _ (m : List ℕ) (some : m ≢ []) where
 
 -- ---- files that were read from the front
 
--- these files are the front of s: with any that r is, they are all of s; and s is none where r is none
+-- these files are the front of s: with any that r is, they are all of s; and s is none where r is none, with its error
 pub record Behind (s : List ℕ) (xs : List ListedFile) (r : List ℕ) : Type 0 where
   pub all : (ys : List ListedFile) → AreFiles ys r → AreFiles (xs ++ ys) s
   pub nothing : SpellsNothing AreFiles r → SpellsNothing AreFiles s
+  pub error : (e : DecodeError) → RepeatedFault file.spells file.fault r e → RepeatedFault file.spells file.fault s e
 
 pub at-start : (s : List ℕ) → Behind s [] s
-at-start s = record { all = λ ys h. h; nothing = λ none. none }
+at-start s = record { all = λ ys h. h; nothing = λ none. none; error = λ e h. h }
 
 pub one-more : (s m q : List ℕ) (xs : List ListedFile) (x : ListedFile) → Behind s xs m → m ≢ []
     → Accepts file.spells m x q → Behind s (xs ++ x ∷ []) q
@@ -99,6 +111,7 @@ one-more s m q xs x h some a = record {
       subst (λ (zs : List ListedFile). AreFiles zs s) (sym (append_assoc xs (x ∷ []) ys))
       (h.all (x ∷ ys) (q, a.spells, k));
   nothing = λ none. h.nothing (nothing-after-one m some x q a none);
+  error = λ e k. h.error e (AfterMember x q a k);
 }
 
 pub all-behind : (s r : List ℕ) (xs : List ListedFile) → Behind s xs r → r ≡ [] → AreFiles xs s

@@ -5,7 +5,8 @@ use Rattle.std.proofs.lemmas.List.{append-nil}
 use Rattle.rpki_der.specs.Prelude.{TagName, IsUnsignedBelow, Spells, SpellsContents, SpellsFor, SpellsLeaf}
 use Rattle.rpki_der.specs.Prelude.{integer, sequence}
 use Rattle.rpki_der.proofs.StepLaws.{IsBytes}
-use Rattle.rpki_parse.specs.Words.{Parser, bind, named}
+use Rattle.rpki_parse.specs.Words.{Parser, bind}
+use Rattle.rpki_parse.specs.Parts.{at_part}
 use Rattle.rpki_parse.specs.Value.{ended, tagged, value_at}
 use Rattle.rpki_parse.specs.Leaf.{below_in, decided}
 use Rattle.rpki_parse.specs.Optional.{optional_at}
@@ -39,8 +40,8 @@ if-err true x n y e = absurd cc
 if-err false x n y e = (refl, e)
 
 -- the same of a part that errors name
-pub part-ok : {A B P : Type 0} (p : P) (x : Result A ℕ) (K : A → Result B P) (y : B) → bind (named p x) K ≡ Ok y
-    → (z : A) × (x ≡ Ok z) × (K z ≡ Ok y)
+pub part-ok : {A B P : Type 0} (p : P) (x : Result A ℕ) (K : A → Result B (P × ℕ)) (y : B)
+    → bind (at_part p x) K ≡ Ok y → (z : A) × (x ≡ Ok z) × (K z ≡ Ok y)
 part-ok p (Ok z) K y e = (z, refl, e)
 part-ok p (Err n) K y e = absurd cc
 

@@ -3,21 +3,26 @@ use Rattle.std.proofs.Common.{◌≡◌, ℕ, true, List, Result, Ok, Err, refl,
 use Rattle.rpki_der.specs.declared.error.DecodeError.{DecodeError}
 use Rattle.rpki_der.specs.declared.error.DecodeError.TheVariants.{Truncated, BadTag, BadLength, Unexpected, Content}
 use Rattle.rpki_der.specs.declared.error.DecodeError.TheVariants.{Trailing, OutOfMemory}
-use Rattle.rpki_der.specs.Prelude.{sequence, this_oid, SpellsNothing}
+use Rattle.rpki_der.specs.Prelude.{Format, SpellsContents, SpellsNothing, sequence, this_oid}
 use Rattle.rpki_der.specs.Prelude.{IsWholeFault, Decodes, Then}
 use Rattle.rpki_der.proofs.FrontLaws.{contents-alone}
 use Rattle.rpki_der.proofs.PartsLaws.{first-of}
 use Rattle.rpki_time.specs.Serial.{serial_number}
 use Rattle.rpki_time.specs.TimeValue.{generalized}
 use Rattle.rpki.specs.Oids.{sha256}
+use Rattle.rpki_parse.specs.declared.malformed.Malformed.{Malformed}
+use Rattle.rpki_parse.specs.Parts.{malformed}
 use Rattle.rpki_contents.specs.declared.manifest_part.ManifestPart.{ManifestPart}
+use Rattle.rpki_contents.specs.FilesInPlace.{AreFiles}
 use Rattle.rpki_contents.specs.declared.manifest_view.ManifestView.{ManifestView}
 use Rattle.rpki_contents.specs.ListedFile.{ListedFile, AreDistinct}
 use Rattle.rpki_contents.specs.Manifest.{ManifestParts, Fields, fields_of, FieldsInOrder, files_of, manifest}
-use Rattle.rpki_contents.specs.ManifestView.{parts_in, IsManifestAt, IsManifestWrong, AreFieldsWrong, FirstPart}
+use Rattle.rpki_contents.specs.ManifestView.{parts_in, IsListWrong, IsManifestAt, IsManifestError, IsManifestWrong}
+use Rattle.rpki_contents.specs.ManifestView.{AreFieldsWrong, FirstPart}
 use Rattle.rpki_contents.specs.ManifestView.{view_list, view_fields, view_manifest}
 use Rattle.rpki_contents.specs.ManifestView.FirstPart.{AtPart, Later}
-use Rattle.rpki_contents.specs.ManifestView.IsManifestWrong.{NoManifest, InFields, OutOfOrder}
+use Rattle.rpki_contents.specs.ManifestView.IsManifestError.{InParts, OutOfOrder}
+use Rattle.rpki_contents.specs.ManifestView.WholePart.{InFrame, NoFrame}
 use Rattle.rpki_contents.specs.ManifestView.{IsDecodedAs, IsNotDecoded}
 use Rattle.rpki_contents.proofs.OneReadingLaws.{IsOneFront, number-one, time-one, digest-one, manifest-one}
 
@@ -50,30 +55,38 @@ read-doubled s v xs h twice x k =
 -- ---- a part is wrong
 
 -- the first part is there, and what follows isn't
-then-wrong : {A B : Type 0} (G : A → List ℕ → Type 0) (H : B → List ℕ → Type 0) (part : ManifestPart)
-    (L : List ℕ → ManifestPart → Type 0) (q : ManifestPart) → IsOneFront G
-    → ((r : List ℕ) → L r q → SpellsNothing H r) → (s : List ℕ) → FirstPart G part L s q → SpellsNothing (Then G H) s
-then-wrong G H part L q one none s (AtPart refuses e) x h = refuses x.0 h.second (first-of h)
-then-wrong G H part L q one none s (Later v r spells wrong) x h =
+then-wrong : {A B : Type 0} (F : Format A) (H : B → List ℕ → Type 0) (part : ManifestPart)
+    (L : List ℕ → Malformed ManifestPart → Type 0) (q : Malformed ManifestPart) → IsOneFront F.spells
+    → ((r : List ℕ) → L r q → SpellsNothing H r) → (s : List ℕ) → FirstPart F part L s q
+    → SpellsNothing (Then F.spells H) s
+then-wrong F H part L q one none s (AtPart refuses fault e) x h = refuses x.0 h.second (first-of h)
+then-wrong F H part L q one none s (Later v r spells wrong) x h =
     let e = one s x.0 v h.second r (first-of h) spells in
     none r wrong x.1 (subst (H x.1) e.1 h.two)
 
-fields-wrong : (q : ManifestPart) (s : List ℕ) → AreFieldsWrong s q → SpellsNothing view_fields.spells s
-fields-wrong q =
-    then-wrong serial_number.spells _ _ _ q number-one
-    (then-wrong generalized.spells _ _ _ q time-one
-    (then-wrong generalized.spells _ _ _ q time-one
-    (then-wrong (this_oid sha256).spells view_list.spells _ _ q digest-one (λ r wrong. wrong.0))))
+-- a SEQUENCE has one contents
+one-inside : (c d s : List ℕ) → SpellsContents sequence true c s → SpellsContents sequence true d s → d ≡ c
+one-inside c d s h k =
+    subst (λ (b : List ℕ). b ≡ c) (contents-alone sequence true d s k) (contents-alone sequence true c s h)
 
-read-wrong : (s : List ℕ) (q : ManifestPart) → IsManifestWrong s q → SpellsNothing manifest.spells s
-read-wrong s q (NoManifest none e) x h = none h.spelled.contents h.spelled.value
-read-wrong s q (InFields c value wrong) x h =
-    let one = contents-alone sequence true c s value in
-    let other = contents-alone sequence true h.spelled.contents s h.spelled.value in
+list-wrong : (q : Malformed ManifestPart) (s : List ℕ) → IsListWrong s q → SpellsNothing view_list.spells s
+list-wrong q s (NoFrame none fault e) xs k = none k.contents k.value
+list-wrong q s (InFrame c h wrong) xs k =
+    wrong.0.0 xs (subst (AreFiles xs) (one-inside c k.contents s h k.value) k.spelled)
+
+fields-wrong : (q : Malformed ManifestPart) (s : List ℕ) → AreFieldsWrong s q → SpellsNothing view_fields.spells s
+fields-wrong q =
+    then-wrong serial_number _ _ _ q number-one
+    (then-wrong generalized _ _ _ q time-one
+    (then-wrong generalized _ _ _ q time-one
+    (then-wrong (this_oid sha256) view_list.spells _ _ q digest-one (list-wrong q))))
+
+read-wrong : (s : List ℕ) (q : Malformed ManifestPart) → IsManifestError s q → SpellsNothing manifest.spells s
+read-wrong s q (InParts (NoFrame none fault e)) x h = none h.spelled.contents h.spelled.value
+read-wrong s q (InParts (InFrame c value wrong)) x h =
     fields-wrong q c wrong h.value
-    (subst (view_fields.spells h.value)
-    (subst (λ (d : List ℕ). d ≡ c) other one) h.spelled.spelled)
-read-wrong s q (OutOfOrder y spelled not e) x h =
+    (subst (view_fields.spells h.value) (one-inside c h.spelled.contents s value h.spelled.value) h.spelled.spelled)
+read-wrong s q (OutOfOrder y spelled not e is) x h =
     not (subst FieldsInOrder (one-fields s x (fields_of y) h spelled) h.stands.order)
 
 -- ---- what is decoded
@@ -107,4 +120,4 @@ module _ (s : List ℕ) (found : Result ManifestParts DecodeError)
   doubled-in-place v xs at twice = not-decoded s found h (read-doubled s v xs at twice)
 
   pub wrong-in-place : (q : ManifestPart) → IsManifestWrong s q → IsNotDecoded found
-  wrong-in-place q wrong = not-decoded s found h (read-wrong s q wrong)
+  wrong-in-place q wrong = not-decoded s found h (read-wrong s (malformed q wrong.0) wrong.1)

@@ -1,28 +1,29 @@
 -- Manifests that are read in place.
-use Rattle.std.proofs.Common.{◌≡◌, ℕ, true, false, List, Option, Some, None, refl, sym, subst}
-use Rattle.std.specs.Prelude.{IfSome, IfNone}
+use Rattle.std.proofs.Common.{◌≡◌, ℕ, true, false, List, Result, Ok, Err, refl, sym, subst}
+use Rattle.std.specs.Prelude.{IfOk, IfErr, codes}
 use Rattle.rpki_der.specs.declared.error.DecodeError.{DecodeError}
 use Rattle.rpki_der.specs.declared.error.DecodeError.TheVariants.{OutOfMemory}
 use Rattle.rpki_der.specs.TagName.{integer, generalized_time, oid, sequence}
-use Rattle.rpki_der.specs.Reading.{Accepts, Refuses, Refusal, SpellsNothing}
-use Rattle.rpki_der.specs.Values.{SpellsContents, IsContentsFault}
+use Rattle.rpki_der.specs.Reading.{Accepts, Refuses, Refusal}
+use Rattle.rpki_der.specs.Values.{SpellsContents}
 use Rattle.rpki_der.specs.Leaves.{IsOnly}
 use Rattle.rpki_der.specs.LeafFormats.{this_oid}
-use Rattle.rpki_der.proofs.ComposedLaws.{nothing-whole}
 use Rattle.rpki_der.proofs.InsideLaws.{unless-memory}
-use Rattle.rpki_der.proofs.LeavesLaws.{leaf-no-memory, contents-no-memory}
+use Rattle.rpki_der.proofs.LeavesLaws.{leaf-no-memory}
+use Rattle.rpki_parse.specs.Parts.{malformed}
 use Rattle.rpki_time.specs.Serial.{IsSerialContents, serial_number}
 use Rattle.rpki_time.specs.TimeText.{ReadsAsGeneralized}
 use Rattle.rpki_time.specs.TimeValue.{generalized}
 use Rattle.rpki.specs.Oids.{sha256}
-use Rattle.rpki_contents.specs.declared.manifest_part.ManifestPart.{ManifestPart}
+use Rattle.rpki.specs.Prelude.{IsContentWith}
+use Rattle.rpki_contents.specs.declared.manifest_part.ManifestPart.TheVariants as P
 use Rattle.rpki_contents.specs.declared.manifest_view.ManifestView.{ManifestView}
 use Rattle.rpki_contents.specs.ListedFile.{ListedFile}
-use Rattle.rpki_contents.specs.FilesInPlace.{FileOctets, AreFiles, HoldFiles}
+use Rattle.rpki_contents.specs.FilesInPlace.{FileOctets, AreFiles, AreNoFiles, HoldFiles}
 use Rattle.rpki_contents.specs.Manifest.{AreInOrder}
-use Rattle.rpki_contents.specs.ManifestView.{IsListOf, ReadsList, ReadsContents, parts_in, AreFieldsAt}
-use Rattle.rpki_contents.specs.ManifestView.{IsManifestWrong}
-use Rattle.rpki_contents.specs.ManifestView.IsManifestWrong.{OutOfOrder}
+use Rattle.rpki_contents.specs.ManifestView.{IsListOf, ReadsList, parts_in, AreFieldsAt, IsManifestError}
+use Rattle.rpki_contents.specs.ManifestView.IsManifestError.{OutOfOrder}
+use Rattle.rpki_contents.specs.ManifestView.WholePart.{InFrame}
 
 -- ---- parts that aren't there: no memory is taken
 
@@ -48,39 +49,25 @@ no-digest s r e =
     no-part (this_oid sha256).spells (this_oid sha256).fault s r e
     (λ m. leaf-no-memory oid false (IsOnly sha256) s OutOfMemory m refl)
 
-pub no-sequence : (s r : List ℕ) (e : DecodeError)
-    → Refusal (SpellsContents sequence true) (IsContentsFault sequence true) s r e
-    → SpellsNothing (SpellsContents sequence true) s
-no-sequence s r e h =
-    nothing-whole (SpellsContents sequence true) s
-    (no-part (SpellsContents sequence true) (IsContentsFault sequence true) s r e
-    (λ m. contents-no-memory sequence true s OutOfMemory m refl) h)
-
 -- ---- the list of files
 
-pub list-read : (s c : List ℕ) (v : FileOctets) → ReadsContents s (Some c) → v.octets ≡ c
-    → ((xs : List ListedFile) × HoldFiles v xs) → ReadsList s (Some v)
+list-read : (s c : List ℕ) (v : FileOctets) → SpellsContents sequence true c s → v.octets ≡ c
+    → ((xs : List ListedFile) × HoldFiles v xs) → ReadsList s (Ok v)
 list-read s c v h is (xs, held) = (
   xs,
   record {
-    spelled = record { contents = c; value = h.0; spelled = subst (AreFiles xs) is held.files };
+    spelled = record { contents = c; value = h; spelled = subst (AreFiles xs) is held.files };
     octets = sym is;
     count = held.count;
   },
 )
 
-pub list-wrong : (s c : List ℕ) → ReadsContents s (Some c) → SpellsNothing AreFiles c → ReadsList s None
-list-wrong s c h none xs k = none xs (subst (AreFiles xs) (h.1 k.contents k.value) k.spelled)
-
 -- the reader of the files, whose result is handed on
-pub list-handed : (s c : List ℕ) (x : Option FileOctets) → ReadsContents s (Some c)
-    → IfSome x (λ v. (v.octets ≡ c) × (xs : List ListedFile) × HoldFiles v xs) → IfNone x (SpellsNothing AreFiles c)
+pub list-handed : (s c : List ℕ) (x : Result FileOctets DecodeError) → SpellsContents sequence true c s
+    → IfOk x (λ v. (v.octets ≡ c) × (xs : List ListedFile) × HoldFiles v xs) → IfErr x (λ e. AreNoFiles c e)
     → ReadsList s x
-list-handed s c (Some v) h some none = list-read s c v h some.0 (some.1, some.2)
-list-handed s c None h some none = list-wrong s c h none
-
-pub no-list : (s : List ℕ) → ReadsContents s None → ReadsList s None
-no-list s none xs k = none k.contents k.value
+list-handed s c (Ok v) h ok err = list-read s c v h ok.0 (ok.1, ok.2)
+list-handed s c (Err e) h ok err = InFrame c h (err, refl)
 
 -- ---- the fields
 
@@ -123,8 +110,8 @@ module _ (s w x y z : List ℕ) (v : ManifestView) (number : Accepts serial_numb
 
 -- ---- a manifest
 
-pub out-of-order : (s c : List ℕ) (v : ManifestView) → SpellsContents sequence true c s
+pub out-of-order : (s c : List ℕ) (v : ManifestView) (e : DecodeError) → SpellsContents sequence true c s
     → ((xs : List ListedFile) × AreFieldsAt c v xs) → (AreInOrder v.this_update v.next_update → ⊥)
-    → IsManifestWrong s ManifestPart.Order
-out-of-order s c v h (xs, fields) not =
-    OutOfOrder (parts_in v xs) (record { contents = c; value = h; spelled = fields.spelled }) not refl
+    → IsContentWith (codes "next update not after this update") e → IsManifestError s (malformed P.Order e)
+out-of-order s c v e h (xs, fields) not is =
+    OutOfOrder (parts_in v xs) (record { contents = c; value = h; spelled = fields.spelled }) not refl is

@@ -32,8 +32,8 @@ use Rattle.rpki_contents.specs.RoaAddress.{parts_of, roa_address, roa_family}
 use Rattle.rpki_contents.specs.Roa.{AreFamilies, Both, alone, each_family, families, together}
 use Rattle.rpki_contents.specs.AspaView.{number_at}
 use Rattle.rpki_contents.specs.RoaView.{AreListed, FoundRoa, IsRoaOf, Listed, blocks_at, count_at, family_at, family_in}
-use Rattle.rpki_contents.specs.RoaView.{fits, in_order, listed, max_length_at, one_more, prefix_at, route_origin}
-use Rattle.rpki_contents.specs.RoaView.{size_of}
+use Rattle.rpki_contents.specs.RoaView.{fits, in_order, listed, max_length_at, no_more, one_more, prefix_at}
+use Rattle.rpki_contents.specs.RoaView.{route_origin, size_of, some_at}
 use Rattle.rpki_contents.proofs.FoundLaws.{bind-ok, decided-ok, ended-ok, following, front-found, if-err, if-ok}
 use Rattle.rpki_contents.proofs.FoundLaws.{in-sequence, number-found, ok-is, optional-ok, pair-ok, part-ok, such-is}
 use Rattle.rpki_contents.proofs.FoundLaws.{whole, whole-found}
@@ -191,8 +191,8 @@ family-found s x r b e =
     let (c, q, outer, inner, g) = front-found s _ (x, r) b e in
     let f = bind-ok (leaf_at octet_string family_in c) _ (x, r) g in
     let a = bind-ok (value_at sequence true f.0.1) _ (x, r) f.2 in
-    let z = bind-ok (ended a.0.1) _ (x, r) a.2 in
-    let n = bind-ok (count_at (width f.0.0) a.0.0) _ (x, r) z.2 in
+    let n = bind-ok (count_at (width f.0.0) a.0.0) _ (x, r) a.2 in
+    let z = bind-ok (ended a.0.1) _ (x, r) n.2 in
     let name = leaf-found octet_string IsFamily family_in family-decides c f.0.0 f.0.1 inner f.1 in
     let list = whole-found f.0.1 a.0.0 a.0.1 z.0 (following inner name) a.1 z.1 in
     let h = count-found (width f.0.0) a.0.0 n.0 list.1 n.1 in
@@ -207,7 +207,7 @@ family-found s x r b e =
         stands = (refl, h.1);
       };
     } in
-    subst (λ (y : (AddressFamily × Listed) × List ℕ). IsFound s y.0 y.1) (ok-is _ _ n.2)
+    subst (λ (y : (AddressFamily × Listed) × List ℕ). IsFound s y.0 y.1) (ok-is _ _ z.2)
     (h.0, in-sequence outer parts, h.2)
 
 -- a second one, or nothing
@@ -223,6 +223,14 @@ second-found (t ∷ ts) y r b e none =
     let p = pair-ok v.2 in
     subst (IsSecond (t ∷ ts)) p.0
     (subst (IsFound (t ∷ ts) v.0.0) (p.1 ∙ none) (family-found (t ∷ ts) v.0.0 v.0.1 b v.1))
+
+some-ok : (s : List ℕ) (y : (AddressFamily × Listed) × List ℕ) → some_at family_at s ≡ Ok y → family_at s ≡ Ok y
+some-ok [] y e = absurd cc
+some-ok (t ∷ ts) y e = e
+
+no-more-ok : (s : List ℕ) (u : Unit {0}) → no_more s ≡ Ok u → s ≡ []
+no-more-ok [] u e = refl
+no-more-ok (t ∷ ts) u e = absurd cc
 
 abbrev AreBoth : Both → Listed × Listed → Type 0
 AreBoth b x = AreListed 32 b.0 x.0 × AreListed 128 b.1 x.1
@@ -257,11 +265,11 @@ blocks-found : (strict : Bool) (s : List ℕ) (p : Listed × Listed) (r : List �
 unfolding blocks_at
 blocks-found strict s p r b e =
     let (c, q, outer, inner, f) = front-found s _ (p, r) b e in
-    let x = bind-ok (family_at c) _ (p, r) f in
+    let x = bind-ok (some_at family_at c) _ (p, r) f in
     let y = bind-ok (one_more family_at x.0.1) _ (p, r) x.2 in
-    let end = bind-ok (ended y.0.1) _ (p, r) y.2 in
-    let h = family-found c x.0.0 x.0.1 inner x.1 in
-    let k = second-found x.0.1 y.0.0 y.0.1 (following inner h.1) y.1 (ended-ok y.0.1 end.0 end.1) in
+    let end = bind-ok (no_more y.0.1) _ (p, r) y.2 in
+    let h = family-found c x.0.0 x.0.1 inner (some-ok c x.0 x.1) in
+    let k = second-found x.0.1 y.0.0 y.0.1 (following inner h.1) y.1 (no-more-ok y.0.1 end.0 end.1) in
     let d = decided-ok (in_order strict x.0.0 y.0.0) p q r end.2 in
     let (fs, both, spelled, are, g) = in-order strict c x.0.1 x.0.0 y.0.0 p h k d.0 in (
       both,

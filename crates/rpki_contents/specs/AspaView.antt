@@ -1,9 +1,10 @@
 -- Attestations of providers that are read in place, as a function of their octets: what is found, or the leftmost
--- malformed part. The parts are those of Aspa.antt.
+-- malformed part, and why. The parts are those of Aspa.antt.
 use Rattle.std.specs.Prelude.{ℕ, Bool, true, not, ◌&&◌, ◌^◌, List, Option, None, Some, Result, Ok, Err}
 use Rattle.std.specs.Prelude.{◌≡◌, length, if◌then◌else◌, nat_eq, nat_lt}
 use Rattle.rpki_der.specs.Prelude.{integer, sequence}
-use Rattle.rpki_parse.specs.Words.{Parser, bind, named}
+use Rattle.rpki_parse.specs.Words.{Parser, bind}
+use Rattle.rpki_parse.specs.Parts.{at_part}
 use Rattle.rpki_parse.specs.Value.{ended, value_at}
 use Rattle.rpki_parse.specs.Leaf.{below_in, leaf_at, number_in}
 use Rattle.rpki_parse.specs.Fold.{fold_at}
@@ -48,25 +49,24 @@ pub record FoundAspa : Type 0 where
   pub providers : List ℕ
   pub count : ℕ
 
-abbrev pub found_of : Result AspaView AspaPart → Result FoundAspa AspaPart
-found_of (Ok v) = Ok (record { customer = v.customer; providers = v.providers.now; count = v.count })
-found_of (Err q) = Err q
+abbrev pub found_aspa : AspaView → FoundAspa
+found_aspa v = record { customer = v.customer; providers = v.providers.now; count = v.count }
 
 -- the parts, which are all of s
-abbrev pub members : List ℕ → Result FoundAspa AspaPart
+abbrev pub members : List ℕ → Result FoundAspa (AspaPart × ℕ)
 members s =
-    bind (named P.Version (version_at s)) (λ v.
-    bind (named P.Customer (number_at v.1)) (λ n.
-    bind (named P.Providers (value_at sequence true n.1)) (λ p.
-    bind (named P.Providers (ended p.1)) (λ _.
-    bind (named P.Providers (providers_at n.0 p.0)) (λ k.
+    bind (at_part P.Version (version_at s)) (λ v.
+    bind (at_part P.Customer (number_at v.1)) (λ n.
+    bind (at_part P.Providers (value_at sequence true n.1)) (λ p.
+    bind (at_part P.Providers (providers_at n.0 p.0)) (λ k.
+    bind (at_part P.Providers (ended p.1)) (λ _.
     Ok (record { customer = n.0; providers = p.0; count = k }))))))
 
 -- ASProviderAttestation: all of s
-abbrev pub attestation : List ℕ → Result FoundAspa AspaPart
+abbrev pub attestation : List ℕ → Result FoundAspa (AspaPart × ℕ)
 attestation s =
-    bind (named P.Attestation (value_at sequence true s)) (λ c.
-    bind (named P.Attestation (ended c.1)) (λ _.
+    bind (at_part P.Attestation (value_at sequence true s)) (λ c.
+    bind (at_part P.Attestation (ended c.1)) (λ _.
     members c.0))
 
 -- s is an attestation in the words of its grammar (Aspa.antt), x are its customer and the octets of its providers

@@ -1,18 +1,22 @@
--- Manifests that are read in place: what is where, and which part is wrong (RFC 9286 4.2).
-use Rattle.std.specs.Prelude.{◌≡◌, ℕ, true, List, [], ◌∷◌, length, Option, Some, None, Result, Ok, Err}
+-- Manifests that are read in place: what is where, and which part is wrong, and why (RFC 9286 4.2).
+use Rattle.std.specs.Prelude.{◌≡◌, ℕ, true, List, [], ◌∷◌, codes, length, Option, Some, None, Result, Ok, Err}
 use Rattle.rpki_der.specs.declared.error.DecodeError.{DecodeError}
 use Rattle.rpki_der.specs.declared.error.DecodeError.TheVariants.{OutOfMemory}
 use Rattle.rpki_der.specs.Prelude.{sequence, Refuses, Spells, SpellsNothing, SpellsContents, Format}
 use Rattle.rpki_der.specs.Prelude.{this_oid, optional_of}
+use Rattle.rpki_parse.specs.declared.malformed.Malformed.{Malformed}
+use Rattle.rpki_parse.specs.Parts.{malformed}
+use Rattle.rpki_x509.specs.Frame.{IsFrameFault}
 use Rattle.rpki_time.specs.Serial.{serial_number}
 use Rattle.rpki_time.specs.TimeValue.{generalized}
 use Rattle.rpki.specs.Oids.{sha256}
+use Rattle.rpki.specs.Prelude.{IsContentWith}
 use Rattle.rpki_contents.specs.declared.file_view.FileView.{FileView}
 use Rattle.rpki_contents.specs.declared.manifest_part.ManifestPart.{ManifestPart}
 use Rattle.rpki_contents.specs.declared.manifest_part.ManifestPart.TheVariants as P
 use Rattle.rpki_contents.specs.declared.manifest_view.ManifestView.{ManifestView}
 use Rattle.rpki_contents.specs.ListedFile.{ListedFile, file}
-use Rattle.rpki_contents.specs.FilesInPlace.{FileOctets, AreFiles}
+use Rattle.rpki_contents.specs.FilesInPlace.{FileOctets, AreFiles, AreNoFiles}
 use Rattle.rpki_contents.specs.Manifest.{ManifestParts, parts_of, Fields, fields_of, listing, fields_with}
 use Rattle.rpki_contents.specs.Manifest.{listed_fields, AreInOrder}
 
@@ -37,16 +41,22 @@ pub record IsListOf (s : List ℕ) (v : FileOctets) (xs : List ListedFile) : Typ
   pub octets : spelled.contents ≡ v.octets
   pub count : length xs ≡ v.count
 
--- a reader of the list that is all of s
-abbrev pub ReadsList : List ℕ → Option FileOctets → Type 0
-ReadsList s (Some v) = (xs : List ListedFile) × IsListOf s v xs
-ReadsList s None = SpellsNothing view_list.spells s
+-- q is wrong in s, all of which should be a SEQUENCE: it isn't, and q is this part; or it is, and L says it of the
+-- contents
+pub data WholePart (part : ManifestPart) (L : List ℕ → Malformed ManifestPart → Type 0) (s : List ℕ)
+    (q : Malformed ManifestPart) : Type 0 where
+  NoFrame : SpellsNothing (SpellsContents sequence true) s → IsFrameFault sequence s q.error → q.part ≡ part
+      → WholePart part L s q
+  InFrame : (c : List ℕ) → SpellsContents sequence true c s → L c q → WholePart part L s q
 
--- a reader of all of s: Some is the contents of a SEQUENCE, and of no other, and None says that it is none
-abbrev pub ReadsContents : List ℕ → Option (List ℕ) → Type 0
-ReadsContents s (Some c) =
-    SpellsContents sequence true c s × ((d : List ℕ) → SpellsContents sequence true d s → d ≡ c)
-ReadsContents s None = SpellsNothing (SpellsContents sequence true) s
+-- all of s is to be the list of files
+abbrev pub IsListWrong : List ℕ → Malformed ManifestPart → Type 0
+IsListWrong = WholePart P.FileList (λ c q. AreNoFiles c q.error × (q.part ≡ P.FileList))
+
+-- a reader of the list that is all of s
+abbrev pub ReadsList : List ℕ → Result FileOctets DecodeError → Type 0
+ReadsList s (Ok v) = (xs : List ListedFile) × IsListOf s v xs
+ReadsList s (Err e) = IsListWrong s (malformed P.FileList e)
 
 -- ---- the fields
 
@@ -68,24 +78,20 @@ pub record AreFieldsAt (c : List ℕ) (v : ManifestView) (xs : List ListedFile) 
 
 -- ---- which part is wrong
 
--- q is wrong in s, which a value of G should begin: it doesn't, and q is this part; or it does, and L says it of what
--- follows
-pub data FirstPart {V : Type 0} (G : V → List ℕ → Type 0) (part : ManifestPart) (L : List ℕ → ManifestPart → Type 0)
-    (s : List ℕ) (q : ManifestPart) : Type 0 where
-  AtPart : Refuses G s → q ≡ part → FirstPart G part L s q
-  Later : (v : V) (r : List ℕ) → Spells G s v r → L r q → FirstPart G part L s q
-
--- all of s is to be the list of files
-abbrev pub IsListWrong : List ℕ → ManifestPart → Type 0
-IsListWrong s q = SpellsNothing view_list.spells s × (q ≡ P.FileList)
+-- q is wrong in s, which a value of F should begin: it doesn't, and q is this part, with the error of F; or it does,
+-- and L says it of what follows
+pub data FirstPart {V : Type 0} (F : Format V) (part : ManifestPart) (L : List ℕ → Malformed ManifestPart → Type 0)
+    (s : List ℕ) (q : Malformed ManifestPart) : Type 0 where
+  AtPart : Refuses F.spells s → F.fault s q.error → q.part ≡ part → FirstPart F part L s q
+  Later : (v : V) (r : List ℕ) → Spells F.spells s v r → L r q → FirstPart F part L s q
 
 -- all of c is to be the fields
-abbrev pub AreFieldsWrong : List ℕ → ManifestPart → Type 0
+abbrev pub AreFieldsWrong : List ℕ → Malformed ManifestPart → Type 0
 AreFieldsWrong =
-    FirstPart serial_number.spells P.Number
-    (FirstPart generalized.spells P.ThisUpdate
-    (FirstPart generalized.spells P.NextUpdate
-    (FirstPart (this_oid sha256).spells P.HashAlgorithm IsListWrong)))
+    FirstPart serial_number P.Number
+    (FirstPart generalized P.ThisUpdate
+    (FirstPart generalized P.NextUpdate
+    (FirstPart (this_oid sha256) P.HashAlgorithm IsListWrong)))
 
 -- ---- a manifest
 
@@ -97,11 +103,15 @@ pub record IsManifestAt (s : List ℕ) (v : ManifestView) (xs : List ListedFile)
   pub order : AreInOrder v.this_update v.next_update
 
 -- all of s is to be such a manifest: the SEQUENCE around all; then the fields; then that the times are in order
-pub data IsManifestWrong (s : List ℕ) (q : ManifestPart) : Type 0 where
-  NoManifest : SpellsNothing (SpellsContents sequence true) s → q ≡ P.Manifest → IsManifestWrong s q
-  InFields : (c : List ℕ) → SpellsContents sequence true c s → AreFieldsWrong c q → IsManifestWrong s q
+pub data IsManifestError (s : List ℕ) (q : Malformed ManifestPart) : Type 0 where
+  InParts : WholePart P.Manifest AreFieldsWrong s q → IsManifestError s q
   OutOfOrder : (x : ManifestParts) → view_manifest.spells (fields_of x) s
-      → (AreInOrder x.this_update x.next_update → ⊥) → q ≡ P.Order → IsManifestWrong s q
+      → (AreInOrder x.this_update x.next_update → ⊥) → q.part ≡ P.Order
+      → IsContentWith (codes "next update not after this update") q.error → IsManifestError s q
+
+-- this part is wrong, whatever the error
+abbrev pub IsManifestWrong : List ℕ → ManifestPart → Type 0
+IsManifestWrong s part = (e : DecodeError) × IsManifestError s (malformed part e)
 
 -- ---- what is decoded of octets that were read in place
 

@@ -1,10 +1,11 @@
 -- Route origin attestations that are read in place, as a function of their octets: what is found, or the leftmost
--- malformed part. The parts are those of Roa.antt.
+-- malformed part, and why. The parts are those of Roa.antt.
 use Rattle.std.specs.Prelude.{◌≡◌, ◌&&◌, ◌-◌, ◌*◌, ◌^◌, ℕ, Bool, true, List, [], ◌∷◌, length, Option, None, Some}
 use Rattle.std.specs.Prelude.{Result, Ok, Err, if◌then◌else◌, nat_eq, nat_le}
 use Rattle.std.specs.Str.{bytes_eq}
 use Rattle.rpki_der.specs.Prelude.{Accepts, Bits, Refuses, bit_string, integer, octet_string, sequence}
-use Rattle.rpki_parse.specs.Words.{Parser, bind, named}
+use Rattle.rpki_parse.specs.Words.{Parser, bind}
+use Rattle.rpki_parse.specs.Parts.{at_part}
 use Rattle.rpki_parse.specs.Value.{ended, value_at}
 use Rattle.rpki_parse.specs.Leaf.{below_in, bits_in, decided, leaf_at, some_if}
 use Rattle.rpki_parse.specs.Optional.{optional_at}
@@ -67,13 +68,23 @@ family_at s =
     bind (value_at sequence true s) (λ c.
     bind (leaf_at octet_string family_in c.0) (λ f.
     bind (value_at sequence true f.1) (λ a.
-    bind (ended a.1) (λ _.
-    bind (count_at (width f.0) a.0) (λ n. Ok ((f.0, listed a.0 n), c.1))))))
+    bind (count_at (width f.0) a.0) (λ n.
+    bind (ended a.1) (λ _. Ok ((f.0, listed a.0 n), c.1))))))
+
+-- one at least
+abbrev pub some_at : {V : Type 0} → Parser V → Parser V
+some_at p [] = Err 5
+some_at p (x ∷ xs) = p (x ∷ xs)
 
 -- one more, where something remains
 abbrev pub one_more : {V : Type 0} → Parser V → Parser (Option V)
 one_more p [] = Ok (None, [])
 one_more p (x ∷ xs) = bind (p (x ∷ xs)) (λ v. Ok (Some v.0, v.1))
+
+-- no more than that
+abbrev pub no_more : List ℕ → Result (Unit {0}) ℕ
+no_more [] = Ok tt
+no_more (x ∷ xs) = Err 5
 
 abbrev pub in_order : Bool → AddressFamily × Listed → Option (AddressFamily × Listed) → Option (Listed × Listed)
 in_order strict x None = Some (alone (listed [] 0) x)
@@ -83,9 +94,9 @@ in_order strict x (Some y) = together strict x y
 unfoldable pub blocks_at : Bool → Parser (Listed × Listed)
 blocks_at strict s =
     bind (value_at sequence true s) (λ c.
-    bind (family_at c.0) (λ x.
+    bind (some_at family_at c.0) (λ x.
     bind (one_more family_at x.1) (λ y.
-    bind (ended y.1) (λ _. decided (in_order strict x.0 y.0) c.1))))
+    bind (no_more y.1) (λ _. decided (in_order strict x.0 y.0) c.1))))
 
 abbrev pub family_of : FamilyView → AddressFamily × Listed
 family_of v = (v.family, listed v.addresses.now v.count)
@@ -104,18 +115,17 @@ pub record FoundRoa : Type 0 where
 abbrev pub found : ℕ → Listed × Listed → FoundRoa
 found n x = record { as_id = n; v4 = x.0; v6 = x.1 }
 
-abbrev pub found_of : Result RoaView RoaPart → Result FoundRoa RoaPart
-found_of (Ok v) = Ok (found v.as_id (listed v.v4.now v.v4_count, listed v.v6.now v.v6_count))
-found_of (Err q) = Err q
+abbrev pub found_roa : RoaView → FoundRoa
+found_roa v = found v.as_id (listed v.v4.now v.v4_count, listed v.v6.now v.v6_count)
 
 -- RouteOriginAttestation: all of s. Strictly, IP version 4 is in front of IP version 6.
-abbrev pub route_origin : Bool → List ℕ → Result FoundRoa RoaPart
+abbrev pub route_origin : Bool → List ℕ → Result FoundRoa (RoaPart × ℕ)
 route_origin strict s =
-    bind (named P.Attestation (value_at sequence true s)) (λ c.
-    bind (named P.Attestation (ended c.1)) (λ _.
-    bind (named P.AsId (number_at c.0)) (λ n.
-    bind (named P.AddressBlocks (blocks_at strict n.1)) (λ x.
-    bind (named P.AddressBlocks (ended x.1)) (λ _. Ok (found n.0 x.0))))))
+    bind (at_part P.Attestation (value_at sequence true s)) (λ c.
+    bind (at_part P.Attestation (ended c.1)) (λ _.
+    bind (at_part P.AsId (number_at c.0)) (λ n.
+    bind (at_part P.AddressBlocks (blocks_at strict n.1)) (λ x.
+    bind (at_part P.AddressBlocks (ended x.1)) (λ _. Ok (found n.0 x.0))))))
 
 -- the octets are these prefixes, and as many
 pub record AreListed (w : ℕ) (xs : List RoaIpAddress) (x : Listed) : Type 0 where

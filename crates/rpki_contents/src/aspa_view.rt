@@ -2,14 +2,16 @@
 
 ghost use Rattle.std.specs.Prelude.{◌≡◌, ◌<◌, IfSome, length};
 ghost use Rattle.rpki_der.specs.Prelude.{left};
+ghost use Rattle.rpki_parse.specs.Parts.{told};
 ghost use Rattle.rpki_parse.specs.Words.{Moves, kinds, parsed};
-ghost use Rattle.rpki_contents.specs.AspaView.{attestation, found_of, is_above, members, number_at, provider_at};
+ghost use Rattle.rpki_contents.specs.AspaView.{attestation, found_aspa, is_above, members, number_at, provider_at};
 ghost use Rattle.rpki_contents.specs.AspaView.{given_at, providers_at, version_at};
 
 use crate::short_form::short_number;
 use rpki_der::{Class, Constructed, DecodeError, Tag};
 use rpki_parse::{
-    Step, at, finish, fold, skip_u8_if, take_constructed_if, take_sequence, take_u32,
+    Malformed, Step, at_part, finish, fold, skip_u8_if, take_constructed_if, take_sequence,
+    take_u32,
 };
 
 /// The malformed part of an attestation.
@@ -135,15 +137,15 @@ fn count_providers(contents: Constructed<'_>, customer: u32) -> Result<usize, De
 }
 
 /// The parts, which are the whole rest.
-fn read_parts<'a>(contents: Constructed<'a>) -> Result<AspaView<'a>, AspaPart>
-    ensures { found_of result ≡ members (left contents.entry) }
+fn read_parts<'a>(contents: Constructed<'a>) -> Result<AspaView<'a>, Malformed<AspaPart>>
+    ensures { told found_aspa result ≡ members (left contents.entry) }
 {
     let mut rest = contents;
-    at(AspaPart::Version, take_version(&mut rest))?;
-    let customer = at(AspaPart::Customer, take_u32(&mut rest))?;
-    let listed = at(AspaPart::Providers, take_sequence(&mut rest))?;
-    at(AspaPart::Providers, finish(rest))?;
-    let count = at(AspaPart::Providers, count_providers(listed, customer))?;
+    at_part(AspaPart::Version, take_version(&mut rest))?;
+    let customer = at_part(AspaPart::Customer, take_u32(&mut rest))?;
+    let listed = at_part(AspaPart::Providers, take_sequence(&mut rest))?;
+    let count = at_part(AspaPart::Providers, count_providers(listed, customer))?;
+    at_part(AspaPart::Providers, finish(rest))?;
     Ok(AspaView {
         customer,
         providers: listed.rest(),
@@ -155,13 +157,15 @@ impl<'a> AspaView<'a> {
     /// An attestation, and nothing else, as [AsProviderAttestation::decode](crate::AsProviderAttestation::decode) reads
     /// it. Allocates nothing.
     ///
-    /// The error is the leftmost malformed part.
-    pub fn read(octets: &'a [u8]) -> Result<AspaView<'a>, AspaPart>
-        ensures { found_of result ≡ attestation octets.entry.now }
+    /// The error is of the leftmost malformed part: the leftmost error there, as a reader of that part returns it. It
+    /// is `Content` for another version, for no providers, and for one that isn't above the one before it, or is the
+    /// customer.
+    pub fn read(octets: &'a [u8]) -> Result<AspaView<'a>, Malformed<AspaPart>>
+        ensures { told found_aspa result ≡ attestation octets.entry.now }
     {
         let mut rest = Constructed::from_slice(octets);
-        let contents = at(AspaPart::Attestation, take_sequence(&mut rest))?;
-        at(AspaPart::Attestation, finish(rest))?;
+        let contents = at_part(AspaPart::Attestation, take_sequence(&mut rest))?;
+        at_part(AspaPart::Attestation, finish(rest))?;
         read_parts(contents)
     }
 

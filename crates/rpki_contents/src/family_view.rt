@@ -2,11 +2,11 @@
 
 ghost use Rattle.std.specs.Prelude.{◌≡◌, []};
 ghost use Rattle.rpki_der.specs.Prelude.{left, octet_string, optional_of};
-ghost use Rattle.rpki_parse.specs.Words.{parsed};
+ghost use Rattle.rpki_parse.specs.Words.{kinds, parsed};
 ghost use Rattle.rpki_parse.specs.Leaf.{leaf_at};
 ghost use Rattle.rpki_contents.specs.Roa.{alone, together};
 ghost use Rattle.rpki_contents.specs.RoaView.{blocks_at, both_of, family_at, family_in, family_of, in_order};
-ghost use Rattle.rpki_contents.specs.RoaView.{listed, one_more};
+ghost use Rattle.rpki_contents.specs.RoaView.{listed, no_more, one_more, some_at};
 
 use crate::addresses::count_prefixes;
 use rpki_der::{Constructed, DecodeError};
@@ -72,8 +72,8 @@ fn take_family_view<'a>(cons: &mut Constructed<'a>) -> Result<FamilyView<'a>, De
     let mut contents = take_sequence(&mut after)?;
     let family = take_name(&mut contents)?;
     let listed = take_sequence(&mut contents)?;
-    finish(contents)?;
     let count = count_prefixes(listed, family)?;
+    finish(contents)?;
     *cons = after;
     Ok(FamilyView {
         family,
@@ -82,7 +82,19 @@ fn take_family_view<'a>(cons: &mut Constructed<'a>) -> Result<FamilyView<'a>, De
     })
 }
 
-/// The same, where something remains.
+/// The first family: there is one at least.
+#[inline(always)]
+fn take_first_family<'a>(cons: &mut Constructed<'a>) -> Result<FamilyView<'a>, DecodeError>
+    ensures { parsed family_of result (left cons.new) ≡ some_at family_at (left cons.old) }
+{
+    if cons.is_empty() {
+        return Err(DecodeError::content("invalid address families"));
+    }
+    let found = take_family_view(cons)?;
+    Ok(found)
+}
+
+/// One more family, where something remains.
 #[inline(always)]
 fn take_opt_family<'a>(cons: &mut Constructed<'a>) -> Result<Option<FamilyView<'a>>, DecodeError>
     ensures { parsed (optional_of family_of) result (left cons.new) ≡ one_more family_at (left cons.old) }
@@ -92,6 +104,17 @@ fn take_opt_family<'a>(cons: &mut Constructed<'a>) -> Result<Option<FamilyView<'
     }
     let found = take_family_view(cons)?;
     Ok(Some(found))
+}
+
+/// Returns Ok if nothing remains, as after two families.
+#[inline(always)]
+fn no_more(contents: Constructed<'_>) -> Result<(), DecodeError>
+    ensures { kinds result ≡ no_more (left contents.entry) }
+{
+    if contents.is_empty() {
+        return Ok(());
+    }
+    Err(DecodeError::content("invalid address families"))
 }
 
 /// The prefixes of the one family that there is.
@@ -169,9 +192,9 @@ pub(crate) fn take_blocks<'a>(
 {
     let mut after = *cons;
     let mut families = take_sequence(&mut after)?;
-    let first = take_family_view(&mut families)?;
+    let first = take_first_family(&mut families)?;
     let second = take_opt_family(&mut families)?;
-    finish(families)?;
+    no_more(families)?;
     match in_order(strict, first, second) {
         Some(both) => {
             *cons = after;

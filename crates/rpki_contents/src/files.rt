@@ -1,14 +1,13 @@
 //! The files that a manifest lists, in sequence, in place (RFC 9286 4.2.1).
 
-ghost use Rattle.std.specs.Prelude.{IfSome, IfNone};
-ghost use Rattle.rpki_der.specs.Prelude.{Refuses};
-ghost use Rattle.rpki_contents.specs.FilesInPlace.{CountsFiles};
+ghost use Rattle.std.specs.Prelude.{IfSome, IfOk, IfErr};
+ghost use Rattle.rpki_contents.specs.FilesInPlace.{CountsFiles, IsNoFile};
 ghost use Rattle.rpki_contents.specs.InPlace.{Follows};
 ghost use Rattle.rpki_contents.specs.ListedFile.{file};
 
 use crate::file_name::is_file_name;
 use crate::file_view::FileView;
-use rpki::der::Constructed;
+use rpki::der::{Constructed, DecodeError};
 use rpki_x509::short_value;
 
 /// What follows the file at the front, where its header and that of its name are two octets each.
@@ -36,45 +35,47 @@ fn after_short_file(octets: &[u8]) -> Option<&[u8]>
     }
 }
 
-/// What follows the file at the front; None where there is none.
+/// What follows the file at the front.
 #[inline(always)]
-fn after_file(octets: &[u8]) -> Option<&[u8]>
-    ensures some { IfSome result (λ r. Follows file.spells octets.now r.now) }
-    ensures none { IfNone result (Refuses file.spells octets.now) }
+fn after_file(octets: &[u8]) -> Result<&[u8], DecodeError>
+    ensures ok { IfOk result (λ r. Follows file.spells octets.now r.now) }
+    ensures err { IfErr result (λ e. IsNoFile octets.now e) }
 {
     match after_short_file(octets) {
-        Some(rest) => Some(rest),
+        Some(rest) => Ok(rest),
         None => after_any_file(octets),
     }
 }
 
 /// The same, however the file is written.
 #[inline(never)]
-fn after_any_file(octets: &[u8]) -> Option<&[u8]>
-    ensures some { IfSome result (λ r. Follows file.spells octets.now r.now) }
-    ensures none { IfNone result (Refuses file.spells octets.now) }
+fn after_any_file(octets: &[u8]) -> Result<&[u8], DecodeError>
+    ensures ok { IfOk result (λ r. Follows file.spells octets.now r.now) }
+    ensures err { IfErr result (λ e. IsNoFile octets.now e) }
 {
     let mut rest = Constructed::from_slice(octets);
     match FileView::take_from(&mut rest) {
-        Ok(_) => Some(rest.rest()),
-        Err(_) => None,
+        Ok(_) => Ok(rest.rest()),
+        Err(e) => Err(e),
     }
 }
 
-/// How many files the octets are; None where they aren't.
-pub(crate) fn count_files(octets: &[u8]) -> Option<usize>
+/// How many files the octets are.
+///
+/// The error is that of the first that isn't there.
+pub(crate) fn count_files(octets: &[u8]) -> Result<usize, DecodeError>
     ensures { CountsFiles octets.now result }
 {
     let mut rest = octets;
     let mut count = 0;
     'files: while !rest.is_empty() {
         match after_file(rest) {
-            Some(following) => {
+            Ok(following) => {
                 rest = following;
                 count += 1;
             }
-            None => return None,
+            Err(e) => return Err(e),
         }
     }
-    Some(count)
+    Ok(count)
 }

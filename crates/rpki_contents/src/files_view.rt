@@ -1,15 +1,14 @@
 //! The files of a manifest in place: octets that were read once, and a cursor over the files in them.
 
-ghost use Rattle.std.specs.Prelude.{◌≡◌, ◌↔◌, ◌≤◌, ◌<◌, IsTrue, IfSome, IfNone, List, length};
-ghost use Rattle.rpki_der.specs.Prelude.{SpellsNothing};
+ghost use Rattle.std.specs.Prelude.{◌≡◌, ◌↔◌, ◌≤◌, ◌<◌, IsTrue, IfSome, IfOk, IfErr, List, length};
 ghost use Rattle.rpki_contents.specs.ListedFile.{ListedFile, AreDistinct};
-ghost use Rattle.rpki_contents.specs.FilesInPlace.{AreFiles, HoldFiles};
+ghost use Rattle.rpki_contents.specs.FilesInPlace.{AreFiles, AreNoFiles, HoldFiles};
 ghost use Rattle.rpki_contents.specs.ManifestView.{GivesFile};
 
 use crate::file_view::FileView;
 use crate::files::count_files;
 use crate::names::differ;
-use rpki::der::Constructed;
+use rpki::der::{Constructed, DecodeError};
 use std::marker::Model;
 
 /// Files that a manifest lists, in place: octets that were read, and how many files they are.
@@ -51,14 +50,16 @@ impl<'a> Model for FileCursor<'a> {
 }
 
 impl<'a> FilesView<'a> {
-    /// The files that these octets are; None where they aren't.
-    pub(crate) fn of(octets: &'a [u8]) -> Option<FilesView<'a>>
-        ensures some { IfSome result (λ v. (v.octets ≡ octets.now) × (xs : List ListedFile) × HoldFiles v xs) }
-        ensures none { IfNone result (SpellsNothing AreFiles octets.now) }
+    /// The files that these octets are.
+    ///
+    /// The error is that of the first that isn't there.
+    pub(crate) fn of(octets: &'a [u8]) -> Result<FilesView<'a>, DecodeError>
+        ensures ok { IfOk result (λ v. (v.octets ≡ octets.now) × (xs : List ListedFile) × HoldFiles v xs) }
+        ensures err { IfErr result (λ e. AreNoFiles octets.now e) }
     {
         match count_files(octets) {
-            Some(count) => Some(FilesView { octets, count }),
-            None => None,
+            Ok(count) => Ok(FilesView { octets, count }),
+            Err(e) => Err(e),
         }
     }
 

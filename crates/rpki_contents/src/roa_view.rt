@@ -2,14 +2,15 @@
 
 ghost use Rattle.std.specs.Prelude.{◌≡◌, ◌<◌, IfSome, length};
 ghost use Rattle.rpki_der.specs.Prelude.{left};
+ghost use Rattle.rpki_parse.specs.Parts.{told};
 ghost use Rattle.rpki_resources.specs.Address.{width};
 ghost use Rattle.rpki_resources.specs.declared.family.AddressFamily.TheVariants.{Ipv4, Ipv6};
-ghost use Rattle.rpki_contents.specs.RoaView.{Gives, found_of, route_origin};
+ghost use Rattle.rpki_contents.specs.RoaView.{Gives, found_roa, route_origin};
 
 use crate::family_view::take_blocks;
 use crate::roa_address::RoaIpAddress;
 use rpki_der::Constructed;
-use rpki_parse::{at, finish, take_sequence, take_u32};
+use rpki_parse::{Malformed, at_part, finish, take_sequence, take_u32};
 use rpki_resources::AddressFamily;
 
 /// The malformed part of an attestation.
@@ -51,16 +52,18 @@ impl<'a> RoaView<'a> {
     /// An attestation, and nothing else, as
     /// [RouteOriginAttestation::decode](crate::RouteOriginAttestation::decode) reads it. Allocates nothing.
     ///
-    /// The error is the leftmost malformed part.
-    pub fn read(octets: &'a [u8], strict: bool) -> Result<RoaView<'a>, RoaPart>
-        ensures { found_of result ≡ route_origin strict octets.entry.now }
+    /// The error is of the leftmost malformed part: the leftmost error there, as a reader of that part returns it. It
+    /// is `Content` for a list of no families, for a third family, for a family that is there twice, and, where it is
+    /// `strict`, for IP version 6 in front.
+    pub fn read(octets: &'a [u8], strict: bool) -> Result<RoaView<'a>, Malformed<RoaPart>>
+        ensures { told found_roa result ≡ route_origin strict octets.entry.now }
     {
         let mut rest = Constructed::from_slice(octets);
-        let mut parts = at(RoaPart::Attestation, take_sequence(&mut rest))?;
-        at(RoaPart::Attestation, finish(rest))?;
-        let as_id = at(RoaPart::AsId, take_u32(&mut parts))?;
-        let both = at(RoaPart::AddressBlocks, take_blocks(&mut parts, strict))?;
-        at(RoaPart::AddressBlocks, finish(parts))?;
+        let mut parts = at_part(RoaPart::Attestation, take_sequence(&mut rest))?;
+        at_part(RoaPart::Attestation, finish(rest))?;
+        let as_id = at_part(RoaPart::AsId, take_u32(&mut parts))?;
+        let both = at_part(RoaPart::AddressBlocks, take_blocks(&mut parts, strict))?;
+        at_part(RoaPart::AddressBlocks, finish(parts))?;
         Ok(RoaView {
             as_id,
             v4: both.v4,

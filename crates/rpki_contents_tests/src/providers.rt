@@ -7,7 +7,7 @@ use crate::encoding::{are_written_as, sequence_of};
 use rpki_contents::{AsProviderAttestation, AspaPart, AspaView};
 use rpki_der::Constructed;
 use rpki_der_tests::hexadecimal::octets_of;
-use rpki_der_tests::kinds::{Outcome, outcome_of};
+use rpki_der_tests::kinds::{Outcome, outcome_of, refused};
 use rpki_der_tests::rows;
 use rpki_resources::{Block, Blocks};
 use std::alloc::{AllocError, Global};
@@ -108,7 +108,7 @@ fn is_rejected(alloc: Global, octets: &[u8], expected: Outcome) -> bool {
         outcome => outcome == expected && left == octets.len(),
     };
     stays
-        && AspaView::read(octets).is_err()
+        && wrong_in(octets).is_some_and(|(_, outcome)| outcome == expected)
         && outcome_of(AsProviderAttestation::decode(alloc, octets)) == expected
 }
 
@@ -150,37 +150,38 @@ fn customers_within_resources(rt: HostRuntime) -> Result<(), Fail> {
     Ok(())
 }
 
-/// A name, the octets, and the malformed part.
-const PARTS: &[(&str, &str, AspaPart)] = &rows! {
-    ("no SEQUENCE", "0500", AspaPart::Attestation),
-    ("something behind it", "300da00302010102010130030201020500", AspaPart::Attestation),
-    ("no octets", "", AspaPart::Attestation),
-    ("no version", "30080201013003020102", AspaPart::Version),
-    ("version 0", "300da0030201000201013003020102", AspaPart::Version),
-    ("no customer", "3005a003020101", AspaPart::Customer),
-    ("a customer of 2^32", "3011a003020101020501000000003003020102", AspaPart::Customer),
-    ("no list", "3008a003020101020101", AspaPart::Providers),
-    ("no providers", "300aa0030201010201013000", AspaPart::Providers),
-    ("the customer is its provider", "300da0030201010201013003020101", AspaPart::Providers),
-    ("providers in descending order", "3010a0030201010201013006020103020102", AspaPart::Providers),
-    ("the last provider is cut short", "300fa00302010102010130050201020202", AspaPart::Providers),
-    ("something behind the list", "300fa00302010102010130030201020500", AspaPart::Providers),
-    ("version 2 and the customer its provider", "300da0030201020201013003020101", AspaPart::Version),
+/// A name, the octets, the malformed part, and what is wrong with it.
+const PARTS: &[(&str, &str, AspaPart, Outcome)] = &rows! {
+    ("no SEQUENCE", "0500", AspaPart::Attestation, Outcome::Unexpected),
+    ("something behind it", "300da00302010102010130030201020500", AspaPart::Attestation, Outcome::Trailing),
+    ("no octets", "", AspaPart::Attestation, Outcome::Truncated),
+    ("no version", "30080201013003020102", AspaPart::Version, Outcome::Unexpected),
+    ("version 0", "300da0030201000201013003020102", AspaPart::Version, Outcome::Content),
+    ("no customer", "3005a003020101", AspaPart::Customer, Outcome::Truncated),
+    ("a customer of 2^32", "3011a003020101020501000000003003020102", AspaPart::Customer, Outcome::Content),
+    ("no list", "3008a003020101020101", AspaPart::Providers, Outcome::Truncated),
+    ("no providers", "300aa0030201010201013000", AspaPart::Providers, Outcome::Content),
+    ("the customer is its provider", "300da0030201010201013003020101", AspaPart::Providers, Outcome::Content),
+    ("providers in descending order", "3010a0030201010201013006020103020102", AspaPart::Providers, Outcome::Content),
+    ("the last provider is cut short", "300fa00302010102010130050201020202", AspaPart::Providers, Outcome::Truncated),
+    ("something behind the list", "300fa00302010102010130030201020500", AspaPart::Providers, Outcome::Trailing),
+    ("version 2 and the customer its provider", "300da0030201020201013003020101", AspaPart::Version, Outcome::Content),
 };
 
-/// Whether this part of the octets is said to be wrong.
-fn is_wrong_in(octets: &[u8], expected: AspaPart) -> bool {
+/// The part of the octets that is said to be wrong, and what is wrong with it.
+fn wrong_in(octets: &[u8]) -> Option<(AspaPart, Outcome)> {
     match AspaView::read(octets) {
-        Ok(_) => false,
-        Err(part) => part == expected,
+        Ok(_) => None,
+        Err(wrong) => Some((wrong.part, refused(&wrong.error))),
     }
 }
 
 #[test]
 fn wrong_parts(rt: HostRuntime) -> Result<(), Fail> {
-    for (name, text, expected) in PARTS {
+    for (name, text, part, outcome) in PARTS {
         let octets = octets_of(rt.alloc(), text)?;
-        assert!(rt; is_wrong_in(octets.as_slice(), *expected), "{name}");
+        let seen = wrong_in(octets.as_slice());
+        assert_eq!(rt; seen, Some((*part, *outcome)), "{name}");
     }
     Ok(())
 }

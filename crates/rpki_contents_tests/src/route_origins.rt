@@ -10,7 +10,7 @@ use crate::encoding::are_written_as;
 use rpki_contents::{AddressCursor, RoaIpAddress, RoaPart, RoaView, RouteOriginAttestation};
 use rpki_der::Constructed;
 use rpki_der_tests::hexadecimal::octets_of;
-use rpki_der_tests::kinds::{Outcome, outcome_of};
+use rpki_der_tests::kinds::{Outcome, outcome_of, refused};
 use rpki_der_tests::rows;
 use rpki_resources::{Address, Block, Blocks};
 use std::alloc::{AllocError, Global};
@@ -94,7 +94,7 @@ fn is_rejected(alloc: Global, octets: &[u8], strict: bool, expected: Outcome) ->
         outcome => outcome == expected && left == octets.len(),
     };
     stays
-        && RoaView::read(octets, strict).is_err()
+        && wrong_in(octets, strict).is_some_and(|(_, outcome)| outcome == expected)
         && outcome_of(RouteOriginAttestation::decode(alloc, octets, strict)) == expected
 }
 
@@ -140,39 +140,42 @@ fn prefixes_as_they_are_kept(rt: HostRuntime) -> Result<(), Fail> {
     Ok(())
 }
 
-/// A name, the octets, and the malformed part strictly.
-const PARTS: &[(&str, &str, RoaPart)] = &rows! {
-    ("no octets", "", RoaPart::Attestation),
-    ("a SET", "3113020101300e300c04020001300630040302000a", RoaPart::Attestation),
-    ("something behind it", "3013020101300e300c04020001300630040302000a0500", RoaPart::Attestation),
-    ("an empty SEQUENCE", "3000", RoaPart::AsId),
-    ("version 0", "3018a003020100020101300e300c04020001300630040302000a", RoaPart::AsId),
-    ("an AS number of 2^32", "301702050100000000300e300c04020001300630040302000a", RoaPart::AsId),
-    ("no families", "3003020101", RoaPart::AddressBlocks),
-    ("an empty list of families", "30050201013000", RoaPart::AddressBlocks),
+/// A name, the octets, the malformed part strictly, and what is wrong with it.
+const PARTS: &[(&str, &str, RoaPart, Outcome)] = &rows! {
+    ("no octets", "", RoaPart::Attestation, Outcome::Truncated),
+    ("a SET", "3113020101300e300c04020001300630040302000a", RoaPart::Attestation, Outcome::Unexpected),
+    ("something behind it", "3013020101300e300c04020001300630040302000a0500", RoaPart::Attestation, Outcome::Trailing),
+    ("an empty SEQUENCE", "3000", RoaPart::AsId, Outcome::Truncated),
+    ("version 0", "3018a003020100020101300e300c04020001300630040302000a", RoaPart::AsId, Outcome::Unexpected),
+    ("an AS number of 2^32", "301702050100000000300e300c04020001300630040302000a", RoaPart::AsId, Outcome::Content),
+    ("no families", "3003020101", RoaPart::AddressBlocks, Outcome::Truncated),
+    ("an empty list of families", "30050201013000", RoaPart::AddressBlocks, Outcome::Content),
     ("three families",
      "3032020101302d300c04020001300630040302000a300f040200023009300703050020010db8300c04020001300630040302000a",
-     RoaPart::AddressBlocks),
-    ("a maximum length of 33", "30160201013011300f04020001300930070302000a020121", RoaPart::AddressBlocks),
-    ("something behind the families", "3015020101300e300c04020001300630040302000a0500", RoaPart::AddressBlocks),
+     RoaPart::AddressBlocks, Outcome::Content),
+    ("a maximum length of 33", "30160201013011300f04020001300930070302000a020121", RoaPart::AddressBlocks,
+     Outcome::Content),
+    ("something behind the families", "3015020101300e300c04020001300630040302000a0500", RoaPart::AddressBlocks,
+     Outcome::Trailing),
     ("IP version 6 first", "3024020101301f300f040200023009300703050020010db8300c04020001300630040302000a",
-     RoaPart::AddressBlocks),
-    ("an AS number of -1 and no families", "30050201ff3000", RoaPart::AsId),
+     RoaPart::AddressBlocks, Outcome::Content),
+    ("an AS number of -1 and no families", "30050201ff3000", RoaPart::AsId, Outcome::Content),
 };
 
-/// Whether this part of the octets is said to be wrong.
-fn is_wrong_in(octets: &[u8], expected: RoaPart) -> bool {
-    match RoaView::read(octets, true) {
-        Ok(_) => false,
-        Err(part) => part == expected,
+/// The part of the octets that is said to be wrong, and what is wrong with it.
+fn wrong_in(octets: &[u8], strict: bool) -> Option<(RoaPart, Outcome)> {
+    match RoaView::read(octets, strict) {
+        Ok(_) => None,
+        Err(wrong) => Some((wrong.part, refused(&wrong.error))),
     }
 }
 
 #[test]
 fn wrong_parts(rt: HostRuntime) -> Result<(), Fail> {
-    for (name, text, expected) in PARTS {
+    for (name, text, part, outcome) in PARTS {
         let octets = octets_of(rt.alloc(), text)?;
-        assert!(rt; is_wrong_in(octets.as_slice(), *expected), "{name}");
+        let seen = wrong_in(octets.as_slice(), true);
+        assert_eq!(rt; seen, Some((*part, *outcome)), "{name}");
     }
     Ok(())
 }

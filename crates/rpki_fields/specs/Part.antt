@@ -4,7 +4,9 @@ use Rattle.std.specs.Prelude.{◌≡◌, ◌⊎◌, ℕ, false, List, Option, So
 use Rattle.rpki_cert.specs.declared.read.view.CertView.{CertView}
 use Rattle.rpki_cert.specs.Cert.{CertParts}
 use Rattle.rpki_cert.specs.View.{IsCertAt, IsCertWrong}
+use Rattle.rpki_contents.specs.declared.aspa_view.AspaPart.{AspaPart}
 use Rattle.rpki_contents.specs.declared.manifest_view.ManifestView.{ManifestView}
+use Rattle.rpki_contents.specs.declared.roa_view.RoaPart.{RoaPart}
 use Rattle.rpki_contents.specs.AspaView.{FoundAspa, attestation}
 use Rattle.rpki_contents.specs.ListedFile.{ListedFile}
 use Rattle.rpki_contents.specs.ManifestView.{IsManifestAt, IsManifestWrong}
@@ -45,21 +47,19 @@ ReadsList octets = (v : CrlView) × (x : CrlParts) × IsCrlAt octets v x
 abbrev pub ReadsManifest : List ℕ → Type 0
 ReadsManifest octets = (v : ManifestView) × (xs : List ListedFile) × IsManifestAt octets v xs
 
-abbrev pub ReadsOrigins : List ℕ → Type 0
-ReadsOrigins octets = (x : FoundRoa) × (route_origin false octets ≡ Ok x)
-
-abbrev pub ReadsProviders : List ℕ → Type 0
-ReadsProviders octets = (x : FoundAspa) × (attestation octets ≡ Ok x)
-
 -- the contents of signed objects
 abbrev pub IsFilesPart : List ℕ → Option Part → Type 0
 IsFilesPart = IsPart ReadsManifest IsManifestWrong P.Manifest
 
 abbrev pub IsOriginsPart : List ℕ → Option Part → Type 0
-IsOriginsPart = IsPart ReadsOrigins (λ octets q. route_origin false octets ≡ Err q) P.Origins
+IsOriginsPart octets o =
+    ((q : RoaPart) × (e : ℕ) × (route_origin false octets ≡ Err (q, e)) × (o ≡ Some (P.Origins q)))
+    ⊎ ((x : FoundRoa) × (route_origin false octets ≡ Ok x) × (o ≡ None))
 
 abbrev pub IsProvidersPart : List ℕ → Option Part → Type 0
-IsProvidersPart = IsPart ReadsProviders (λ octets q. attestation octets ≡ Err q) P.Providers
+IsProvidersPart octets o =
+    ((q : AspaPart) × (e : ℕ) × (attestation octets ≡ Err (q, e)) × (o ≡ Some (P.Providers q)))
+    ⊎ ((x : FoundAspa) × (attestation octets ≡ Ok x) × (o ≡ None))
 
 -- of a checklist that is read: its resources, where one kind of them isn't there
 abbrev pub IsResourcesPart : FoundChecklist → Option Part → Type 0

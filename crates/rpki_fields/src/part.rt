@@ -61,7 +61,7 @@ fn files_part(octets: &[u8]) -> Option<Part>
 {
     match ManifestView::read(octets) {
         Ok(_) => None,
-        Err(part) => Some(Part::Manifest(part)),
+        Err(wrong) => Some(Part::Manifest(wrong.part)),
     }
 }
 
@@ -71,7 +71,7 @@ fn origins_part(octets: &[u8]) -> Option<Part>
 {
     match RoaView::read(octets, false) {
         Ok(_) => None,
-        Err(part) => Some(Part::Origins(part)),
+        Err(wrong) => Some(Part::Origins(wrong.part)),
     }
 }
 
@@ -81,7 +81,7 @@ fn providers_part(octets: &[u8]) -> Option<Part>
 {
     match AspaView::read(octets) {
         Ok(_) => None,
-        Err(part) => Some(Part::Providers(part)),
+        Err(wrong) => Some(Part::Providers(wrong.part)),
     }
 }
 
@@ -131,7 +131,7 @@ fn files_place(octets: &[u8]) -> Option<Part>
 {
     match SignedObjectView::read(octets, false) {
         Ok(object) => files_part(object.content.content.octets),
-        Err(part) => Some(Part::Object(part)),
+        Err(wrong) => Some(Part::Object(wrong.part)),
     }
 }
 
@@ -141,7 +141,7 @@ fn origins_place(octets: &[u8]) -> Option<Part>
 {
     match SignedObjectView::read(octets, false) {
         Ok(object) => origins_part(object.content.content.octets),
-        Err(part) => Some(Part::Object(part)),
+        Err(wrong) => Some(Part::Object(wrong.part)),
     }
 }
 
@@ -151,7 +151,7 @@ fn providers_place(octets: &[u8]) -> Option<Part>
 {
     match SignedObjectView::read(octets, false) {
         Ok(object) => providers_part(object.content.content.octets),
-        Err(part) => Some(Part::Object(part)),
+        Err(wrong) => Some(Part::Object(wrong.part)),
     }
 }
 
@@ -161,7 +161,7 @@ fn checklist_place(octets: &[u8]) -> Option<Part>
 {
     match SignedObjectView::read(octets, false) {
         Ok(object) => checklist_part(object.content.content.octets),
-        Err(part) => Some(Part::Object(part)),
+        Err(wrong) => Some(Part::Object(wrong.part)),
     }
 }
 
@@ -171,7 +171,7 @@ fn anchor_keys_place(octets: &[u8]) -> Option<Part>
 {
     match SignedObjectView::read(octets, false) {
         Ok(object) => anchor_keys_part(object.content.content.octets),
-        Err(part) => Some(Part::Object(part)),
+        Err(wrong) => Some(Part::Object(wrong.part)),
     }
 }
 
@@ -181,7 +181,7 @@ fn card_place(octets: &[u8]) -> Option<Part>
 {
     match SignedObjectView::read(octets, false) {
         Ok(object) => card_part(object.content.content.octets),
-        Err(part) => Some(Part::Object(part)),
+        Err(wrong) => Some(Part::Object(wrong.part)),
     }
 }
 
@@ -191,7 +191,7 @@ fn other_place(octets: &[u8]) -> Option<Part>
 {
     match SignedObjectView::read(octets, false) {
         Ok(_) => None,
-        Err(part) => Some(Part::Object(part)),
+        Err(wrong) => Some(Part::Object(wrong.part)),
     }
 }
 

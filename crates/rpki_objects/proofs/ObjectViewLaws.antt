@@ -9,6 +9,7 @@ use Rattle.rpki_der.specs.Values.{SpellsContents}
 use Rattle.rpki_der.specs.LeafFormats.{any_oid, this_number, this_oid}
 use Rattle.rpki.specs.AlgorithmFault.{cms, digest, digest_set}
 use Rattle.rpki_der.specs.Section.{IsSection}
+use Rattle.rpki_parse.specs.declared.malformed.Malformed.{Malformed}
 use Rattle.rpki_objects.specs.declared.object_part.ObjectPart.{ObjectPart}
 use Rattle.rpki_objects.specs.declared.content_view.ContentView.{ContentView}
 use Rattle.rpki_attributes.specs.declared.signed_attrs_view.SignedAttrsView.{SignedAttrsView}
@@ -37,7 +38,7 @@ pair x t o e f = ap (λ (q : List ℕ). (q, x.1)) e ∙ ap (λ (q : List ℕ). (
 pub content-taken : (s c r t m o : List ℕ) (v : ContentView) → Accepts (SpellsContents sequence true) s c r
     → Accepts any_oid.spells c t m → explicit_content.spells o m × ((w : List ℕ) → explicit_content.spells w m → w ≡ o)
     → v.content_type.octets.now ≡ t → v.content_type.following ≡ length m + length r → v.content.octets.now ≡ o
-    → v.content.following ≡ length r → TakesContent s r (Some v)
+    → v.content.following ≡ length r → TakesContent s r (Ok v)
 content-taken s c r t m o v a b k type after is last = (
   record { content_type = t; content = o },
   record {
@@ -121,13 +122,14 @@ IsSignersAt strict s v =
     (x : SignerParts) × (h : (signer_infos strict).spells (signer_fields_of x) s)
     × IsSignerAt strict x h.spelled.contents h.spelled.spelled v
 
-pub signers-handed : (strict : Bool) (s c d : List ℕ) (x : Result SignerView ObjectPart) → SpellsContents set true c s
-    → SpellsContents sequence true d c → IfOk x (IsSignerIn strict d) → IfOk x (IsSignersAt strict s)
+pub signers-handed : (strict : Bool) (s c d : List ℕ) (x : Result SignerView (Malformed ObjectPart))
+    → SpellsContents set true c s → SpellsContents sequence true d c → IfOk x (IsSignerIn strict d)
+    → IfOk x (IsSignersAt strict s)
 signers-handed strict s c d (Ok v) h k l =
     (l.0, record { contents = c; value = h; spelled = record { contents = d; value = k; spelled = l.1 } }, l.2)
 signers-handed strict s c d (Err q) h k l = l
 
-pub signers-handed-wrong : (strict : Bool) (s c d : List ℕ) (x : Result SignerView ObjectPart)
+pub signers-handed-wrong : (strict : Bool) (s c d : List ℕ) (x : Result SignerView (Malformed ObjectPart))
     → SpellsContents set true c s × ((e : List ℕ) → SpellsContents set true e s → e ≡ c)
     → SpellsContents sequence true d c × ((e : List ℕ) → SpellsContents sequence true e c → e ≡ d)
     → IfErr x (λ q. AreSignerFieldsWrong strict d q) → IfErr x (λ q. AreSignersWrong strict s q)
@@ -137,14 +139,14 @@ signers-handed-wrong strict s c d (Err q) h k l = Inside c h.0 h.1 (Inside d k.0
 -- ---- the signed data
 
 -- what is wrong with the certificate is wrong with what it begins
-pub cert-wrong : (L : List ℕ → ObjectPart → Type 0) (s : List ℕ) (q : ObjectPart) → IsFirstCertWrong NoneFollows s q
-    → IsFirstCertWrong L s q
-cert-wrong L s q (NoSet none is) = NoSet none is
+pub cert-wrong : (L : List ℕ → Malformed ObjectPart → Type 0) (s : List ℕ) (q : Malformed ObjectPart)
+    → IsFirstCertWrong NoneFollows s q → IsFirstCertWrong L s q
+cert-wrong L s q (NoSet none k is) = NoSet none k is
 cert-wrong L s q (NoCert c r p a wrong many is) = NoCert c r p a wrong many is
 cert-wrong L s q (BehindCert c r x a k none) = absurd none
 
 pub data-read : (strict : Bool) (s m n o p : List ℕ) (v : SignedObjectView) → Accepts (this_number 3).spells s tt m
-    → Accepts digest_set.spells m tt n → TakesContent n o (Some v.content) → TakesCertificate o p (Ok v.cert)
+    → Accepts digest_set.spells m tt n → TakesContent n o (Ok v.content) → TakesCertificate o p (Ok v.cert)
     → IsSignersAt strict p v.signer → IsDataIn strict s v
 data-read strict s m n o p v version digests content cert signer = (
   record { content = content.0; cert = cert.1; signer = signer.0 },
@@ -185,7 +187,7 @@ IsObjectIn strict s v = (x : ObjectParts) × IsObjectAt strict s v x
 module _ (strict : Bool) (s c m d e : List ℕ) (outer : SpellsContents sequence true c s)
     (type : Accepts (this_oid signed_data_type).spells c tt m) (explicit : SpellsContents zero_tag true d m)
     (fields : SpellsContents sequence true e d) where
-  pub object-handed : (x : Result SignedObjectView ObjectPart) → IfOk x (IsDataIn strict e)
+  pub object-handed : (x : Result SignedObjectView (Malformed ObjectPart)) → IfOk x (IsDataIn strict e)
       → IfOk x (IsObjectIn strict s)
   object-handed (Ok v) k = (
     k.0,

@@ -1,5 +1,5 @@
 -- What is wrong with octets that are no signed object.
-use Rattle.std.proofs.Common.{◌≡◌, ◌<◌, ℕ, Bool, true, false, List, length, Result, Ok, Err, inl, inr, refl, subst}
+use Rattle.std.proofs.Common.{◌≡◌, ◌≢◌, ◌<◌, ℕ, Bool, true, false, List, length, Result, Ok, Err, inl, inr, refl, subst}
 use Rattle.std.specs.Prelude.{IfErr}
 use Rattle.rpki_der.specs.declared.error.DecodeError.{DecodeError}
 use Rattle.rpki_der.specs.declared.error.DecodeError.TheVariants.{OutOfMemory}
@@ -10,9 +10,12 @@ use Rattle.rpki_der.specs.Reading.{Spells, Accepts, Refuses, Refusal, SpellsNoth
 use Rattle.rpki_der.specs.Values.{SpellsContents, SpellsLeaf}
 use Rattle.rpki_der.specs.Parts.{Then}
 use Rattle.rpki_der.specs.FirstFault.{IsEndFault}
-use Rattle.rpki_der.specs.Format.{only}
+use Rattle.rpki_der.specs.Format.{Format, only}
 use Rattle.rpki_der.specs.LeafFormats.{any_oid, this_number, this_oid}
-use Rattle.rpki_der.proofs.LeavesLaws.{leaf-no-memory, contents-no-memory}
+use Rattle.rpki_der.proofs.InsideLaws.{unless-memory}
+use Rattle.rpki_der.proofs.LeavesLaws.{leaf-no-memory}
+use Rattle.rpki_parse.specs.declared.malformed.Malformed.{Malformed}
+use Rattle.rpki_parse.specs.Parts.{malformed}
 use Rattle.rpki_der.proofs.FirstFaultLaws.{inside-no-memory, first-no-memory, end-no-memory}
 use Rattle.rpki.specs.Oids.{sha256}
 use Rattle.rpki.specs.KeyIdentifier.{IsKeyIdentifier}
@@ -31,85 +34,93 @@ use Rattle.rpki_objects.specs.SignedObject.{signed_data, explicit_data, object_f
 use Rattle.rpki_objects.specs.SignedObject.{ObjectParts, object_fields_of}
 use Rattle.rpki_objects.specs.SignedObjectView.{FirstWrong, WrongWithin, LastWrong, IsFirstCertWrong}
 use Rattle.rpki_objects.specs.SignedObjectView.{AreSignerFieldsWrong, AreSignersWrong, AreDataFieldsWrong}
-use Rattle.rpki_objects.specs.SignedObjectView.{IsObjectWrong}
+use Rattle.rpki_objects.specs.SignedObjectView.{IsObjectError}
 use Rattle.rpki_objects.specs.SignedObjectView.FirstWrong.{AtPart, Later}
 use Rattle.rpki_objects.specs.SignedObjectView.WrongWithin.{Outside, Inside}
 use Rattle.rpki_objects.specs.SignedObjectView.IsFirstCertWrong.{NoSet, NoCert, BehindCert}
 use Rattle.rpki_x509.proofs.InPlaceLaws.{refused, front-of}
 
--- ---- readers that take no memory
-
-pub number-refused : (n : ℕ) (s r : List ℕ) (e : DecodeError)
-    → Refusal (this_number n).spells (this_number n).fault s r e → Refuses (this_number n).spells s
-number-refused n s r e =
-    refused (this_number n).spells (this_number n).fault s r e
-    (λ k. leaf-no-memory integer false (IsNumber n) s OutOfMemory k refl)
-
-pub type-refused : (s r : List ℕ) (e : DecodeError)
-    → Refusal (this_oid signed_data_type).spells (this_oid signed_data_type).fault s r e
-    → Refuses (this_oid signed_data_type).spells s
-type-refused s r e =
-    refused (this_oid signed_data_type).spells (this_oid signed_data_type).fault s r e
-    (λ k. leaf-no-memory oid false (IsOnly signed_data_type) s OutOfMemory k refl)
+-- ---- no memory
 
 pub oid-refused : (s r : List ℕ) (e : DecodeError) → Refusal any_oid.spells any_oid.fault s r e
     → Refuses any_oid.spells s
 oid-refused s r e =
     refused any_oid.spells any_oid.fault s r e (λ k. leaf-no-memory oid false IsOidOf s OutOfMemory k refl)
 
-pub identifier-refused : (s r : List ℕ) (e : DecodeError)
-    → Refusal signer_identifier.spells signer_identifier.fault s r e → Refuses signer_identifier.spells s
-identifier-refused s r e =
-    refused signer_identifier.spells signer_identifier.fault s r e
-    (λ k. leaf-no-memory zero_tag false IsKeyIdentifier s OutOfMemory k refl)
-
 digest-never : (s : List ℕ) → digest.fault s OutOfMemory → ⊥
 digest-never s =
     inside-no-memory sequence true (identified sha256).fault s
     (λ c. named-never sha256 parameters.fault c parameters-never)
 
-pub digest-refused : (s r : List ℕ) (e : DecodeError) → Refusal digest.spells digest.fault s r e
-    → Refuses digest.spells s
-digest-refused s r e = refused digest.spells digest.fault s r e (digest-never s)
-
-pub digests-refused : (s r : List ℕ) (e : DecodeError) → Refusal digest_set.spells digest_set.fault s r e
-    → Refuses digest_set.spells s
-digests-refused s r e =
-    refused digest_set.spells digest_set.fault s r e
-    (inside-no-memory set true (only digest).fault s
-    (λ c. first-no-memory digest.spells digest.fault (λ v. IsEndFault) c (digest-never c) (λ v q. end-no-memory q)))
-
 cms-rest-never : (x r : List ℕ) → IsCmsRestFault x r OutOfMemory → ⊥
 cms-rest-never x r (inl h) = parameters-never r h.1
 cms-rest-never x r (inr h) = h.1
 
-pub cms-refused : (s r : List ℕ) (e : DecodeError) → Refusal cms.spells cms.fault s r e → Refuses cms.spells s
-cms-refused s r e =
-    refused cms.spells cms.fault s r e
-    (inside-no-memory sequence true cms_parts.fault s
-    (λ c. first-no-memory any_oid.spells any_oid.fault IsCmsRestFault c
-    (λ k. leaf-no-memory oid false IsOidOf c OutOfMemory k refl) cms-rest-never))
+-- ---- readers that take no memory
+
+module _ {V : Type 0} (F : Format V) (part : ObjectPart) {L : List ℕ → Malformed ObjectPart → Type 0} where
+  -- what is wrong is that no value of F begins s, and the error says why
+  wrong-at : (s r : List ℕ) (e : DecodeError) → (F.fault s OutOfMemory → ⊥) → Refusal F.spells F.fault s r e
+      → FirstWrong F part L s (malformed part e)
+  wrong-at s r e never h =
+      let other : e ≢ OutOfMemory = λ z. never (subst (F.fault s) z h.kind) in
+      AtPart (unless-memory e other h.refuses) (record { other = other; kind = h.kind }) refl
+
+-- such an error of a reader of F makes this part wrong, and L is not asked
+abbrev pub WrongAt : {V : Type 0} → Format V → ObjectPart → (List ℕ → Malformed ObjectPart → Type 0) → List ℕ → List ℕ
+    → DecodeError → Type 0
+WrongAt F part L s r e = Refusal F.spells F.fault s r e → FirstWrong F part L s (malformed part e)
+
+module _ (part : ObjectPart) {L : List ℕ → Malformed ObjectPart → Type 0} (s r : List ℕ) (e : DecodeError) where
+  pub number-wrong : (n : ℕ) → WrongAt (this_number n) part L s r e
+  number-wrong n =
+      wrong-at (this_number n) part s r e (λ k. leaf-no-memory integer false (IsNumber n) s OutOfMemory k refl)
+
+  pub type-wrong : WrongAt (this_oid signed_data_type) part L s r e
+  type-wrong =
+      wrong-at (this_oid signed_data_type) part s r e
+      (λ k. leaf-no-memory oid false (IsOnly signed_data_type) s OutOfMemory k refl)
+
+  pub identifier-wrong : WrongAt signer_identifier part L s r e
+  identifier-wrong =
+      wrong-at signer_identifier part s r e (λ k. leaf-no-memory zero_tag false IsKeyIdentifier s OutOfMemory k refl)
+
+  pub digest-wrong : WrongAt digest part L s r e
+  digest-wrong = wrong-at digest part s r e (digest-never s)
+
+  pub digests-wrong : WrongAt digest_set part L s r e
+  digests-wrong =
+      wrong-at digest_set part s r e
+      (inside-no-memory set true (only digest).fault s
+      (λ c. first-no-memory digest.spells digest.fault (λ v. IsEndFault) c (digest-never c) (λ v q. end-no-memory q)))
+
+  pub cms-wrong : WrongAt cms part L s r e
+  cms-wrong =
+      wrong-at cms part s r e
+      (inside-no-memory sequence true cms_parts.fault s
+      (λ c. first-no-memory any_oid.spells any_oid.fault IsCmsRestFault c
+      (λ k. leaf-no-memory oid false IsOidOf c OutOfMemory k refl) cms-rest-never))
 
 -- ---- where something is wrong, nothing is spelled
 
 -- where L says it of s, s spells nothing of G
-abbrev Refutes : {V : Type 0} → (List ℕ → ObjectPart → Type 0) → (V → List ℕ → Type 0) → Type 0
-Refutes L G = (s : List ℕ) (q : ObjectPart) → L s q → SpellsNothing G s
+abbrev Refutes : {V : Type 0} → (List ℕ → Malformed ObjectPart → Type 0) → (V → List ℕ → Type 0) → Type 0
+Refutes L G = (s : List ℕ) (q : Malformed ObjectPart) → L s q → SpellsNothing G s
 
-last-wrong : {V : Type 0} (G : V → List ℕ → Type 0) (part : ObjectPart) → Refutes (LastWrong G part) G
-last-wrong G part s q h = h.0
+last-wrong : {V : Type 0} (F : Format V) (part : ObjectPart) → Refutes (LastWrong F part) F.spells
+last-wrong F part s q h = h.0
 
-within : {V : Type 0} (t : TagName) (part : ObjectPart) {L : List ℕ → ObjectPart → Type 0} (C : V → List ℕ → Type 0)
-    → Refutes L C → Refutes (WrongWithin t part L) (SpellsLeaf t true C)
-within t part C inner s q (Outside none is) v h = none h.contents h.value
+within : {V : Type 0} (t : TagName) (part : ObjectPart) {L : List ℕ → Malformed ObjectPart → Type 0}
+    (C : V → List ℕ → Type 0) → Refutes L C → Refutes (WrongWithin t part L) (SpellsLeaf t true C)
+within t part C inner s q (Outside none e is) v h = none h.contents h.value
 within t part C inner s q (Inside c value one k) v h =
     inner c q k v (subst (C v) (one h.contents h.value) h.spelled)
 
-behind : {A B : Type 0} (G : A → List ℕ → Type 0) (part : ObjectPart) {L : List ℕ → ObjectPart → Type 0}
-    (H : B → List ℕ → Type 0) → Refutes L H → Refutes (FirstWrong G part L) (Then G H)
-behind G part H later s q (AtPart none is) x h = none x.0 h.second (front-of G H s x h)
-behind G part H later s q (Later v r a k) x h =
-    later r q k x.1 (subst (H x.1) (a.only x.0 h.second (front-of G H s x h)).1 h.two)
+behind : {A B : Type 0} (F : Format A) (part : ObjectPart) {L : List ℕ → Malformed ObjectPart → Type 0}
+    (H : B → List ℕ → Type 0) → Refutes L H → Refutes (FirstWrong F part L) (Then F.spells H)
+behind F part H later s q (AtPart none e is) x h = none x.0 h.second (front-of F.spells H s x h)
+behind F part H later s q (Later v r a k) x h =
+    later r q k x.1 (subst (H x.1) (a.only x.0 h.second (front-of F.spells H s x h)).1 h.two)
 
 module _ (strict : Bool) where
   abbrev Algorithm : Bool × List ℕ → List ℕ → Type 0
@@ -126,11 +137,11 @@ module _ (strict : Bool) where
 
   fields-wrong : Refutes (AreSignerFieldsWrong strict) (signer_fields strict).spells
   fields-wrong =
-      behind (this_number 3).spells P.SignerVersion Identifier
-      (behind signer_identifier.spells P.SignerIdentifier Digest
-      (behind digest.spells P.SignerDigestAlgorithm Attributes
-      (behind (signed_attributes strict).spells P.SignedAttrs Algorithm
-      (behind cms.spells P.SignatureAlgorithm kept_octets.spells (last-wrong kept_octets.spells P.Signature)))))
+      behind (this_number 3) P.SignerVersion Identifier
+      (behind signer_identifier P.SignerIdentifier Digest
+      (behind digest P.SignerDigestAlgorithm Attributes
+      (behind (signed_attributes strict) P.SignedAttrs Algorithm
+      (behind cms P.SignatureAlgorithm kept_octets.spells (last-wrong kept_octets P.Signature)))))
 
   signers-wrong : Refutes (AreSignersWrong strict) (signer_infos strict).spells
   signers-wrong =
@@ -140,32 +151,33 @@ module _ (strict : Bool) where
 -- ---- the signed data: but for a certificate of more extensions than are compared
 
 -- where L says it of s, what s spells of G has so many
-abbrev Exceeds : {V : Type 0} → (List ℕ → ObjectPart → Type 0) → (V → List ℕ → Type 0) → (V → CertParts) → Type 0
+abbrev Exceeds : {V : Type 0} → (List ℕ → Malformed ObjectPart → Type 0) → (V → List ℕ → Type 0) → (V → CertParts)
+    → Type 0
 Exceeds {V} L G cert =
-    (s : List ℕ) (q : ObjectPart) → L s q → (v : V) → G v s → most_extensions < length (cert v).tbs.extensions
+    (s : List ℕ) (q : Malformed ObjectPart) → L s q → (v : V) → G v s → most_extensions < length (cert v).tbs.extensions
 
-within-more : {V : Type 0} (t : TagName) (part : ObjectPart) {L : List ℕ → ObjectPart → Type 0}
+within-more : {V : Type 0} (t : TagName) (part : ObjectPart) {L : List ℕ → Malformed ObjectPart → Type 0}
     (C : V → List ℕ → Type 0) (cert : V → CertParts) → Exceeds L C cert
     → Exceeds (WrongWithin t part L) (SpellsLeaf t true C) cert
-within-more t part C cert inner s q (Outside none is) v h = absurd (none h.contents h.value)
+within-more t part C cert inner s q (Outside none e is) v h = absurd (none h.contents h.value)
 within-more t part C cert inner s q (Inside c value one k) v h =
     inner c q k v (subst (C v) (one h.contents h.value) h.spelled)
 
-behind-more : {A B : Type 0} (G : A → List ℕ → Type 0) (part : ObjectPart) {L : List ℕ → ObjectPart → Type 0}
+behind-more : {A B : Type 0} (F : Format A) (part : ObjectPart) {L : List ℕ → Malformed ObjectPart → Type 0}
     (H : B → List ℕ → Type 0) (cert : B → CertParts) → Exceeds L H cert
-    → Exceeds (FirstWrong G part L) (Then G H) (λ x. cert x.1)
-behind-more G part H cert later s q (AtPart none is) x h = absurd (none x.0 h.second (front-of G H s x h))
-behind-more G part H cert later s q (Later v r a k) x h =
-    later r q k x.1 (subst (H x.1) (a.only x.0 h.second (front-of G H s x h)).1 h.two)
+    → Exceeds (FirstWrong F part L) (Then F.spells H) (λ x. cert x.1)
+behind-more F part H cert later s q (AtPart none e is) x h = absurd (none x.0 h.second (front-of F.spells H s x h))
+behind-more F part H cert later s q (Later v r a k) x h =
+    later r q k x.1 (subst (H x.1) (a.only x.0 h.second (front-of F.spells H s x h)).1 h.two)
 
 -- the contents of the SET of the certificate
 cert-in : {B : Type 0} (H : B → List ℕ → Type 0) (s : List ℕ) (x : CertParts × B) (h : Then certificates.spells H x s)
     → Spells (SpellsContents zero_tag true) s h.one.contents h.second
 cert-in H s x h = record { front = h.first; parts = h.parts; spelled = h.one.value }
 
-cert-more : {B : Type 0} {L : List ℕ → ObjectPart → Type 0} (H : B → List ℕ → Type 0) → Refutes L H
+cert-more : {B : Type 0} {L : List ℕ → Malformed ObjectPart → Type 0} (H : B → List ℕ → Type 0) → Refutes L H
     → Exceeds (IsFirstCertWrong L) (Then certificates.spells H) (λ x. x.0)
-cert-more H later s q (NoSet none is) x h = absurd (none h.one.contents h.second (cert-in H s x h))
+cert-more H later s q (NoSet none e is) x h = absurd (none h.one.contents h.second (cert-in H s x h))
 cert-more H later s q (NoCert c r p a wrong many is) x h =
     many x.0 (subst (SpellsCert x.0) (a.only h.one.contents h.second (cert-in H s x h)).0 h.one.spelled)
 cert-more H later s q (BehindCert c r y a z k) x h =
@@ -186,9 +198,9 @@ module _ (strict : Bool) where
 
   data-more : Exceeds (AreDataFieldsWrong strict) (data_fields strict).spells (λ x. x.1.1.1.0)
   data-more =
-      behind-more (this_number 3).spells P.Version Digests (λ x. x.1.1.0)
-      (behind-more digest_set.spells P.DigestAlgorithms Content (λ x. x.1.0)
-      (behind-more encapsulated.spells P.Content Certs (λ x. x.0) (cert-more Signers (signers-wrong strict))))
+      behind-more (this_number 3) P.Version Digests (λ x. x.1.1.0)
+      (behind-more digest_set P.DigestAlgorithms Content (λ x. x.1.0)
+      (behind-more encapsulated P.Content Certs (λ x. x.0) (cert-more Signers (signers-wrong strict))))
 
   explicit-more : Exceeds (WrongWithin zero_tag P.SignedData (WrongWithin sequence P.SignedData
       (AreDataFieldsWrong strict))) (explicit_data strict).spells (λ x. x.1.1.1.0)
@@ -196,11 +208,11 @@ module _ (strict : Bool) where
       within-more zero_tag P.SignedData (signed_data strict).spells (λ x. x.1.1.1.0)
       (within-more sequence P.SignedData (data_fields strict).spells (λ x. x.1.1.1.0) data-more)
 
-  pub object-more : (s : List ℕ) (q : ObjectPart) → IsObjectWrong strict s q → (x : ObjectParts)
+  pub object-more : (s : List ℕ) (q : Malformed ObjectPart) → IsObjectError strict s q → (x : ObjectParts)
       → (signed_object strict).spells (object_fields_of x) s → most_extensions < length x.cert.tbs.extensions
   object-more s q h x k =
       within-more sequence P.Object (object_fields strict).spells (λ y. y.1.1.1.1.0)
-      (behind-more (this_oid signed_data_type).spells P.ObjectType (explicit_data strict).spells (λ y. y.1.1.1.0)
+      (behind-more (this_oid signed_data_type) P.ObjectType (explicit_data strict).spells (λ y. y.1.1.1.0)
       explicit-more) s q h (object_fields_of x) k
 
 -- ---- the reader of the fields, whose result is handed on
@@ -209,21 +221,23 @@ module _ (strict : Bool) (s c m d : List ℕ)
     (outer : SpellsContents sequence true c s × ((w : List ℕ) → SpellsContents sequence true w s → w ≡ c))
     (type : Accepts (this_oid signed_data_type).spells c tt m)
     (explicit : SpellsContents zero_tag true d m × ((w : List ℕ) → SpellsContents zero_tag true w m → w ≡ d)) where
-  abbrev pub IsWrong : ObjectPart → Type 0
-  IsWrong q = IsObjectWrong strict s q
+  abbrev pub IsWrong : Malformed ObjectPart → Type 0
+  IsWrong q = IsObjectError strict s q
 
   -- what is wrong in the SEQUENCE of signed data
-  pub within-data : (q : ObjectPart) → WrongWithin sequence P.SignedData (AreDataFieldsWrong strict) d q → IsWrong q
+  pub within-data : (q : Malformed ObjectPart) → WrongWithin sequence P.SignedData (AreDataFieldsWrong strict) d q
+      → IsWrong q
   within-data q h = Inside c outer.0 outer.1 (Later tt m type (Inside d explicit.0 explicit.1 h))
 
   module _ (e : List ℕ)
       (fields : SpellsContents sequence true e d × ((w : List ℕ) → SpellsContents sequence true w d → w ≡ e)) where
-    pub handed-wrong : (x : Result SignedObjectView ObjectPart) → IfErr x (λ q. AreDataFieldsWrong strict e q)
-        → IfErr x IsWrong
+    pub handed-wrong : (x : Result SignedObjectView (Malformed ObjectPart))
+        → IfErr x (λ q. AreDataFieldsWrong strict e q) → IfErr x IsWrong
     handed-wrong (Ok v) k = k
     handed-wrong (Err q) k = within-data q (Inside e fields.0 fields.1 k)
 
-    pub handed-more : (x : Result SignedObjectView ObjectPart) → IfErr x (λ q. AreDataFieldsWrong strict e q)
+    pub handed-more : (x : Result SignedObjectView (Malformed ObjectPart))
+        → IfErr x (λ q. AreDataFieldsWrong strict e q)
         → IfErr x (λ q. (y : ObjectParts) → (signed_object strict).spells (object_fields_of y) s
         → most_extensions < length y.cert.tbs.extensions)
     handed-more (Ok v) k = k

@@ -4,7 +4,7 @@ ghost use Rattle.std.specs.Prelude.{IfOk, IfErr};
 ghost use Rattle.rpki_der.specs.Prelude.{left};
 ghost use Rattle.rpki_objects.specs.SignedObject.{ObjectParts};
 ghost use Rattle.rpki_objects.specs.SignedObjectView.{TakesCertificate, IsDataIn, AreDataFieldsWrong, IsObjectAt};
-ghost use Rattle.rpki_objects.specs.SignedObjectView.{IsObjectWrong, HasManyExtensions};
+ghost use Rattle.rpki_objects.specs.SignedObjectView.{IsObjectError, HasManyExtensions};
 
 use crate::content_view::ContentView;
 use crate::object_part::ObjectPart;
@@ -13,6 +13,7 @@ use rpki::crypto::DigestAlgorithm;
 use rpki::der::{Class, Constructed, Section, Tag};
 use rpki::oid;
 use rpki_cert::CertView;
+use rpki_parse::Malformed;
 use rpki_x509::inside;
 
 /// The certificate of a signer.
@@ -36,12 +37,17 @@ pub struct SignedObjectView<'a> {
 }
 
 /// The one certificate, under the implicit tag 0.
-fn take_certificate<'a>(cons: &mut Constructed<'a>) -> Result<SignerCertView<'a>, ObjectPart>
+fn take_certificate<'a>(
+    cons: &mut Constructed<'a>,
+) -> Result<SignerCertView<'a>, Malformed<ObjectPart>>
     ensures { TakesCertificate (left cons.old) (left cons.new) result }
 {
     let octets = match cons.take_constructed_if(Tag::new(Class::Context, 0)) {
         Ok(contents) => contents.rest(),
-        Err(_) => return Err(ObjectPart::Certificates),
+        Err(error) => return Err(Malformed {
+            part: ObjectPart::Certificates,
+            error,
+        }),
     };
     match CertView::read(octets) {
         Ok(parts) => Ok(SignerCertView {
@@ -51,7 +57,10 @@ fn take_certificate<'a>(cons: &mut Constructed<'a>) -> Result<SignerCertView<'a>
             },
             parts,
         }),
-        Err(wrong) => Err(ObjectPart::Certificate(wrong.part)),
+        Err(wrong) => Err(Malformed {
+            part: ObjectPart::Certificate(wrong.part),
+            error: wrong.error,
+        }),
     }
 }
 
@@ -59,26 +68,35 @@ fn take_certificate<'a>(cons: &mut Constructed<'a>) -> Result<SignerCertView<'a>
 fn read_fields<'a>(
     contents: Constructed<'a>,
     strict: bool,
-) -> Result<SignedObjectView<'a>, ObjectPart>
+) -> Result<SignedObjectView<'a>, Malformed<ObjectPart>>
     ensures ok { IfOk result (λ v. IsDataIn strict (left contents.entry) v) }
     ensures err { IfErr result (λ q. AreDataFieldsWrong strict (left contents.entry) q) }
 {
     let mut rest = contents;
     match rest.skip_u8_if(3) {
         Ok(()) => {}
-        Err(_) => return Err(ObjectPart::Version),
+        Err(error) => return Err(Malformed {
+            part: ObjectPart::Version,
+            error,
+        }),
     }
     match DigestAlgorithm::skip_set(&mut rest) {
         Ok(()) => {}
-        Err(_) => return Err(ObjectPart::DigestAlgorithms),
+        Err(error) => return Err(Malformed {
+            part: ObjectPart::DigestAlgorithms,
+            error,
+        }),
     }
     let content = match ContentView::take_from(&mut rest) {
-        Some(content) => content,
-        None => return Err(ObjectPart::Content),
+        Ok(content) => content,
+        Err(error) => return Err(Malformed {
+            part: ObjectPart::Content,
+            error,
+        }),
     };
     let cert = match take_certificate(&mut rest) {
         Ok(cert) => cert,
-        Err(part) => return Err(part),
+        Err(wrong) => return Err(wrong),
     };
     match read_signers(rest, strict) {
         Ok(signer) => Ok(SignedObjectView {
@@ -86,7 +104,7 @@ fn read_fields<'a>(
             cert,
             signer,
         }),
-        Err(part) => Err(part),
+        Err(wrong) => Err(wrong),
     }
 }
 
@@ -94,27 +112,43 @@ impl<'a> SignedObjectView<'a> {
     /// A signed object, and nothing else, as [SignedObject::decode](crate::SignedObject::decode) reads it, whose
     /// certificate has at most 64 extensions: see [CertView::read](rpki_cert::CertView::read). Allocates nothing.
     ///
-    /// The error is the malformed part: the leftmost, and of the certificate the one that its reader names.
-    pub fn read(octets: &'a [u8], strict: bool) -> Result<SignedObjectView<'a>, ObjectPart>
+    /// The error is of the malformed part, as a reader of that part returns it: the leftmost, and of the certificate
+    /// the one that its reader names.
+    pub fn read(
+        octets: &'a [u8],
+        strict: bool,
+    ) -> Result<SignedObjectView<'a>, Malformed<ObjectPart>>
         ensures ok { IfOk result (λ v. (x : ObjectParts) × IsObjectAt strict octets.now v x) }
-        ensures err { IfErr result (λ q. IsObjectWrong strict octets.now q) }
+        ensures err { IfErr result (λ q. IsObjectError strict octets.now q) }
         ensures none { IfErr result (λ _. HasManyExtensions strict octets.now) }
     {
         let mut contents = match inside(Constructed::from_slice(octets), Tag::SEQUENCE) {
             Ok(contents) => contents,
-            Err(_) => return Err(ObjectPart::Object),
+            Err(error) => return Err(Malformed {
+                part: ObjectPart::Object,
+                error,
+            }),
         };
         match contents.skip_oid_if(oid::SIGNED_DATA) {
             Ok(()) => {}
-            Err(_) => return Err(ObjectPart::ObjectType),
+            Err(error) => return Err(Malformed {
+                part: ObjectPart::ObjectType,
+                error,
+            }),
         }
         let explicit = match inside(contents, Tag::new(Class::Context, 0)) {
             Ok(explicit) => explicit,
-            Err(_) => return Err(ObjectPart::SignedData),
+            Err(error) => return Err(Malformed {
+                part: ObjectPart::SignedData,
+                error,
+            }),
         };
         match inside(explicit, Tag::SEQUENCE) {
             Ok(fields) => read_fields(fields, strict),
-            Err(_) => Err(ObjectPart::SignedData),
+            Err(error) => Err(Malformed {
+                part: ObjectPart::SignedData,
+                error,
+            }),
         }
     }
 }

@@ -9,7 +9,8 @@ use crate::object_part::ObjectPart;
 use crate::signer_info::take_identifier;
 use rpki::crypto::{DigestAlgorithm, KeyIdentifier, RpkiSignatureAlgorithm};
 use rpki::der::{Constructed, Section, Tag};
-use rpki_attributes::SignedAttrsView;
+use rpki_attributes::{SignedAttrsView, attributes_fault};
+use rpki_parse::Malformed;
 use rpki_x509::inside;
 
 /// A signer.
@@ -26,33 +27,52 @@ pub struct SignerView<'a> {
 }
 
 /// The fields, which are the whole rest.
-fn read_fields<'a>(contents: Constructed<'a>, strict: bool) -> Result<SignerView<'a>, ObjectPart>
+fn read_fields<'a>(
+    contents: Constructed<'a>,
+    strict: bool,
+) -> Result<SignerView<'a>, Malformed<ObjectPart>>
     ensures ok { IfOk result (λ v. IsSignerIn strict (left contents.entry) v) }
     ensures err { IfErr result (λ q. AreSignerFieldsWrong strict (left contents.entry) q) }
 {
     let mut rest = contents;
     match rest.skip_u8_if(3) {
         Ok(()) => {}
-        Err(_) => return Err(ObjectPart::SignerVersion),
+        Err(error) => return Err(Malformed {
+            part: ObjectPart::SignerVersion,
+            error,
+        }),
     }
     let identifier = match take_identifier(&mut rest) {
         Ok(identifier) => identifier,
-        Err(_) => return Err(ObjectPart::SignerIdentifier),
+        Err(error) => return Err(Malformed {
+            part: ObjectPart::SignerIdentifier,
+            error,
+        }),
     };
     match DigestAlgorithm::take_from(&mut rest) {
         Ok(_) => {}
-        Err(_) => return Err(ObjectPart::SignerDigestAlgorithm),
+        Err(error) => return Err(Malformed {
+            part: ObjectPart::SignerDigestAlgorithm,
+            error,
+        }),
     }
+    let attributes = rest;
     let signed_attrs = match SignedAttrsView::take_from(&mut rest, strict) {
-        Some(attributes) => attributes,
-        None => return Err(ObjectPart::SignedAttrs),
+        Some(found) => found,
+        None => return Err(Malformed {
+            part: ObjectPart::SignedAttrs,
+            error: attributes_fault(attributes, strict),
+        }),
     };
     let algorithm = match RpkiSignatureAlgorithm::cms_take_from(&mut rest) {
         Ok(algorithm) => algorithm,
-        Err(_) => return Err(ObjectPart::SignatureAlgorithm),
+        Err(error) => return Err(Malformed {
+            part: ObjectPart::SignatureAlgorithm,
+            error,
+        }),
     };
     match read_octets(rest) {
-        Some(octets) => Ok(SignerView {
+        Ok(octets) => Ok(SignerView {
             identifier,
             signed_attrs,
             algorithm,
@@ -61,7 +81,10 @@ fn read_fields<'a>(contents: Constructed<'a>, strict: bool) -> Result<SignerView
                 following: 0,
             },
         }),
-        None => Err(ObjectPart::Signature),
+        Err(error) => Err(Malformed {
+            part: ObjectPart::Signature,
+            error,
+        }),
     }
 }
 
@@ -69,16 +92,22 @@ fn read_fields<'a>(contents: Constructed<'a>, strict: bool) -> Result<SignerView
 pub(crate) fn read_signers<'a>(
     rest: Constructed<'a>,
     strict: bool,
-) -> Result<SignerView<'a>, ObjectPart>
+) -> Result<SignerView<'a>, Malformed<ObjectPart>>
     ensures ok { IfOk result (λ v. AreSignersAt strict (left rest.entry) v) }
     ensures err { IfErr result (λ q. AreSignersWrong strict (left rest.entry) q) }
 {
     let signers = match inside(rest, Tag::SET) {
         Ok(contents) => contents,
-        Err(_) => return Err(ObjectPart::Signers),
+        Err(error) => return Err(Malformed {
+            part: ObjectPart::Signers,
+            error,
+        }),
     };
     match inside(signers, Tag::SEQUENCE) {
         Ok(contents) => read_fields(contents, strict),
-        Err(_) => Err(ObjectPart::Signer),
+        Err(error) => Err(Malformed {
+            part: ObjectPart::Signer,
+            error,
+        }),
     }
 }

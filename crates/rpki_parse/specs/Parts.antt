@@ -4,6 +4,9 @@ use Rattle.rpki_der.specs.Error.{error_number}
 use Rattle.rpki_der.specs.declared.error.DecodeError.{DecodeError}
 use Rattle.rpki_parse.specs.declared.malformed.Malformed.{Malformed}
 
+abbrev pub malformed : {P : Type 0} → P → DecodeError → Malformed P
+malformed part error = record { part = part; error = error }
+
 -- an error is of this part
 abbrev pub at_part : {A P : Type 0} → P → Result A ℕ → Result A (P × ℕ)
 at_part p (Ok x) = Ok x

@@ -26,11 +26,6 @@ abbrev pub bind : {A B E : Type 0} → Result A E → (A → Result B E) → Res
 bind (Ok x) K = K x
 bind (Err e) K = Err e
 
--- an error is of this part
-abbrev pub named : {A P : Type 0} → P → Result A ℕ → Result A P
-named p (Ok x) = Ok x
-named p (Err e) = Err p
-
 -- each is an octet
 abbrev pub AreBytes : List ℕ → Type 0
 AreBytes s = (i : ℕ) → get_or s i 0 < 256

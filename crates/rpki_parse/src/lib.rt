@@ -13,7 +13,6 @@ mod list;
 mod malformed;
 mod octets;
 mod optional;
-mod part;
 mod text;
 mod value;
 
@@ -24,6 +23,5 @@ pub use leaf::{
 pub use list::{Step, fold};
 pub use malformed::{Malformed, at_part};
 pub use optional::{take_bool_default_false, take_directory_string, take_opt_null};
-pub use part::at;
 pub use text::{take_ia5, take_printable, take_utf8};
 pub use value::{finish, has_tag, take_constructed_if, take_sequence, take_set};

@@ -1,8 +1,9 @@
 /*
  * Reads manifests, route origin attestations and attestations of providers with rpki_manifest, rpki_roa and rpki_aspa,
  * and their entries with rpki_manifest_file, rpki_roa_address and rpki_aspa_provider, asks rpki_manifest_names whether
- * names differ, and compares statuses and what is found with those of rows that rows.py writes. What a call refuses
- * leaves `out` as it was. No call allocates.
+ * names differ, and compares statuses and what is found with those of rows that rows.py writes, and what
+ * rpki_manifest_error, rpki_roa_error and rpki_aspa_error write. What a call refuses leaves `out` as it was. No call
+ * allocates.
  *
  * usage: contents ROWS
  */
@@ -230,12 +231,31 @@ static bool call(const char *word, const struct octets *input, rpki_status *stat
     return true;
 }
 
-/* A row is a word, octets, and the words of what is found, from the status on. */
+/* Asks what is wrong with the octets. Status 0 writes nothing. */
+static bool is_wrong(const char *word, const struct octets *input, unsigned wanted, unsigned error) {
+    rpki_status status, written;
+    memset(&written, FILL, sizeof written);
+    count_allocations(0);
+    if (!strcmp(word, "manifest")) {
+        status = rpki_manifest_error(input->at, input->size, &written);
+    } else if (!strcmp(word, "aspa")) {
+        status = rpki_aspa_error(input->at, input->size, &written);
+    } else {
+        status = rpki_roa_error(input->at, input->size, !strcmp(word, "roa1"), &written);
+    }
+    if (!took_none() || status != wanted) return false;
+    if (status == RPKI_OK) return untouched(&written, sizeof written);
+    if (written != error) printf("error %u, not %u\n", written, error);
+    return written == error;
+}
+
+/* A row is a word, octets, and the words of what is found, from the status on; or the status and the error. */
 static void row(unsigned line, char *text) {
     static struct told told;
     char *digits = strchr(text, ' ') + 1, *words = strchr(digits, ' ');
     struct octets input = octets_spelt(digits);
     rpki_status status = 255;
+    unsigned wanted;
     bool well;
     digits[-1] = 0;
     clean = true;
@@ -243,7 +263,11 @@ static void row(unsigned line, char *text) {
     told.text[0] = 0;
     well = call(text, &input, &status, &told);
     judge(line, "allocates, or writes what it refuses", clean);
-    judge(line, "the status", status == strtoul(words, &words, 10));
+    wanted = (unsigned)strtoul(words, &words, 10);
+    judge(line, "the status", status == wanted);
+    if (!strcmp(text, "manifest") || !strcmp(text, "roa0") || !strcmp(text, "roa1") || !strcmp(text, "aspa")) {
+        judge(line, "the error", is_wrong(text, &input, wanted, (unsigned)strtoul(words, NULL, 10)));
+    }
     judge(line, "the entries", well);
     judge(line, "what is found", status != RPKI_OK || is_told(told.text, words));
     if (!strcmp(text, "address4")) other_families(line, &input);

@@ -1,7 +1,8 @@
 """Writes the rows of manifests, route origin attestations and attestations of providers that the tests in C and in Rust
 read: contents of openssl, variants that use or break one rule each, and contents with octets changed, each with its
 status: the malformed part by RFC 9286, RFC 9582 or the profile of ASPA, which tests/python/judges/contents.py finds.
-Where that is 0 there is what the content says, and where its parts are. Needs openssl.
+Where that is 0 there is what the content says, and where its parts are; where it is a part, the error in it. Needs
+openssl.
 
 usage: rows.py > FILE
 
@@ -232,7 +233,7 @@ def row(word, octets, call, *words):
     try:
         told = [0, *call(*words)]
     except Wrong as wrong:
-        told = [wrong.status]
+        told = list(dict.fromkeys((wrong.status, wrong.error)))
     print(word, octets.hex() or "-", *told)
     return told[0]
 

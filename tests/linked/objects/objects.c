@@ -1,8 +1,8 @@
 /*
  * Reads signed objects with rpki_signed_object, and compares statuses and what is found with those of rows that rows.py
  * writes; a certificate that rpki_certificate refuses has the status that it names. rpki_signed_object_checked says the
- * same, and of the certificate what rpki_certificate_checked says. What a call refuses leaves `out` as it was. They do
- * not allocate.
+ * same, and of the certificate what rpki_certificate_checked says; rpki_signed_object_error says what is wrong. What a
+ * call refuses leaves `out` as it was. They do not allocate.
  *
  * usage: objects ROWS
  */
@@ -26,6 +26,19 @@ static rpki_status read_object(const uint8_t *octets, size_t size, bool strict, 
     *clean = took_none();
     if (status != RPKI_OK) *clean = *clean && untouched(out, sizeof *out);
     return status;
+}
+
+/* Asks what is wrong with the object. Status 0 writes nothing. */
+static bool is_wrong(const uint8_t *octets, size_t size, bool strict, unsigned wanted, unsigned error) {
+    rpki_status status, written;
+    bool clean;
+    memset(&written, FILL, sizeof written);
+    count_allocations(0);
+    status = rpki_signed_object_error(octets, size, strict, &written);
+    clean = took_none();
+    if (status == RPKI_OK) return clean && wanted == RPKI_OK && untouched(&written, sizeof written);
+    if (written != error) printf("error %u, not %u\n", written, error);
+    return clean && status == wanted && written == error;
 }
 
 /* What was found, in the words of the row. */
@@ -104,19 +117,28 @@ static void object(unsigned line, const uint8_t *octets, size_t size, bool stric
     struct rpki_signed_object_parts out;
     struct rpki_certificate_parts certificate;
     size_t start = 0, length = 0;
-    unsigned wanted = (unsigned)strtoul(words, &words, 10);
+    unsigned wanted = (unsigned)strtoul(words, &words, 10), error = 0;
     bool clean;
-    rpki_status status = read_object(octets, size, strict, &out, &clean);
+    rpki_status status = read_object(octets, size, strict, &out, &clean), reason = RPKI_OK;
     judge(line, "allocates, or writes what it refuses", clean);
     judge(line, "with the certificate", checks(octets, size, strict, false, status, &out));
     judge(line, "with the certificate, strict", checks(octets, size, strict, true, status, &out));
-    if (wanted == RPKI_OK) {
+    if (wanted != RPKI_OK) {
+        error = (unsigned)strtoul(words, &words, 10);
+    } else {
         start = strtoul(words, &words, 10);
         length = strtoul(words, &words, 10);
         wanted = rpki_certificate(octets + start, length, &certificate);
+        if (wanted != RPKI_OK) {
+            judge(line, "the certificate's", rpki_certificate_error(octets + start, length, &reason) == wanted);
+            error = reason;
+        } else {
+            wanted = (unsigned)strtoul(words, &words, 10);
+            if (wanted != RPKI_OK) error = (unsigned)strtoul(words, &words, 10);
+        }
     }
-    if (wanted == RPKI_OK) wanted = (unsigned)strtoul(words, &words, 10);
     judge_status(line, "the status", status, wanted);
+    judge(line, "the error", is_wrong(octets, size, strict, wanted, error));
     if (wanted != RPKI_OK || status != RPKI_OK) return;
     tell(octets, size, &out, told);
     if (!is_told(told, words)) printf("%s\nnot %s\n", told, words);
@@ -131,6 +153,7 @@ static void beginnings(const uint8_t *octets, size_t size) {
     for (count = 0; count < size; count++) {
         struct octets copy = new_octets(octets, count, 0);
         well = read_object(copy.at, count, false, &out, &clean) == RPKI_PART_OBJECT && clean && well;
+        well = is_wrong(copy.at, count, false, RPKI_PART_OBJECT, RPKI_TRUNCATED) && well;
         free(copy.at);
     }
     judge(1, "each beginning", well);

@@ -8,8 +8,9 @@ usage: rows.py > FILE
 
 A row is the octets in hexadecimal digits or `-`, whether RFC 9589 is asked for, and the status of what precedes
 the certificate, 0 if that is well; then the place of the certificate, as START LENGTH, and the status of what
-follows it, which is that of the object where rpki_certificate accepts the certificate. Where that is 0 too: the places
-of the content's type, the content, the signed attributes and the signature; the digest and the key identifier; the
+follows it, which is that of the object where rpki_certificate accepts the certificate. After a status that is not 0
+there is the number of the error, which is leftmost in that part by X.690. Where both are 0: the places of the content's
+type, the content, the signed attributes and the signature; the digest and the key identifier; the
 seconds of the signing time and of the binary one, each `-` where it isn't there; whether the type is the one that is
 signed, and whether there are parameters."""
 import os
@@ -24,15 +25,13 @@ from changes import changed
 from judges.objects import front, signer
 from makers import cms
 from makers.objects import made
-from strict import status_of
+from strict import Wrong
 from variants.objects import ACCEPTED, OTHERS, REFUSED
 
 
 def words_after(before, strict):
     """The words of what follows the certificate."""
-    status, found = status_of(signer, before.following, strict)
-    if not found:
-        return [status]
+    found = signer(before.following, strict)
     said = found.said
     words = [0, *before.kind.span(), *before.content.span(), *found.place, *found.signature.span(), said.digest.hex(),
              found.identifier.hex()]
@@ -42,8 +41,13 @@ def words_after(before, strict):
 
 def words_of(octets, strict):
     """The words of a row, from the status of what precedes the certificate on."""
-    status, before = status_of(front, octets)
-    return [0, *before.certificates.span(), *words_after(before, strict)] if before else [status]
+    words = []
+    try:
+        before = front(octets)
+        words = [0, *before.certificates.span()]
+        return words + words_after(before, strict)
+    except Wrong as wrong:
+        return [*words, wrong.status, wrong.error]
 
 
 def row(octets, strict):

@@ -1,6 +1,6 @@
 """The malformed part of a manifest (RFC 9286 4.2), a route origin attestation (RFC 9582 4) or an attestation of
-providers (draft-ietf-sidrops-aspa-profile), as include/rpki.h numbers parts, and what it says, in the words of a row
-of tests/linked/contents/rows.py."""
+providers (draft-ietf-sidrops-aspa-profile), as include/rpki.h numbers parts, with the leftmost error in it, and what it
+says, in the words of a row of tests/linked/contents/rows.py."""
 import re
 from typing import Any, List
 
@@ -46,7 +46,7 @@ def manifest(octets):
     this, following = part(THIS_UPDATE, moment, parts), part(NEXT_UPDATE, moment, parts)
     part(HASH_ALGORITHM, algorithm, parts)
     listed, found = part(FILE_LIST, files, parts)
-    need(this < following, ORDER)
+    part(ORDER, need, this < following)
     return [*listed.span(), len(found), this, following, of_manifest.hex(), *sum(found, [])]
 
 
@@ -79,16 +79,24 @@ def family(octets):
     name = inside.take(4).octets
     need(name in (b"\0\1", b"\0\2"))
     width = 32 if name == b"\0\1" else 128
-    listed = inside.only(0x30)
+    listed = inside.take(0x30)
     need(not listed.is_empty())
-    return width, listed, listed.each(lambda entry: address(entry, width))
+    found = listed.each(lambda entry: address(entry, width))
+    inside.end()
+    return width, listed, found
 
 
 def families(octets, strict):
-    found = octets.only(0x30).each(family)
+    inside = octets.take(0x30)
+    need(not inside.is_empty())
+    found = [family(inside)]
+    if not inside.is_empty():
+        found.append(family(inside))
+    need(inside.is_empty())
     widths = [width for width, *_ in found]
     need(sorted(widths) in ([32], [128], [32, 128]))
     need(not strict or widths == sorted(widths))
+    octets.end()
     return {width: (listed, prefixes) for width, listed, prefixes in found}
 
 
@@ -108,7 +116,9 @@ def roa(octets, strict):
 # ---- attestations of providers
 
 def version(octets):
-    need(octets.take(0xa0).only(2).octets == b"\1")
+    inside = octets.take(0xa0)
+    need(inside.take(2).octets == b"\1")
+    inside.end()
 
 
 def provider(octets):
@@ -117,10 +127,12 @@ def provider(octets):
 
 
 def providers(octets, customer):
-    listed = octets.only(0x30)
-    found = listed.each(provider)
-    numbers = [number for number, _ in found]
-    need(numbers and numbers == sorted(set(numbers)) and customer not in numbers)
+    listed, found = octets.take(0x30), []
+    need(not listed.is_empty())
+    while not listed.is_empty():
+        found.append(provider(listed))
+        need(found[-1][0] != customer and (len(found) < 2 or found[-2][0] < found[-1][0]))
+    octets.end()
     return listed, found
 
 

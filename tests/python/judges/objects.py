@@ -3,12 +3,13 @@ says."""
 from typing import NamedTuple, Optional
 
 from makers.objects import BINARY_TIME, CONTENT_TYPE, MESSAGE_DIGEST, SIGNED_DATA, SIGNING_TIME
-from strict import Octets, identifier, moment, need, number, part
+from strict import CONTENT as MALFORMED
+from strict import Octets, Wrong, identifier, moment, need, number, part
 
 (OBJECT, TYPE, DATA, VERSION, DIGESTS, CONTENT, CERTIFICATES, SIGNERS, SIGNER, SIGNER_VERSION, IDENTIFIER, DIGEST,
  ATTRIBUTES, ALGORITHM, SIGNATURE) = range(123, 138)
-SHA256 = bytes.fromhex("0609608648016503040201")
-RSA = [bytes.fromhex("06092a864886f70d0101") + bytes([last]) for last in (1, 11)]
+SHA256 = bytes.fromhex("608648016503040201")
+RSA = [bytes.fromhex("2a864886f70d0101") + bytes([last]) for last in (1, 11)]
 
 
 class Front(NamedTuple):
@@ -43,11 +44,14 @@ def version(octets):
 
 
 def algorithm(octets, names):
-    """Whether an algorithm identifier, one of these, has parameters."""
-    inside = octets.take(0x30).octets
-    name = next((name for name in names if inside in (name, name + b"\x05\x00")), None)
-    need(name is not None)
-    return inside != name
+    """Whether an algorithm identifier, one of these, has parameters: a NULL."""
+    inside = octets.take(0x30)
+    need(identifier(inside).octets in names)
+    has_parameters = inside.begins_with(5)
+    if has_parameters:
+        need(not inside.take(5).octets)
+    inside.end()
+    return has_parameters
 
 
 def sha256(octets):
@@ -68,8 +72,16 @@ def attribute(octets):
 
 
 def attributes(octets, strict):
-    """The type, the digest and the times that the attributes say, each once (RFC 6488 2.1.6.4, RFC 9589 4)."""
+    """What the attributes say; contents are what is wrong with others than those of a signed object."""
     listed = octets.each(attribute)
+    try:
+        return said(listed, strict)
+    except Wrong:
+        raise Wrong(MALFORMED) from None
+
+
+def said(listed, strict):
+    """The type, the digest and the times that these attributes say, each once (RFC 6488 2.1.6.4, RFC 9589 4)."""
     found = dict(listed)
     known = {CONTENT_TYPE, MESSAGE_DIGEST, SIGNING_TIME, BINARY_TIME}
     need(len(listed) == len(found) and {CONTENT_TYPE, MESSAGE_DIGEST} <= set(found) <= known)
@@ -95,7 +107,9 @@ def digests(octets):
 def content(octets):
     """The type and the content (RFC 5652 5.2)."""
     inside = octets.take(0x30)
-    return identifier(inside), inside.only(0xA0).only(4)
+    kind, found = identifier(inside), inside.take(0xA0).only(4)
+    inside.end()
+    return kind, found
 
 
 def front(octets):

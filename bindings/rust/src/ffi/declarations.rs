@@ -601,6 +601,7 @@ extern "C" {
         strict: bool,
         out: *mut SignedObjectParts,
     ) -> Status;
+    pub(super) fn rpki_signed_object_error(octets: *const u8, size: usize, strict: bool, error: *mut Status) -> Status;
     pub(super) fn rpki_signed_object_checked(
         octets: *const u8,
         size: usize,
@@ -611,6 +612,7 @@ extern "C" {
         extensions: *mut KnownExtensions,
     ) -> Status;
     pub(super) fn rpki_manifest(octets: *const u8, size: usize, out: *mut ManifestParts) -> Status;
+    pub(super) fn rpki_manifest_error(octets: *const u8, size: usize, error: *mut Status) -> Status;
     pub(super) fn rpki_manifest_file(rest: *mut Span, out: *mut ManifestFileParts) -> Status;
     pub(super) fn rpki_manifest_names(
         octets: *const u8,
@@ -620,8 +622,10 @@ extern "C" {
         out: *mut bool,
     ) -> Status;
     pub(super) fn rpki_roa(octets: *const u8, size: usize, strict: bool, out: *mut RoaParts) -> Status;
+    pub(super) fn rpki_roa_error(octets: *const u8, size: usize, strict: bool, error: *mut Status) -> Status;
     pub(super) fn rpki_roa_address(rest: *mut Span, family: u8, out: *mut RoaAddressParts) -> Status;
     pub(super) fn rpki_aspa(octets: *const u8, size: usize, out: *mut AspaParts) -> Status;
+    pub(super) fn rpki_aspa_error(octets: *const u8, size: usize, error: *mut Status) -> Status;
     pub(super) fn rpki_aspa_provider(rest: *mut Span, out: *mut u32) -> Status;
     pub(super) fn rpki_ip_blocks(
         octets: *const u8,

@@ -8,6 +8,7 @@ use crate::repository::resources::Asn;
 use crate::repository::sigobj::SignedObject;
 use crate::repository::x509::Time;
 use crate::resources::SmallAsnSet;
+use crate::view::DecodeError;
 use bytes::Bytes;
 use std::error::Error;
 use std::fmt;
@@ -87,6 +88,13 @@ impl AsProviderAttestation {
         let found = ffi::aspa(&octets).map_err(AspaError::from_status)?;
         let providers = ProviderAsSet { octets: octets.slice(found.providers.range(&octets)), len: found.count };
         Ok(AsProviderAttestation { customer_as: Asn::from_u32(found.customer), provider_as_set: providers })
+    }
+
+    /// Why octets are no attestation: the malformed part, and the leftmost error in it, as a reader of that part returns
+    /// it. None where they are one.
+    pub fn reason(octets: &[u8]) -> Option<(AspaError, DecodeError)> {
+        let (part, error) = ffi::aspa_error(octets).err()?;
+        Some((AspaError::from_status(part), DecodeError::from_status(error)))
     }
 
     /// The customer.

@@ -51,20 +51,6 @@ pub enum CrlError {
 }
 
 impl CrlError {
-    /// Why these octets are no revocation list: the malformed part, and what is wrong with it, as a reader of that part
-    /// returns it. None where they are a list.
-    ///
-    /// ```
-    /// use rpki_proved::repository::crl::CrlError;
-    /// use rpki_proved::view::DecodeError;
-    ///
-    /// assert_eq!(CrlError::find(b"\x30\x00\x30\x00"), Some((CrlError::List, DecodeError::Trailing)));
-    /// ```
-    pub fn find(octets: &[u8]) -> Option<(CrlError, DecodeError)> {
-        let (part, reason) = ffi::crl_error(octets).err()?;
-        Some((CrlError::from_status(part), DecodeError::from_status(reason)))
-    }
-
     fn from_status(status: Status) -> CrlError {
         match status {
             64 => CrlError::List,
@@ -160,6 +146,20 @@ impl Crl {
             serials: None,
             octets,
         })
+    }
+
+    /// Why octets are no list: the malformed part, and the leftmost error in it, as a reader of that part returns it.
+    /// None where they are one.
+    ///
+    /// ```
+    /// use rpki_proved::repository::crl::{Crl, CrlError};
+    /// use rpki_proved::view::DecodeError;
+    ///
+    /// assert_eq!(Crl::reason(b"\x30\x00\x30\x00"), Some((CrlError::List, DecodeError::Trailing)));
+    /// ```
+    pub fn reason(octets: &[u8]) -> Option<(CrlError, DecodeError)> {
+        let (part, error) = ffi::crl_error(octets).err()?;
+        Some((CrlError::from_status(part), DecodeError::from_status(error)))
     }
 
     /// The octets of the list.

@@ -8,6 +8,7 @@ use crate::repository::error::ValidationError;
 use crate::repository::sigobj::{MessageDigest, SignedObject};
 use crate::repository::x509::{Serial, Time, Validity};
 use crate::uri;
+use crate::view::DecodeError;
 use bytes::Bytes;
 use std::error::Error;
 use std::fmt;
@@ -111,6 +112,13 @@ impl ManifestContent {
             return Err(ManifestError::FileTwice);
         }
         Ok(content)
+    }
+
+    /// Why octets are no manifest: the malformed part, and the error in it, as a reader of that part returns it. None
+    /// where each part is well by itself, as where two files have the same name.
+    pub fn reason(octets: &[u8]) -> Option<(ManifestError, DecodeError)> {
+        let (part, error) = ffi::manifest_error(octets).err()?;
+        Some((ManifestError::from_status(part), DecodeError::from_status(error)))
     }
 
     /// The number: a later manifest of the issuer has a higher one.

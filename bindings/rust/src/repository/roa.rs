@@ -8,6 +8,7 @@ use crate::repository::resources::{Addr, AddressFamily, Asn, Prefix};
 use crate::repository::sigobj::SignedObject;
 use crate::repository::x509::Time;
 use crate::resources::{addr, MaxLenPrefix};
+use crate::view::DecodeError;
 use bytes::Bytes;
 use std::error::Error;
 use std::fmt;
@@ -92,6 +93,13 @@ impl RouteOriginAttestation {
             v4_addrs: addresses(AddressFamily::Ipv4, found.v4, found.v4_count),
             v6_addrs: addresses(AddressFamily::Ipv6, found.v6, found.v6_count),
         })
+    }
+
+    /// Why octets are no attestation: the malformed part, and the leftmost error in it, as a reader of that part returns
+    /// it. None where they are one.
+    pub fn reason(octets: &[u8], strict: bool) -> Option<(RoaError, DecodeError)> {
+        let (part, error) = ffi::roa_error(octets, strict).err()?;
+        Some((RoaError::from_status(part), DecodeError::from_status(error)))
     }
 
     /// The AS number that may announce the prefixes.

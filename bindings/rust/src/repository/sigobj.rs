@@ -9,6 +9,7 @@ use crate::oid::Oid;
 use crate::repository::cert::{Cert, CertPart, CertRule, ResourceCert};
 use crate::repository::error::ValidationError;
 use crate::repository::x509::Time;
+use crate::view::DecodeError;
 use bytes::Bytes;
 use std::error::Error;
 use std::fmt;
@@ -289,6 +290,13 @@ impl SignedObject {
             is_type_signed: found.is_type_signed,
             octets,
         })
+    }
+
+    /// Why octets are no object: the malformed part, and the leftmost error in it, as a reader of that part returns it.
+    /// None where they are one. `strict` is as in [SignedObject::decode].
+    pub fn reason(octets: &[u8], strict: bool) -> Option<(SignedObjectError, DecodeError)> {
+        let (part, error) = ffi::signed_object_error(octets, strict).err()?;
+        Some((SignedObjectError::from_status(part), DecodeError::from_status(error)))
     }
 
     /// The octets of the object.

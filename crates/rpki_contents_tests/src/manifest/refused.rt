@@ -5,7 +5,7 @@ use super::{Changes, ONE_FILE, THREE_FILES};
 use bytes::Bytes;
 use rpki_contents::{ManifestContent, ManifestPart, ManifestView};
 use rpki_der_tests::changed::changed;
-use rpki_der_tests::kinds::{Outcome, outcome_of};
+use rpki_der_tests::kinds::{Outcome, outcome_of, refused};
 use rpki_der_tests::rows;
 use std::test::Fail;
 
@@ -180,6 +180,14 @@ const FILES: &[Row<'_>] = &rows! {
      ManifestPart::FileList),
 };
 
+/// The part of the octets that is said to be wrong in place, and what is wrong with it.
+fn wrong_in(octets: &[u8]) -> Option<(ManifestPart, Outcome)> {
+    match ManifestView::read(octets) {
+        Ok(_) => None,
+        Err(wrong) => Some((wrong.part, refused(&wrong.error))),
+    }
+}
+
 #[test]
 fn others_are_refused(rt: HostRuntime) -> Result<(), Fail> {
     for (name, manifest, changes, outcome, part) in FIELDS.iter().chain(FILES) {
@@ -188,9 +196,9 @@ fn others_are_refused(rt: HostRuntime) -> Result<(), Fail> {
         let octets = octets.unwrap_or(Vec::new(rt.alloc()));
         let bytes = Bytes::copy_from_slice(rt.alloc(), octets.as_slice())?;
         let kept = outcome_of(ManifestContent::decode(rt.alloc(), bytes));
-        let seen = ManifestView::read(octets.as_slice()).err();
+        let seen = wrong_in(octets.as_slice());
         assert_eq!(rt; kept, *outcome, "{name}");
-        assert_eq!(rt; seen, Some(*part), "{name}, in place");
+        assert_eq!(rt; seen, Some((*part, *outcome)), "{name}, in place");
     }
     Ok(())
 }

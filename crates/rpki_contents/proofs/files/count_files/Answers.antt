@@ -1,6 +1,7 @@
 use Rattle.std.proofs.Common.{◌≡◌, ◌≢◌, ◌∷◌, ◌++◌, [], refl, arith, length-append}
 use Rattle.rpki_contents.proofs.InPlaceLaws.{left-some, left-none}
-use Rattle.rpki_contents.proofs.FilesLaws.{at-start, one-more, all-behind, nothing-here, shorter}
+use Rattle.rpki_der.specs.Prelude.{AtMember}
+use Rattle.rpki_contents.proofs.FilesLaws.{at-start, one-more, all-behind, nothing-here, shorter, unless}
 use Rattle.rpki_contents.proofs.files.count_files.Goals as goal
 
 pub files-init : goal.files-init
@@ -8,7 +9,7 @@ files-init c = record { read = ([], at-start c.args.octets.now, refl); few = ome
 
 pub overflow_add-count : goal.overflow_add-count
 overflow_add-count c =
-    let h = c.in-Some.ensures.some in
+    let h = c.in-Ok.ensures.ok in
     let less = shorter c.files.rest.now _ h.0 h.1 in
     record { fits = omega (arith, c.files.invariant.few, less) }
 
@@ -16,7 +17,7 @@ pub files-preserved : goal.files-preserved
 files-preserved c =
     let so = c.files.invariant.read in
     let some : c.files.rest.now ≢ [] = left-some c.files.rest.now _ c.is_empty.ensures c.files-test.true in
-    let h = c.in-Some.ensures.some in
+    let h = c.in-Ok.ensures.ok in
     let less = shorter c.files.rest.now _ h.0 h.1 in
     record {
       read = (
@@ -27,11 +28,14 @@ files-preserved c =
       few = omega (arith, less, c.files.invariant.few);
     }
 
-pub returns-in-None : goal.returns-in-None
-returns-in-None c =
+pub returns-in-Err : goal.returns-in-Err
+returns-in-Err c =
     let so = c.files.invariant.read in
     let some : c.files.rest.now ≢ [] = left-some c.files.rest.now _ c.is_empty.ensures c.files-test.true in
-    so.1.nothing (nothing-here c.files.rest.now some c.in-None.ensures.none)
+    let none = c.in-Err.ensures.err in (
+      so.1.nothing (nothing-here c.files.rest.now some none.0),
+      so.1.error c.in-Err.e (AtMember some (unless c.in-Err.e none.0) none.1),
+    )
 
 pub returns : goal.returns
 returns c =

@@ -5,4 +5,4 @@ pub returns-in-Ok : goal.returns-in-Ok
 returns-in-Ok c = inr (c.in-Ok.object, c.in-Ok.ensures.ok.0, c.in-Ok.ensures.ok.1, c.anchor_keys_part.ensures)
 
 pub returns-in-Err : goal.returns-in-Err
-returns-in-Err c = inl (c.in-Err.part, c.in-Err.ensures.err, refl)
+returns-in-Err c = inl (c.in-Err.wrong.part, (c.in-Err.wrong.error, c.in-Err.ensures.err), refl)

@@ -5,4 +5,4 @@ pub returns-in-Ok : goal.returns-in-Ok
 returns-in-Ok c = inr ((c.in-Ok.field-0, c.in-Ok.ensures.ok.0, c.in-Ok.ensures.ok.1), refl)
 
 pub returns-in-Err : goal.returns-in-Err
-returns-in-Err c = inl (c.in-Err.part, c.in-Err.ensures.err, refl)
+returns-in-Err c = let q = c.in-Err.wrong in inl (q.part, (q.error, c.in-Err.ensures.err), refl)

@@ -6,7 +6,7 @@ use Rattle.rpki_objects.proofs.signed_object_view.take_certificate.Goals as goal
 
 pub returns-in-Err : goal.returns-in-Err
 returns-in-Err c =
-    let h = rw c.new.ensures at c.in-Err.ensures in NoSet (contents-refused zero_tag _ _ c.in-Err.field-0 h) refl
+    let h = rw c.new.ensures at c.in-Err.ensures in NoSet (contents-refused zero_tag _ _ c.in-Err.error h) h.kind refl
 
 pub returns-in-Ok-read : goal.returns-in-Ok-read
 returns-in-Ok-read c =
@@ -19,4 +19,4 @@ returns-in-Err-read c =
     let a = rw c.new.ensures at c.in-Ok.ensures in
     let wrong = rw c.rest-octets.ensures at c.in-Err-read.ensures.err in
     let more = rw c.rest-octets.ensures at c.in-Err-read.ensures.none in
-    NoCert _ _ _ a (c.in-Err-read.wrong.error, wrong) more refl
+    NoCert _ _ _ a wrong more refl

@@ -4,11 +4,12 @@ use Rattle.rpki_objects.proofs.ObjectViewLaws.{signers-handed, signers-handed-wr
 use Rattle.rpki_objects.proofs.signer_view.read_signers.Goals as goal
 
 pub returns-in-Err-clause-err : goal.returns-in-Err-clause-err
-returns-in-Err-clause-err c = Outside c.in-Err.ensures.gives refl
+returns-in-Err-clause-err c = Outside c.in-Err.ensures.gives c.in-Err.ensures.fault refl
 
 pub returns-in-Err-inside-clause-err : goal.returns-in-Err-inside-clause-err
 returns-in-Err-inside-clause-err c =
-    let h = c.in-Ok.ensures.gives in Inside _ h.0 h.1 (Outside c.in-Err-inside.ensures.gives refl)
+    let h = c.in-Ok.ensures.gives in
+    Inside _ h.0 h.1 (Outside c.in-Err-inside.ensures.gives c.in-Err-inside.ensures.fault refl)
 
 pub returns-in-Ok-inside-clause-ok : goal.returns-in-Ok-inside-clause-ok
 returns-in-Ok-inside-clause-ok c =
