@@ -1,5 +1,6 @@
-"""Steps, side by side: each is a command that begins once what it waits for has happened. A line says when a step
-begins, with the seconds that it took the last time, and a line when it ends."""
+"""Steps, side by side: each is a command that begins once what it waits for has happened, and before others the one that
+the longest chain begins with. A line says when a step begins, with the seconds that it took the last time, and a line
+when it ends."""
 import contextlib
 import json
 import os
@@ -81,6 +82,19 @@ class Times:
             json.dump(self.seconds, file, indent=0, sort_keys=True)
 
 
+def longest_first(steps, seconds):
+    """The steps, first those that the longest chain begins with: a step, one that waits for it, and so on, by the
+    seconds that each took. Those of which nothing is known stay in their order, at the end."""
+    chains = {}
+
+    def chain(step):
+        if step.name not in chains:
+            after = [it for it in steps if {step.name, f"ended {step.name}"} & set(it.waits)]
+            chains[step.name] = seconds.get(step.name, 0) + max(map(chain, after), default=0)
+        return chains[step.name]
+    return sorted(steps, key=lambda step: -chain(step))
+
+
 # A signal of the terminal comes to this process alone, which ends the others.
 APART = {"process_group": 0} if sys.version_info >= (3, 11) else {"preexec_fn": os.setpgrp}
 
@@ -89,7 +103,8 @@ class Steps:
     """Runs steps, as many as there are processors, and tells of each as it begins and as it ends."""
 
     def __init__(self, steps, lanes, progress, times):
-        self.steps, self.lanes, self.progress, self.times = list(steps), lanes, progress, times
+        self.steps, self.lanes = longest_first(steps, times.seconds), lanes
+        self.progress, self.times = progress, times
         self.happened, self.results, self.changed, self.is_ended = set(), {}, threading.Condition(), False
 
     def happen(self, event):
