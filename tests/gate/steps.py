@@ -1,6 +1,6 @@
-"""Steps, side by side: each is a command that begins once what it waits for has happened, and before others the one that
-the longest chain begins with. A line says when a step begins, with the seconds that it took the last time, and a line
-when it ends."""
+"""Steps, side by side: each is a command that begins once what it waits for has happened; of several, first the one
+that the longest chain begins with. A line says when a step begins, with the seconds that it took the last time, and a
+line when it ends."""
 import contextlib
 import json
 import os

@@ -10,6 +10,8 @@ import os
 import shutil
 import sys
 import tempfile
+import threading
+from concurrent.futures import ThreadPoolExecutor
 
 sys.dont_write_bytecode = True
 
@@ -33,11 +35,14 @@ while [ $# -gt 0 ]; do
     shift
 done
 if [ $is_whole = no ] || [ -z "{library}" ]; then exec -a "$0" "{theirs}" "${{words[@]}}"; fi
-(exec -a "$0" "{theirs}" "${{plain[@]}}") &
+((exec -a "$0" "{theirs}" "${{plain[@]}}") && : > "{library}.made") &
 (exec -a "$0" "{theirs}" "${{words[@]}}") || exit
 wait $!
 """
-# A path is at most so long.
+# What is said once the library is built, which is before the programs are.
+LIBRARY_BUILT = "the C library is built"
+# A path is at most so long. What names the calls isn't run.
+CALLS = "    if len > word.len() {\n        names_calls();\n    }\n"
 MAIN = """use std::env::Env;
 use std::process::ExitCode;
 
@@ -46,8 +51,8 @@ fn main(rt: HostRuntime) -> ExitCode {{
     let Ok(len) = rt.arg(0, &mut word) else {{
         return ExitCode::from(255);
     }};
-    let word = &word[..len];
-{programs}{calls}    ExitCode::from(254)
+{calls}    let word = &word[..len];
+{programs}    ExitCode::from(254)
 }}
 """
 BEGINS = """    if word.ends_with(b"/{0}") {{
@@ -62,19 +67,32 @@ def text_of(names):
     programs = "".join(BEGINS.format(name) for name in names if name != LIBRARY)
     if LIBRARY not in names:
         return MAIN.format(programs=programs, calls="")
-    return unproved_library.names_calls(f"{LIBRARY}::") + MAIN.format(programs=programs, calls="    names_calls();\n")
+    return unproved_library.names_calls(f"{LIBRARY}::") + MAIN.format(programs=programs, calls=CALLS)
+
+
+def take_library(file, folder, ended):
+    """Takes the library out of an object file, once it is made; nothing if the build has ended without it."""
+    while not os.path.exists(f"{file}.made"):
+        if ended.wait(0.2) and not os.path.exists(f"{file}.made"):
+            return
+    unproved_library.archive(file, f"{CRATE}::{LIBRARY}", folder)
+    print(LIBRARY_BUILT, flush=True)
 
 
 def build(folder, names):
     """Builds them into the folder."""
-    folder = os.path.abspath(folder)
-    with tempfile.TemporaryDirectory() as room:
-        top, program = os.path.join(room, "tree"), os.path.join(room, "program")
-        library = os.path.join(room, "library.o") if LIBRARY in names else ""
+    folder, ended = os.path.abspath(folder), threading.Event()
+    with tempfile.TemporaryDirectory() as room, ThreadPoolExecutor(1) as pool:
+        top, program, library = (os.path.join(room, name) for name in ("tree", "program", "library.o"))
         lay(top, CRATE, "main.rt", names, text_of(names))
-        unproved.build(CRATE, program, unproved.APART, top, compiler=COMPILER, library=library)
-        if library:
-            unproved_library.archive(library, f"{CRATE}::{LIBRARY}", folder)
+        taken = pool.submit(take_library, library, folder, ended) if LIBRARY in names else None
+        try:
+            unproved.build(CRATE, program, unproved.APART if unproved.CALLED in names else None, top,
+                           compiler=COMPILER, library=library if taken else "")
+        finally:
+            ended.set()
+        if taken:
+            taken.result()
         for name in names:
             if name != LIBRARY:
                 shutil.copy2(program, os.path.join(folder, name))

@@ -82,7 +82,8 @@ def archive(built, within, folder):
         llvm("objcopy", *(f"--redefine-sym={within}::{path}={name}" for path, name in zip(paths, names)), built, named)
         llvm("objcopy", *(f"--globalize-symbol={name}" for name in names), named, whole)
         roots = [f"--undefined={name}" for name in names]
-        subprocess.run(["ld", "-r", "--gc-sections", *roots, "-o", own, whole, f"{kit()}/c/libos_c.a"], check=True)
+        theirs = [f"{kit()}/c/{name}" for name in ("libos_c.a", "liblibc_c.a")]
+        subprocess.run(["ld", "-r", "--gc-sections", *roots, "-o", own, whole, *theirs], check=True)
         llvm("objcopy", *(f"--keep-global-symbol={name}" for name in names), "--strip-unneeded", own)
         if os.path.lexists(file):
             os.remove(file)
