@@ -29,8 +29,8 @@ def as_module(text, own, names, macros):
 
 
 def as_root(text):
-    """The text of the first file of a crate, whose `main` and modules the crate above may name."""
-    return re.sub(r"^(fn main\(|mod )", r"pub \1", text, flags=re.M)
+    """The text of the first file of a crate, whose `main` the crate above may name."""
+    return re.sub(r"^fn main\(", "pub fn main(", text, flags=re.M)
 
 
 def write(file, text):
