@@ -90,8 +90,8 @@ impl AsProviderAttestation {
         Ok(AsProviderAttestation { customer_as: Asn::from_u32(found.customer), provider_as_set: providers })
     }
 
-    /// Why octets are no attestation: the malformed part, and the leftmost error in it, as a reader of that part returns
-    /// it. None where they are one.
+    /// Why octets are no attestation: the malformed part, and the leftmost error in it, as a reader of that part
+    /// returns it. None where they are one.
     pub fn reason(octets: &[u8]) -> Option<(AspaError, DecodeError)> {
         let (part, error) = ffi::aspa_error(octets).err()?;
         Some((AspaError::from_status(part), DecodeError::from_status(error)))

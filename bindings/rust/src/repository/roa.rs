@@ -95,8 +95,8 @@ impl RouteOriginAttestation {
         })
     }
 
-    /// Why octets are no attestation: the malformed part, and the leftmost error in it, as a reader of that part returns
-    /// it. None where they are one.
+    /// Why octets are no attestation: the malformed part, and the leftmost error in it, as a reader of that part
+    /// returns it. None where they are one.
     pub fn reason(octets: &[u8], strict: bool) -> Option<(RoaError, DecodeError)> {
         let (part, error) = ffi::roa_error(octets, strict).err()?;
         Some((RoaError::from_status(part), DecodeError::from_status(error)))
