@@ -20,6 +20,24 @@ from toolchain import TOP, kit
 
 CRATE = "rpki_c"
 CALL = re.compile(r'#\[unsafe\(no_mangle\)\]\s*pub extern "C" fn (\w+)(?:<[^>]*>)?\(([^)]*)\)')
+# Before the module is optimized, each call gets the name that it has in C, by which it is seen from outside, so that no
+# call loses what `main` has no use for.
+COMPILER = r"""#!/bin/bash
+words=()
+for word in "$@"; do
+    case $word in
+        -fsanitize=address) ;;
+        -O0) words+=({level}) ;;
+        module.bc) words+=(named.ll) ;;
+        *) words+=("$word") ;;
+    esac
+done
+as_text=(-Wno-unused-command-line-argument -Xclang -disable-llvm-passes -S -emit-llvm -o module.ll)
+(exec -a "$0" "{theirs}" "$@" "${{as_text[@]}}") || exit
+sed -E 's/^define internal (.* @"rpki_c::\w+::rpki_)/define \1/; s/@"rpki_c::\w+::(rpki_\w+)"/@\1/g' \
+    module.ll > named.ll
+exec -a "$0" "{theirs}" "${{words[@]}}"
+"""
 # A value of any type, which no run has.
 ANY = "\nfn any<T>() -> T {\n    any()\n}\n"
 
@@ -66,12 +84,11 @@ def build(folder):
     os.makedirs(os.path.dirname(archive), exist_ok=True)
     with tempfile.TemporaryDirectory() as room:
         found = lay(os.path.join(room, "tree"))
-        built, named, whole = (os.path.join(room, name) for name in ("built.o", "named.o", "rpki.o"))
-        unproved.build(CRATE, built, "-O0", os.path.join(room, "tree"), unproved.OBJECT_LINKER)
+        built, whole = (os.path.join(room, name) for name in ("built.o", "rpki.o"))
+        scripts = {"clang": COMPILER, "ld.lld": unproved.OBJECT_LINKER}
+        unproved.build(CRATE, built, unproved.OPTIMIZED, os.path.join(room, "tree"), scripts)
         names = [call.rpartition("::")[2] for call in found]
-        llvm("objcopy", *(f"--redefine-sym={CRATE}::{call}={name}" for call, name in zip(found, names)), built, named)
-        llvm("objcopy", *(f"--globalize-symbol={name}" for name in names), named, whole)
-        llvm("objcopy", *(f"--keep-global-symbol={name}" for name in names), whole)
+        llvm("objcopy", *(f"--keep-global-symbol={name}" for name in names), built, whole)
         if os.path.lexists(archive):
             os.remove(archive)
         llvm("ar", "rcs", archive, whole)
