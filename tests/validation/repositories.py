@@ -1,5 +1,6 @@
 """Repositories that tests/validation/generate.c makes, what is valid of them, and the program that says so."""
 import base64
+import copy
 import hashlib
 import os
 import shutil
@@ -49,6 +50,13 @@ class Maker:
         source = os.path.join(TOP, "tests", "validation", "generate.c")
         subprocess.run([os.environ.get("CC", "cc"), "-O1", "-Wno-deprecated-declarations", source, "-lcrypto", "-o",
                         self.program], check=True)
+
+    def within(self, room):
+        """The same in another folder, with the keys that there are."""
+        other = copy.copy(self)
+        other.room, other.made = room, {}
+        shutil.copy2(os.path.join(self.room, "keys.pem"), room)
+        return other
 
     def repository(self, count=AUTHORITIES, width=WIDTH, origins=ORIGINS, **variant):
         """A repository, made once."""
