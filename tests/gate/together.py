@@ -5,6 +5,7 @@ called. Needs the toolchain.
 
 usage: tests/gate/together.py FOLDER PROGRAM.."""
 import os
+import re
 import shutil
 import sys
 import tempfile
@@ -12,7 +13,7 @@ import tempfile
 sys.dont_write_bytecode = True
 
 import unproved
-from modules import lay
+from modules import lay, sources
 from toolchain import crates, root_of
 
 # The crate of the program.
@@ -35,11 +36,18 @@ BEGINS = """    if word.ends_with(b"/{0}") {{
         return {0}::main(rt);
     }}
 """
+# So of a program whose `main` has a result.
+BEGINS_BY_RESULT = """    if word.ends_with(b"/{0}") {{
+        return if {0}::main(rt).is_ok() {{ ExitCode::SUCCESS }} else {{ ExitCode::FAILURE }};
+    }}
+"""
+RESULT = re.compile(r"^fn main\([^)]*\) -> io::Result", re.M)
 
 
 def text_of(names):
     """The text of the crate's first file, beside the names of its modules."""
-    return MAIN.format(programs="".join(BEGINS.format(name) for name in names))
+    by_result = {name for name in names for _, text in sources(name) if RESULT.search(text)}
+    return MAIN.format(programs="".join((BEGINS_BY_RESULT if it in by_result else BEGINS).format(it) for it in names))
 
 
 def build(folder, names):

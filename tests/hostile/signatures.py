@@ -5,7 +5,7 @@ import tempfile
 
 from judges.signatures import answer
 from makers.rsa import Key, bits_of
-from programs import build, run
+from programs import built, run
 
 KEYS = [(2048, 65537), (2048, 3), (2056, 65537), (3072, 65537), (4096, 65537), (2048, 2**63 + 29)]
 MESSAGES = 10
@@ -25,12 +25,10 @@ def rows(folder, chance):
                 yield f"{bits} bits, exponent {exponent}, {name}", key, octets, value
 
 
-def new_signatures(_):
+def new_signatures(programs):
     """What is printed of each row, beside what the definition says by Python's numbers."""
-    seed = random.randrange(2**32)
+    program, seed = *built(os.path.dirname(programs.calls), "rsa_rows"), random.randrange(2**32)
     with tempfile.TemporaryDirectory() as folder:
-        program = os.path.join(folder, "rsa_rows")
-        build("rsa_rows", program)
         made = list(rows(folder, random.Random(seed)))
         lines = [f"{bits_of(key.octets, key.exponent).hex()} {message.hex()} {value.hex()}\n"
                  for _, key, message, value in made]
