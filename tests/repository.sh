@@ -45,10 +45,16 @@ commonName = unused
 END
 }
 
-# request NAME: a key, and a request for a certificate of this common name
+# request NAME: a key, and a request for a certificate of this common name. Where RPKI_TEST_KEYS names a folder, keys
+# are kept in it by their names, for other repositories: making one takes a third of a second.
 request() {
-    openssl genpkey -quiet -algorithm RSA -pkeyopt rsa_keygen_bits:2048 -out "$1.key" 2>/dev/null ||
-        openssl genpkey -algorithm RSA -pkeyopt rsa_keygen_bits:2048 -out "$1.key" 2>/dev/null
+    kept=${RPKI_TEST_KEYS:-.}/$1.key
+    if [ ! -f "$kept" ]; then
+        openssl genpkey -quiet -algorithm RSA -pkeyopt rsa_keygen_bits:2048 -out "$1.made" 2>/dev/null ||
+            openssl genpkey -algorithm RSA -pkeyopt rsa_keygen_bits:2048 -out "$1.made" 2>/dev/null
+        mv "$1.made" "$kept"
+    fi
+    [ -f "$1.key" ] || cp "$kept" "$1.key"
     openssl req -new -config ta.cnf -key "$1.key" -subj "/CN=$1" -out "$1.csr"
 }
 
@@ -57,7 +63,7 @@ issue() {
     # shellcheck disable=SC2086
     openssl ca -batch -notext -config "$1.cnf" -keyfile "$1.key" ${5:--cert "$1.pem"} -in "$2.csr" -extfile "$4" \
         -extensions ext -startdate "$from" -enddate "$until" -out "$2.pem" 2> "$2.log" || { cat "$2.log" >&2; exit 1; }
-    openssl x509 -in "$2.pem" -outform DER -out "$3"
+    grep -v '^-' "$2.pem" | openssl base64 -d > "$3"
 }
 
 common='subjectKeyIdentifier = hash

@@ -6,6 +6,7 @@ import hashlib
 import json
 import os
 import re
+import ssl
 
 import forms
 from fields import lines_of
@@ -55,7 +56,7 @@ def said_of(text):
     said = openssl("x509", "-noout", *words, "-text", input=text).decode(errors="replace")
     before, _, whole = said.partition("\nCertificate:\n")
     facts = dict(line.split("=", 1) for line in before.split("\n"))
-    return whole, facts, openssl("x509", "-outform", "DER", input=text)
+    return whole, facts, ssl.PEM_cert_to_DER_cert(text.decode())
 
 
 def told(path):

@@ -47,20 +47,20 @@ def counted(told, status):
 
 @contextlib.contextmanager
 def room():
-    """A folder for a run. What its steps keep for a while is there too, so all of it goes with the folder."""
+    """A folder for a run. What its steps keep for a while is there too, so all of it goes with the folder; and the keys
+    of their repositories, by tests/repository.sh."""
     with tempfile.TemporaryDirectory() as folder:
-        before, own = os.environ.get("TMPDIR"), os.path.join(folder, "tmp")
-        os.mkdir(own)
+        before, own, keys = dict(os.environ), os.path.join(folder, "tmp"), os.path.join(folder, "keys")
+        for it in own, keys:
+            os.mkdir(it)
         for it in folder, own:
             os.chmod(it, 0o711)  # a program of a step may be run as nobody
-        os.environ["TMPDIR"] = own
+        os.environ.update(TMPDIR=own, RPKI_TEST_KEYS=keys)
         try:
             yield folder
         finally:
-            if before is None:
-                del os.environ["TMPDIR"]
-            else:
-                os.environ["TMPDIR"] = before
+            os.environ.clear()
+            os.environ.update(before)
 
 
 class Times:

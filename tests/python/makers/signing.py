@@ -20,7 +20,8 @@ RESOURCES = {ROA: ADDRESSES + "IPv4:0.0.0.0/0, IPv6:::/0\n", ASPA: NUMBERS + "AS
 
 
 class Signer:
-    """An end entity of the authority `ca`, whose files are in the folder."""
+    """An end entity of the authority `ca`, whose files are in the folder. All of a folder have the same key, since
+    making one takes a third of a second."""
 
     made = 0
 
@@ -30,8 +31,8 @@ class Signer:
         with open(path + ".cnf", "w", encoding="ascii") as file:
             file.write(f"[req]\nstring_mask = {mask}\ndistinguished_name = name\n[name]\n[extensions]\n")
             file.write(COMMON + USAGE + place + lines + ISSUED.format(issuer="ca"))
-        self.key = Key(path + ".key")
-        openssl("req", "-new", "-config", path + ".cnf", "-key", path + ".key", "-subj", "/CN=signer", "-out",
+        self.key = Key(os.path.join(folder, "signer.key"))
+        openssl("req", "-new", "-config", path + ".cnf", "-key", self.key.path, "-subj", "/CN=signer", "-out",
                 path + ".csr")
         certify(path, issuer, "9", "-outform", "DER", "-out", path + ".cer")
         self.path, self.certificate = path + ".cer", octets_of(path + ".cer")
