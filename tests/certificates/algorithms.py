@@ -127,10 +127,15 @@ def of_other(program, name, path):
     yield f"{name} as JSON", (status, json.loads(output, object_pairs_hook=list), faults), (0, named, b"")
     line = f"{path}: {objection}, which the RPKI doesn't use\n".encode()
     yield f"{name}, checked", ran(program, "--check", path), (1, line, b"")
-    said = "RFC 7935 2, 3: of an algorithm that the RPKI doesn't use"
-    for profile in ("ta", "router"):
-        seen = ran(program, "--check", "--profile", profile, path)
-        yield f"{name} as {profile}", seen, (1, f"{path}: {said}\n".encode(), b"")
+    shown = (1, ran(program, path).output,
+             f"rpkicert: {path}: RFC 7935 2, 3: of an algorithm that the RPKI doesn't use\n".encode())
+    for profile in ("ta", "router", "auto"):
+        yield f"{name} as {profile}", ran(program, "--check", "--profile", profile, path), (1, line, b"")
+        yield f"{name} as {profile}, shown", ran(program, "--profile", profile, path), shown
+    status, output, faults = ran(program, "--check", "--json", path)
+    seen = (status, json.loads(output), faults)
+    yield f"{name}, checked, as JSON", seen, (
+        1, {"file": path, "signature": "not checked", "verdict": f"{objection}, which the RPKI doesn't use"}, b"")
 
 
 def roots(program, folder):

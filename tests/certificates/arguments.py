@@ -8,12 +8,12 @@ from programs import TOP, ran
 
 with open(os.path.join(TOP, "include", "rpki.h"), encoding="utf-8") as header:
     VERSION = ".".join(re.findall(r"^#define RPKI_VERSION_[A-Z]+ (\d+)$", header.read(), re.M))
-SYNOPSIS = b"usage: rpkicert [--json] [--check] [--profile NAME [--lax]] [--issuer FILE]"
+SYNOPSIS = b"usage: rpkicert [--json] [--check] [--profile NAME] [--lax] [--issuer FILE]"
 USAGE = SYNOPSIS + b" [--at MOMENT] [-r] FILE..\n"
 # Words that ask for nothing, and what is wrong with them first, from the left; worked by hand.
 FILE, NO_FILE = object(), "no file"
 UNKNOWN, NO_VALUE, VALUE = "unknown option: {}", "{} takes a value", "{} takes no value"
-TWICE, LAX = "{} is given twice", "--lax is for --profile"
+TWICE, LAX = "{} is given twice", "--lax is for --check and --profile"
 PROFILE = "--profile takes auto, ta, ca, ee, detached or router, not {}"
 WRONG = [
     ([], NO_FILE), (["--json"], NO_FILE), (["--check"], NO_FILE), (["--profile", "ca"], NO_FILE), (["--"], NO_FILE),
@@ -45,7 +45,8 @@ WRONG = [
     (["--profile", "ta", "--profile=root"], TWICE.format("--profile")),
     (["--profile", "ta", "--lax", "--lax", FILE], TWICE.format("--lax")), (["-h", "--help"], TWICE.format("--help")),
     (["--version", "--json", "--version"], TWICE.format("--version")),
-    (["--lax", FILE], LAX), (["--check", "--lax", FILE], LAX), (["--lax"], LAX), (["--lax", "--", "--profile"], LAX),
+    (["--lax", FILE], LAX), (["--json", "--lax", FILE], LAX), (["--lax"], LAX), (["--lax", "--", "--profile"], LAX),
+    (["--lax", "--", "--check"], LAX), (["--check", "--lax"], NO_FILE), (["--lax", "--check", "--"], NO_FILE),
 ]
 
 

@@ -1,7 +1,8 @@
 """Certificates whose profile is that of what they say that they are: trust anchors, authorities, end entities with and
 without subject information access, and routers, which openssl makes, and variants of each that break rules of that
-profile; signed objects, whose certificates keep theirs; and what has none (RFC 6487 4.8, RFC 8209 3.1.3, RFC 9323
-2)."""
+profile; signed objects, whose certificates keep theirs; and what has none (RFC 6487 4.8, RFC 8209 3.1.3, RFC 9323 2).
+For a verdict that is so where no profile is named, too."""
+import itertools
 import json
 import os
 
@@ -51,28 +52,33 @@ ROWS = [
 ]
 
 
+# The words that ask for a verdict by a certificate's own profile.
+AUTO = [["--check"], ["--check", "--profile", "auto"]]
+
+
 def kinds_of_certificates(program, folder):
     """Each kind, and of each a variant that breaks a rule of that profile alone, as lines and as JSON."""
-    for name in PROFILES:
+    for words, name in itertools.product(AUTO, PROFILES):
         path = authority.paths(folder)[name] + ".der"
-        seen = ran(program, "--check", "--profile", "auto", path)
-        yield f"chosen: {name}", seen, (0, line(path, verdict(path)), b"")
+        yield f"chosen: {name} {words}", ran(program, *words, path), (0, line(path, verdict(path)), b"")
     for number, (text, request, issuer, lines, *rules) in enumerate(ROWS):
         config = write(folder, "chosen.cnf", b"[extensions]\n" + lines.encode())
         path = os.path.join(folder, f"chosen{number}.der")
         certify(os.path.join(folder, request), issuer and os.path.join(folder, issuer), "5", "-outform", "DER", "-out",
                 path, config=config)
         said = [f"violates the profile: {rule}" for rule in rules] or [UNASKED if issuer else "OK"]
-        status, output, faults = ran(program, "--check", "--profile", "auto", path)
-        lines_told = output.decode().splitlines()
-        seen = [it[:len(f"{path}: {due}")] for it, due in zip(lines_told, said)]
-        yield f"chosen: {text}", (status, len(lines_told), seen, faults), (
-            1 if rules else 0, len(said), [f"{path}: {due}" for due in said], b"")
-        status, output, faults = ran(program, "--check", "--json", "--profile", "auto", path)
-        broken = [it["rule"] for it in json.loads(output).get("violations", [])]
-        seen = [it[:len(due)] for it, due in zip(broken, rules)]
-        yield f"chosen: {text}, as JSON", (status, len(broken), seen, faults), (
-            1 if rules else 0, len(rules), rules, b"")
+        for words in AUTO:
+            status, output, faults = ran(program, *words, path)
+            lines_told = output.decode().splitlines()
+            seen = [it[:len(f"{path}: {due}")] for it, due in zip(lines_told, said)]
+            yield f"chosen: {text} {words}", (status, len(lines_told), seen, faults), (
+                1 if rules else 0, len(said), [f"{path}: {due}" for due in said], b"")
+            status, output, faults = ran(program, "--json", *words, path)
+            broken = [it["rule"] for it in json.loads(output).get("violations", [])]
+            seen = [it[:len(due)] for it, due in zip(broken, rules)]
+            yield f"chosen: {text} {words}, as JSON", (status, len(broken), seen, faults), (
+                1 if rules else 0, len(rules), rules, b"")
+        yield f"chosen: {text}, shown", ran(program, path)[0::2], (0, b"")
 
 
 def next_key(program, folder):
@@ -96,14 +102,15 @@ def names(program, folder):
     path = os.path.join(folder, "names")
     openssl("req", "-new", "-config", config, "-key", text + ".key", "-subj", "/CN=authority", "-out", path + ".csr")
     certify(path, os.path.join(folder, "ta"), "7", "-outform", "DER", "-out", path + ".der", config=config)
-    for words, said in ([], f"violates the profile: {sections.SUBJECT}invalid name"), (["--lax"], UNASKED):
-        seen = ran(program, "--check", "--profile", "auto", *words, path + ".der")
-        yield f"chosen: a name of UTF-8 {words}", seen, (0 if words else 1, line(path + ".der", said), b"")
+    wrong = f"violates the profile: {sections.SUBJECT}invalid name"
+    for auto, (words, said) in itertools.product(AUTO, [([], wrong), (["--lax"], UNASKED)]):
+        seen = ran(program, *auto, *words, path + ".der")
+        yield f"chosen: a name of UTF-8 {auto} {words}", seen, (0 if words else 1, line(path + ".der", said), b"")
 
 
 def objects_and_others(program, folder):
     """A signed object's certificate stays that of an end entity, a checklist's that of one without access; a revocation
-    list has no profile, nor has a certificate of another algorithm."""
+    list has no profile, and is well; no more has a certificate of another algorithm, which isn't."""
     origin = payloads.roa(1, payloads.family(4, [("10.0.0.0/8", 24)]))
     lines = signing.ADDRESSES + "IPv4:10.0.0.0/8\n"
     constrained = lines + "basicConstraints = critical, CA:TRUE\n"
@@ -117,19 +124,22 @@ def objects_and_others(program, folder):
             ("a manifest", objects.MANIFEST, signing.PLACE, signing.INHERITED, payloads.manifest([]), None)]
     for text, kind, place, resources, content, rule in rows:
         octets = signing.Signer(folder, resources, place).object_of(kind, content)
-        status, output, faults = ran(program, "--check", "--profile", "auto", "-", octets=octets)
-        told = line("-", f"violates the profile: {rule}" if rule else UNASKED)
-        first = output[:output.find(b"\n") + 1]
-        yield f"chosen: {text}", (status, first, faults), (1 if rule else 0, told, b"")
+        for words in AUTO:
+            status, output, faults = ran(program, *words, "-", octets=octets)
+            told = line("-", f"violates the profile: {rule}" if rule else UNASKED)
+            first = output[:output.find(b"\n") + 1]
+            yield f"chosen: {text} {words}", (status, first, faults), (1 if rule else 0, told, b"")
     place = repository.made(os.path.join(folder, "chosen"))
     path = os.path.join(place, "rpki.example/repo/ca/ca.crl")
-    yield "chosen: a list", ran(program, "--check", "--profile", "auto", path), (
-        1, line(path, "not a certificate"), b"")
     other = os.path.join(folder, "other")
     openssl("req", "-x509", "-newkey", "ed25519", "-nodes", "-keyout", other + ".key", "-subj", "/CN=other", "-outform",
             "DER", "-out", other + ".der")
-    yield "chosen: another algorithm", ran(program, "--check", "--profile", "auto", other + ".der"), (
-        1, line(other + ".der", "RFC 7935 2, 3: of an algorithm that the RPKI doesn't use"), b"")
+    for words in AUTO:
+        yield f"chosen: a list {words}", ran(program, *words, path), (0, line(path, UNASKED), b"")
+        yield f"chosen: another algorithm {words}", ran(program, *words, other + ".der"), (
+            1, line(other + ".der", "signed by ED25519, which the RPKI doesn't use"), b"")
+    _, output, faults = ran(program, "--profile", "auto", path)
+    yield "chosen: a list, shown", (output, faults), (ran(program, path).output, b"")
 
 
 TABLES = [kinds_of_certificates, next_key, names, objects_and_others]

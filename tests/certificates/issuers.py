@@ -144,9 +144,10 @@ def broken(program, folder):
     ]
     issuer = os.path.join(folder, "ta.der")
     for number, (name, lines, said) in enumerate(rows):
+        # Without --check, which would hold it to its profile first.
         path = made(folder, f"broken{number}", lines)
-        seen = ran(program, "--check", "--issuer", issuer, path)
-        yield f"broken: {name}", seen, (0 if said == OK else 1, line(path, said), b"")
+        status, _, faults = ran(program, "--issuer", issuer, path)
+        yield f"broken: {name}", (status, faults), (0, b"") if said == OK else (1, b"rpkicert: " + line(path, said))
     # an anchor of the same name and another key, and one of the same key and another name
     new_key = ["-newkey", "rsa:2048", "-nodes", "-keyout", os.path.join(folder, "new.key"), "-subj", "/CN=anchor"]
     new_name = ["-key", os.path.join(folder, "ta.key"), "-subj", "/CN=Anchor"]
@@ -285,34 +286,40 @@ def now(program, folder):
                                   capture_output=True, check=False).stdout.decode()
         holds = "not" in text
         yield f"openssl says that it {text}", text in said.lower(), True
+        # The one that has expired begins after its end, which is a day before: it violates its profile, to which it is
+        # held with --check.
+        late = b"" if holds else b"rpkicert: " + line(name, valued(LATE, "now", iso(period(name)[1])))
         for words in ["--at", "now"], ["--at=now"], ["--issuer", anchor, "--at", "now"]:
-            good = OK if "--issuer" in words else UNASKED
-            yield f"{name} {words}", of_now(program, *words, name), (
-                0 if holds else 1, line(name, good if holds else valued(LATE, "now", iso(period(name)[1]))), b"")
-        # The one that has expired begins after its end, which is a day before.
-        yield f"{name} at a written moment", ran(program, "--check", "--at", at(period(name)[1]), name), (
-            0 if holds else 1,
-            line(name, UNASKED if holds else valued(EARLY, iso(period(name)[1]), iso(period(name)[0]))), b"")
+            status, _, faults = of_now(program, *words, name)
+            yield f"{name} {words}", (status, faults), (0 if holds else 1, late)
+            good = line(name, OK if "--issuer" in words else UNASKED)
+            violated = line(name, "violates the profile: RFC 5280 4.1.2.5: period ends before it begins")
+            yield f"{name} {words}, checked", ran(program, "--check", *words, name), (
+                0 if holds else 1, good if holds else violated, b"")
+        early = b"" if holds else b"rpkicert: " + line(name, valued(EARLY, iso(period(name)[1]), iso(period(name)[0])))
+        status, _, faults = ran(program, "--at", at(period(name)[1]), name)
+        yield f"{name} at a written moment", (status, faults), (0 if holds else 1, early)
     moment = datetime.now(timezone.utc).replace(microsecond=0)
     for hours, said, end in [((-1, 1), UNASKED, None), ((1, 2), OF_MANIFEST + "issued later", 0),
                              ((-2, -1), OF_MANIFEST + "stale", 1)]:
         ends = [moment + timedelta(hours=number) for number in hours]
         first, last = (each.strftime("%Y%m%d%H%M%SZ") for each in ends)
         octets = signing.object_of(folder, objects.MANIFEST, payloads.manifest([], this=first, until=last))
-        seen = of_now(program, "--at", "now", "-", octets=octets)
+        seen = of_now(program, "--check", "--at", "now", "-", octets=octets)
         told = said if end is None else valued(said, "now", iso(ends[end]))
         yield f"a manifest of {hours} hours", seen, (0 if said == UNASKED else 1, line("-", told), b"")
 
 
 def of_now(program, *words, octets=b""):
-    """What is seen of a check, with the word `now` in place of the moment that was found, if that is one during the
-    check by this clock."""
+    """What is seen of a run, with the word `now` in place of the moment that was found, if that is one during the run
+    by this clock."""
     before = datetime.now(timezone.utc).replace(microsecond=0)
-    seen = ran(program, "--check", *words, octets=octets)
+    seen = ran(program, *words, octets=octets)
     after = datetime.now(timezone.utc)
     for number in range(int((after - before).total_seconds()) + 1):
-        moment = iso(before + timedelta(seconds=number))
-        seen = seen._replace(output=seen.output.replace(f"; found {moment};".encode(), b"; found now;"))
+        found = f"; found {iso(before + timedelta(seconds=number))};".encode()
+        seen = seen._replace(**{stream: getattr(seen, stream).replace(found, b"; found now;")
+                                for stream in ("output", "faults")})
     return seen
 
 

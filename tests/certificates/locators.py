@@ -99,8 +99,9 @@ def judged(program, folder):
             yield f"locator: {name}, {words}", ran(program, "--check", *words, "-", octets=text), (1, said, b"")
         yield f"locator: {name}, shown", ran(program, "-", octets=text), (1, b"", b"rpkicert: " + said)
     path = write(folder, "ta.tal", text_of([HTTPS], key))
-    for words, wanted in ([], WELL), (["--at", "now"], WELL), (["--profile", "auto"], "not a certificate"), (
-            ["--issuer", anchor], "not a certificate"):
+    other = "not a certificate"
+    for words, wanted in ([], WELL), (["--at", "now"], WELL), (["--profile", "auto"], WELL), (["--lax"], WELL), (
+            ["--profile", "ta"], other), (["--issuer", anchor], other):
         status, line = int(wanted != WELL), f"{path}: {wanted}\n".encode()
         yield f"locator {words}", ran(program, "--check", *words, path), (status, line, b"")
         status, output, faults = ran(program, "--check", "--json", *words, path)

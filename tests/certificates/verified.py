@@ -83,18 +83,19 @@ def is_of(part, said):
 
 
 def verdicts(program, folder, octets, *words):
-    """The first line of the verdict on each file of these octets with one octet changed."""
+    """What is said first of each file of these octets with one octet changed: with --check the verdict, else what is
+    wrong, or None."""
     paths = []
     for place in range(len(octets)):
         other = octets[:place] + bytes([octets[place] ^ (1 << place % 8)]) + octets[place + 1:]
         paths.append(write(folder, f"octet{place}", other))
     said = {}
     for start in range(0, len(paths), 500):
-        status, output, faults = ran(program, "--check", *words, *paths[start:start + 500])
-        assert (status, faults) == (1, b""), (status, faults)
-        for told in output.decode().splitlines():
-            said.setdefault(*told.split(": ", 1))
-    return [said[path] for path in paths if path in said]
+        status, output, faults = ran(program, *words, *paths[start:start + 500])
+        assert status == 1 and ("--check" not in words or faults == b""), (status, faults)
+        for told in (output if "--check" in words else faults).decode().splitlines():
+            said.setdefault(*told.removeprefix("rpkicert: ").split(": ", 1))
+    return [said.get(path) for path in paths]
 
 
 def octets_of_objects(program, folder):
@@ -107,17 +108,18 @@ def octets_of_objects(program, folder):
         yield f"{name} as it is", ran(program, "--check", "--issuer", issuer, path), (0, line(path, OK), b"")
         yield f"{name} by itself", ran(program, "--check", path), (0, line(path, UNASKED), b"")
         where = {at: part for part, places in of_object(octets).items() for at in places}
-        said = verdicts(program, folder, octets, "--issuer", issuer)
-        yield f"{name}: so many", len(said), len(octets)
+        said = verdicts(program, folder, octets, "--check", "--issuer", issuer)
+        yield f"{name}: so many", len(said) - said.count(None), len(octets)
         for at, told in enumerate(said):
             part = where.get(at, "else")
             yield f"{name}, octet {at} of its {part}: {told}", is_of(part, told), True
-        alone = verdicts(program, folder, octets[:max(of_object(octets)["content"]) + 1])
+        alone = verdicts(program, folder, octets[:max(of_object(octets)["content"]) + 1], "--check")
         yield f"{name}, by itself: a beginning", all(is_none(told) for told in alone), True
 
 
 def octets_of_others(program, folder):
-    """Each octet of a certificate and of a list, with its issuer."""
+    """Each octet of a certificate and of a list, with its issuer: the signature tells each change, as is seen without
+    --check, which asks for the profile first."""
     place = repository.made(os.path.join(folder, "verified"))
     base = os.path.join(place, "rpki.example/repo")
     rows = [("ta/ca.cer", "ta/ta.cer", OF_CERTIFICATE, "certificate"),
@@ -128,17 +130,20 @@ def octets_of_others(program, folder):
         seen = ran(program, "--check", *words, os.path.join(base, name))
         yield f"{name} as it is", seen, (0, line(os.path.join(base, name), OK), b"")
         said = verdicts(program, folder, octets, *words)
-        yield f"{name}: so many", len(said), len(octets)
+        yield f"{name}: so many", len(said) - said.count(None), len(octets)
         for at, told in enumerate(said):
             good = told == clause + BAD or at not in signed_bits(octets, 0) and (
                 is_none(told) or told.startswith("RFC 7935 2, 3: "))
             yield f"{name}, octet {at}: {told}", good, True
+        said = verdicts(program, folder, octets, "--check", *words)
+        yield f"{name}: a verdict each", [at for at, told in enumerate(said) if told is None or told.startswith(OK)], []
     octets = octets_of(base, "ta/ta.cer")
     for at, told in enumerate(verdicts(program, folder, octets)):
         # By itself: a change of a name makes it another's certificate, whose issuer isn't asked for.
-        if told != UNASKED:
-            good = told == "RFC 8630 2.3: " + BAD or is_none(told) or told.endswith("the RPKI doesn't use")
-            yield f"an anchor, octet {at}: {told}", good, True
+        if told is not None:
+            yield f"an anchor, octet {at}: {told}", told == "RFC 8630 2.3: " + BAD or is_none(told), True
+    said = verdicts(program, folder, octets, "--check")
+    yield "an anchor: a verdict each", [at for at, told in enumerate(said) if told is None or told.startswith(OK)], []
 
 
 def keys(program, folder):

@@ -9,6 +9,7 @@ use Rattle.rpki_fields.specs.ObjectType.{kind_of}
 use Rattle.rpki_fields.specs.Field.{field_parts}
 use Rattle.rpki_fields.specs.Rendering.{rendering}
 use Rattle.rpki_fields.specs.Sheet.{SheetParts, sheet_behind}
+use Rattle.rpki_fields.specs.Object.{objection_to}
 use Rattle.rpki_fields.specs.declared.object.Object.{Object}
 use Rattle.rpkicert.specs.declared.fault.Fault.{Fault}
 use Rattle.rpkicert.specs.declared.fault.Fault.TheVariants.{Unreadable, TooLarge, OutOfMemory, Malformed, Refused}
@@ -23,7 +24,7 @@ use Rattle.rpkicert.specs.Signature.{signature_found}
 use Rattle.rpkicert.specs.Request.{Asked}
 use Rattle.rpkicert.specs.Requirements.{TermParts, term_parts, no_terms}
 use Rattle.rpkicert.specs.Output.{file_text, hashed, marked, IsTextOf, OutputParts, shown_parts, IsOutput, IsSeen}
-use Rattle.rpkicert.specs.Output.{IsChecked, fault_line, status_in}
+use Rattle.rpkicert.specs.Output.{IsChecked, checked_other, fault_line, status_in}
 use Rattle.rpkicert.specs.Output.{LacksMemory, AreSeen, outputs, faults, worst, IsRun}
 use Rattle.rpkicert.specs.Locator.{name_of, ReadsLocator}
 use Rattle.rpkicert.specs.Output.{locator_shown, IsLocatorOutput, IsLocatorSeen, IsSeenAs}
@@ -180,6 +181,11 @@ shown-status : (check : Bool) (form : Form) (terms : TermParts) (name : List ℕ
 shown-status true form terms name fault s g = ap (λ (w : OutputParts). w.status) g
 shown-status false form terms name fault s g = ap (λ (w : OutputParts). w.status) g
 
+other-status : (form : Form) (name : List ℕ) (o : Option (List ℕ))
+    → (checked_other form name o).status ≡ status_of OtherAlgorithm
+other-status form name None = refl
+other-status form name (Some said) = refl
+
 -- with the status 0 there is no fault
 some-status : (form : Form) (terms : TermParts) (name : List ℕ) (x : Object) (fault : Fault) (s : OutputParts)
     → IsChecked form terms name x (Some fault) s → s.status ≡ status_of fault
@@ -194,7 +200,8 @@ some-status form terms name x Malformed s g = ap (λ (w : OutputParts). w.status
 some-status form terms name x (Refused kind place e) s g = ap (λ (w : OutputParts). w.status) g.2
 some-status form terms name x (Unverified clause e) s g = ap (λ (w : OutputParts). w.status) g.2
 some-status form terms name x NoCertificate s g = ap (λ (w : OutputParts). w.status) g.2
-some-status form terms name x OtherAlgorithm s g = ap (λ (w : OutputParts). w.status) g.2
+some-status form terms name x OtherAlgorithm s g =
+    ap (λ (w : OutputParts). w.status) g ∙ other-status form name (objection_to x)
 
 checked-status : (form : Form) (terms : TermParts) (name : List ℕ) (x : Object) (fault : Option Fault) (s : OutputParts)
     → IsChecked form terms name x fault s → s.status ≡ 0 → fault ≡ None

@@ -16,7 +16,8 @@ drop-next old new (Some x) n size is some = ap (λ w. drop 1 w) is
 
 -- a request from its parts
 pub of-parts : (rows : List Row) (inspection : Option (Option Inspection)) (all : Option (List (List ℕ)))
-    → inspection ≡ named_inspection (is_given (codes "lax") rows) (first_of (codes "profile") rows)
+    → inspection ≡ named_inspection (is_given (codes "check") rows) (is_given (codes "lax") rows)
+    (first_of (codes "profile") rows)
     → all ≡ some_files (all_of (codes "FILE") rows)
     → option_and_then (λ p. option_map (asked (first_of (codes "issuer") rows) (first_of (codes "at") rows)
     (form_of (is_given (codes "json") rows)) (is_given (codes "check") rows) (is_given (codes "recursive") rows) p) all)
@@ -28,7 +29,8 @@ pub of-all : (rows : List Row) (issuer moment : Option (List ℕ)) (form : Form)
     (inspection : Option Inspection) (all : List (List ℕ)) → issuer ≡ first_of (codes "issuer") rows
     → moment ≡ first_of (codes "at") rows → form ≡ form_of (is_given (codes "json") rows)
     → check ≡ is_given (codes "check") rows → recursive ≡ is_given (codes "recursive") rows
-    → Some inspection ≡ named_inspection (is_given (codes "lax") rows) (first_of (codes "profile") rows)
+    → Some inspection ≡ named_inspection (is_given (codes "check") rows) (is_given (codes "lax") rows)
+    (first_of (codes "profile") rows)
     → Some all ≡ some_files (all_of (codes "FILE") rows)
     → Some (asked issuer moment form check recursive inspection all) ≡ request_of rows
 of-all rows issuer moment form check recursive inspection all i m f c r b d =

@@ -1,5 +1,5 @@
 -- Which profile a certificate is to have: the one that is named, or the one of what it says that it is.
-use Rattle.std.specs.Prelude.{◌≡◌, ◌↔◌, ◌&&◌, Bool, true, IsTrue, if◌then◌else◌}
+use Rattle.std.specs.Prelude.{◌≡◌, ◌↔◌, ◌&&◌, Bool, true, false, IsTrue, if◌then◌else◌}
 use Rattle.rpki_cert.specs.Cert.{TbsParts}
 use Rattle.rpki_cert.specs.Rule.{Obeys}
 use Rattle.rpki_cert.specs.declared.profile.Profile.{Profile}
@@ -37,6 +37,11 @@ pub record IsOwnProfile (t : TbsParts) (profile : Profile) : Type 0 where
   pub of_issuer : IsMark t SelfIssued self_issued
   pub of_key : IsMark t OwnAuthority own_key
   pub by_marks : profile ≡ profile_by end router detached self_issued own_key
+
+-- a profile was named
+abbrev pub is_named : Choice → Bool
+is_named (Named profile) = true
+is_named Auto = false
 
 -- the profile that a certificate is to have
 abbrev pub IsChosen : Choice → TbsParts → Profile → Type 0

@@ -29,7 +29,7 @@ abbrev pub no_profile : List ℕ → List ℕ
 no_profile word = said (codes "--profile takes auto, ta, ca, ee, detached or router, not ") word []
 
 abbrev pub lax_alone : List ℕ
-lax_alone = said (codes "--lax is for --profile") [] []
+lax_alone = said (codes "--lax is for --check and --profile") [] []
 
 abbrev pub no_file : List ℕ
 no_file = said (codes "no file") [] []
@@ -108,11 +108,12 @@ abbrev pub wrong_next : (before : List (List ℕ)) → (word : List ℕ) → Opt
 wrong_next before word None = if is_option word then wrong_option before word (option_in word) else None
 wrong_next before word (Some option) = if is_option word then Some (no_value option) else wrong_value option word
 
--- of these words alone, of which none is wrong; without files, or with a profile too few
+-- of these words alone, of which none is wrong: there is no profile for names, or no file
 abbrev pub wrong_last : (words : List (List ℕ)) → Option (List ℕ) → List ℕ
 wrong_last words (Some option) = no_value option
 wrong_last words None =
-    if is_among words (codes "--lax") && not (is_among words (codes "--profile")) then lax_alone else no_file
+    if is_among words (codes "--lax") && not (is_among words (codes "--check") || is_among words (codes "--profile"))
+    then lax_alone else no_file
 
 abbrev pub wrong_at_end : List (List ℕ) → List ℕ
 wrong_at_end words = wrong_last words (awaited words)

@@ -10,15 +10,16 @@ use Rattle.rpki_fields.specs.LocatorText.{IsSheetOfLocator}
 use Rattle.rpki_fields.specs.Sheet.{SheetParts}
 use Rattle.rpkicert.specs.declared.fault.Fault.{Fault}
 use Rattle.rpkicert.specs.declared.fault.Fault.TheVariants.{OutOfMemory, NoCertificate, NoLocator}
+use Rattle.rpkicert.specs.Profiled.{names_profile}
 use Rattle.rpkicert.specs.Requirements.{TermParts}
 
 -- the name of a locator: that of its file, without what follows the last full stop
 abbrev pub name_of : List ℕ → List ℕ
 name_of path = unwrap_or (path_file_stem path) path
 
--- a certificate is asked for: one that has a profile, or is of the issuer
+-- a certificate is asked for: one that has the profile that was named, or is of the issuer
 abbrev pub asks_cert : TermParts → Bool
-asks_cert terms = is_some terms.inspection || is_some terms.issuer
+asks_cert terms = names_profile terms.inspection || is_some terms.issuer
 
 -- the fault of a reader's error
 abbrev pub no_locator : LocatorError → Fault

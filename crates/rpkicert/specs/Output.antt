@@ -6,7 +6,7 @@ use Rattle.std.specs.List.{flat_map}
 use Rattle.rpki_der.specs.Written.{AppendsBeginning, AppendsCut}
 use Rattle.rpki_fields.specs.declared.rendering.Form.{Form}
 use Rattle.rpki_fields.specs.declared.rendering.Form.TheVariants.{Text, Json}
-use Rattle.rpkicert.specs.declared.fault.Fault.TheVariants.{OutOfMemory, Violated}
+use Rattle.rpkicert.specs.declared.fault.Fault.TheVariants.{OutOfMemory, OtherAlgorithm, Violated}
 use Rattle.rpki_fields.specs.ValueText.{hex_pair}
 use Rattle.base64.specs.Engines.{standard}
 use Rattle.base64.specs.GeneralPurpose.{encode_of}
@@ -95,10 +95,14 @@ pub record OutputParts : Type 0 where
 abbrev pub shown_parts : List ℕ → List ℕ → ℕ → OutputParts
 shown_parts output faults status = record { output = output; faults = faults; status = status }
 
--- the verdict on an object: that all is well; or what the RPKI doesn't use of it, and the status 1
+-- the verdict on an object: what the RPKI doesn't use of it
+abbrev pub objected : Form → Signature → (name said : List ℕ) → OutputParts
+objected form signature name said = shown_parts (verdict form signature name said) [] 1
+
+-- the same; or that all is well
 abbrev pub checked_parts : Form → Signature → (name : List ℕ) → Option (List ℕ) → OutputParts
 checked_parts form signature name None = shown_parts (verdict form signature name (good_text signature)) [] 0
-checked_parts form signature name (Some said) = shown_parts (verdict form signature name said) [] 1
+checked_parts form signature name (Some said) = objected form signature name said
 
 -- the verdict on a fault: what is wrong, and the two values that disagree, which JSON has as members of their own
 abbrev pub fault_verdict : Form → (name : List ℕ) → Fault → Option ToldParts → List ℕ
@@ -113,6 +117,11 @@ checked_fault form name fault t = shown_parts (fault_verdict form name fault t) 
 abbrev pub IsCheckedFault : Form → TermParts → (name : List ℕ) → Object → Fault → OutputParts → Type 0
 IsCheckedFault form terms name x fault s =
     (t : Option ToldParts) × AreTold (values_of terms x fault) t × (s ≡ checked_fault form name fault t)
+
+-- of a certificate of an algorithm that the RPKI doesn't use: which one
+abbrev pub checked_other : Form → (name : List ℕ) → Option (List ℕ) → OutputParts
+checked_other form name None = checked_fault form name OtherAlgorithm None
+checked_other form name (Some said) = objected form Unchecked name said
 
 -- each rule that is broken, by its section, as an item
 abbrev pub rule_item : Violation → List FieldParts
@@ -131,13 +140,14 @@ violated Json name first all =
     (verdict_sheet (signature_in (Violated first)) name (fault_text (Violated first))))
 
 -- The verdict on an object, which doesn't hold for this fault, or holds: where its certificate violates a profile, all
--- of the rules that it breaks.
+-- of the rules that it breaks; where it is of an algorithm that the RPKI doesn't use, which one.
 abbrev pub IsChecked : Form → TermParts → (name : List ℕ) → Object → Option Fault → OutputParts → Type 0
 IsChecked form terms name x None s =
     s ≡ checked_parts form (signature_of (is_some terms.issuer) x) name (objection_to x)
 IsChecked form terms name x (Some (Violated v)) s =
     (all : List Violation) × AreViolations terms.inspection x all
     × (s ≡ shown_parts (violated form name v all) [] (status_of (Violated v)))
+IsChecked form terms name x (Some OtherAlgorithm) s = s ≡ checked_other form name (objection_to x)
 IsChecked form terms name x (Some fault) s = IsCheckedFault form terms name x fault s
 
 -- a fault, where there is one, as a line among the faults, with the values that disagree, and its status

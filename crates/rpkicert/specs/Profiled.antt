@@ -1,6 +1,6 @@
 -- Which profile the certificate of an object has: the one that is asked for, and of a signer that of an end entity.
-use Rattle.std.specs.Prelude.{◌≡◌, ◌⊎◌, ℕ, Bool, true, if◌then◌else◌, List, [], ◌∷◌, Option, Some, None, option_map}
-use Rattle.std.specs.Prelude.{bytes_eq, Result, MatchResult}
+use Rattle.std.specs.Prelude.{◌≡◌, ◌⊎◌, ℕ, Bool, true, false, if◌then◌else◌, List, [], ◌∷◌, Option, Some, None}
+use Rattle.std.specs.Prelude.{option_and_then, option_map, bytes_eq, Result, MatchResult}
 use Rattle.rpki_cert.specs.Cert.{TbsParts}
 use Rattle.rpki_cert.specs.Profile.{rules_of, HasProfile}
 use Rattle.rpki_cert.specs.RuleError.{BreaksWith}
@@ -15,7 +15,7 @@ use Rattle.rpkicert.specs.declared.profile.Inspection.{Inspection}
 use Rattle.rpkicert.specs.declared.violation.Violation.{Violation}
 use Rattle.rpkicert.specs.declared.fault.Fault.{Fault}
 use Rattle.rpkicert.specs.declared.fault.Fault.TheVariants.{Violated, NoCertificate}
-use Rattle.rpkicert.specs.Chosen.{IsChosen}
+use Rattle.rpkicert.specs.Chosen.{is_named, IsChosen}
 use Rattle.rpkicert.specs.Requirements.{signed_of}
 
 -- ---- of one certificate
@@ -96,15 +96,25 @@ inspection_by strict choice = record { choice = choice; strict = strict }
 abbrev pub own_inspection : Option Inspection → Object → Option Inspection
 own_inspection asked x = option_map (λ o. inspection_by (is_strict asked) (Named (end_profile o))) (signed_of x)
 
--- which profile is asked for of a certificate: that of a signer keeps the one of an end entity in place of its own
-abbrev pub choice_for : Choice → Option ObjectParts → Choice
-choice_for (Named profile) o = Named profile
-choice_for Auto None = Auto
-choice_for Auto (Some o) = Named (end_profile o)
+-- which profile is asked for of an object's certificate: that of a signer keeps the one of an end entity in place of
+-- its own; what has no certificate has none, where none is named
+abbrev pub choice_for : Choice → Option ObjectParts → Option TbsParts → Option Choice
+choice_for (Named profile) o cert = Some (Named profile)
+choice_for Auto (Some o) cert = Some (Named (end_profile o))
+choice_for Auto None None = None
+choice_for Auto None (Some t) = Some Auto
+
+abbrev pub inspection_for : Object → Inspection → Option Inspection
+inspection_for x inspection =
+    option_map (inspection_by inspection.strict) (choice_for inspection.choice (signed_of x) (cert_of x))
 
 abbrev pub asked_inspection : Option Inspection → Object → Option Inspection
-asked_inspection asked x =
-    option_map (λ inspection. inspection_by inspection.strict (choice_for inspection.choice (signed_of x))) asked
+asked_inspection asked x = option_and_then (inspection_for x) asked
+
+-- a profile was named, which only a certificate can have
+abbrev pub names_profile : Option Inspection → Bool
+names_profile None = false
+names_profile (Some inspection) = is_named inspection.choice
 
 -- the certificate has the profile that is asked for, and that of an end entity, where it is a signer's
 abbrev pub IsProfiled : Option Inspection → Object → Type 0

@@ -72,13 +72,17 @@ profile_of word =
 abbrev pub choice_of : List ℕ → Option Choice
 choice_of word = if bytes_eq word (codes "auto") then Some Auto else option_map Named (profile_of word)
 
--- how certificates are checked against the profile that was named, if one was; without one there are no names to be lax
--- of
-abbrev pub named_inspection : (lax : Bool) → Option (List ℕ) → Option (Option Inspection)
-named_inspection true None = None
-named_inspection false None = Some None
-named_inspection lax (Some name) =
-    option_map (λ choice. Some (record { choice = choice; strict = not lax })) (choice_of name)
+-- how certificates are checked: against the profile of this choice
+abbrev pub inspected : (lax : Bool) → Choice → Option Inspection
+inspected lax choice = Some (record { choice = choice; strict = not lax })
+
+-- the same of the profile that was named, if one was; for a verdict else of the one of what each certificate says that
+-- it is. Without any there are no names to be lax of.
+abbrev pub named_inspection : (check lax : Bool) → Option (List ℕ) → Option (Option Inspection)
+named_inspection true lax None = Some (inspected lax Auto)
+named_inspection false true None = None
+named_inspection false false None = Some None
+named_inspection check lax (Some name) = option_map (inspected lax) (choice_of name)
 
 -- the files, of which there is one at least
 abbrev pub some_files : Option (List (List ℕ)) → Option (List (List ℕ))
@@ -120,7 +124,7 @@ request_of rows =
     (asked (first_of (codes "issuer") rows) (first_of (codes "at") rows) (form_of (is_given (codes "json") rows))
     (is_given (codes "check") rows) (is_given (codes "recursive") rows) inspection)
     (some_files (all_of (codes "FILE") rows)))
-    (named_inspection (is_given (codes "lax") rows) (first_of (codes "profile") rows))
+    (named_inspection (is_given (codes "check") rows) (is_given (codes "lax") rows) (first_of (codes "profile") rows))
 
 -- what words ask for: the help, the version, or files
 pub data Wanted : Type 0 where

@@ -18,4 +18,4 @@ memory_text = codes "rpkicert: out of memory\n"
 -- how the program is used
 abbrev pub usage_text : List ℕ
 usage_text =
-    codes "usage: rpkicert [--json] [--check] [--profile NAME [--lax]] [--issuer FILE] [--at MOMENT] [-r] FILE..\n"
+    codes "usage: rpkicert [--json] [--check] [--profile NAME] [--lax] [--issuer FILE] [--at MOMENT] [-r] FILE..\n"

@@ -1,7 +1,7 @@
 //! Which profile a certificate is to have.
 
 ghost use Rattle.std.specs.Prelude.{◌≡◌};
-ghost use Rattle.rpkicert.specs.Chosen.{profile_by, IsChosen, IsMark, IsOwnProfile};
+ghost use Rattle.rpkicert.specs.Chosen.{is_named, profile_by, IsChosen, IsMark, IsOwnProfile};
 ghost use Rattle.rpkicert.specs.Request.{choice_of, profile_of};
 
 use rpki_cert::{CertRule, Profile, TbsCert};
@@ -13,6 +13,18 @@ pub enum Choice {
     Named(Profile),
     /// The one of what the certificate says that it is.
     Auto,
+}
+
+impl Choice {
+    /// Whether it is a profile that was named.
+    pub fn is_named(self) -> bool
+        ensures { result ≡ is_named self }
+    {
+        match self {
+            Choice::Named(_) => true,
+            Choice::Auto => false,
+        }
+    }
 }
 
 /// The profile of this name.

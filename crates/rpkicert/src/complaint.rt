@@ -208,8 +208,9 @@ fn wrong_at_end(words: &[String]) -> Wrong<'_>
     match awaited(words) {
         Some(option) => said(b"", option, b" takes a value"),
         None => {
-            if is_among(words, b"--lax") && !is_among(words, b"--profile") {
-                said(b"--lax is for --profile", b"", b"")
+            let profiled = is_among(words, b"--check") || is_among(words, b"--profile");
+            if is_among(words, b"--lax") && !profiled {
+                said(b"--lax is for --check and --profile", b"", b"")
             } else {
                 said(b"no file", b"", b"")
             }

@@ -9,6 +9,7 @@ ghost use Rattle.rpkicert.specs.RequirementsView.{terms_of};
 
 use crate::fault::Fault;
 use crate::output::{Output, file_text, hashed, marked, show, verdict};
+use crate::profile::names_profile;
 use crate::requirements::Requirements;
 use crate::signature::Signature;
 use rpki_fields::{Form, Sheet, locator_sheet};
@@ -29,11 +30,11 @@ fn name_of(file: &str) -> &str
     }
 }
 
-/// Whether a certificate is asked for: one that has a profile, or is of the issuer.
+/// Whether a certificate is asked for: one that has the profile that was named, or is of the issuer.
 fn asks_cert(terms: &Requirements<'_>) -> bool
     ensures { result ≡ asks_cert (terms_of terms.now) }
 {
-    terms.inspection.is_some() || terms.issuer.is_some()
+    names_profile(terms.inspection) || terms.issuer.is_some()
 }
 
 /// The fault of a reader's error. An allocation failure is a fault of its own, and no error of the text.
@@ -128,7 +129,7 @@ fn well(
 }
 
 /// What is shown of the text, which is in the file of this name: it is read as a trust anchor locator (RFC 8630 2.2),
-/// which is a certificate of no profile and of no issuer.
+/// which has no certificate of a profile that was named, nor of an issuer.
 ///
 /// Returns `AllocError` if allocation fails.
 pub fn seen_locator(

@@ -3,8 +3,9 @@
 ghost use Rattle.std.specs.Prelude.{◌≡◌, ◌++◌, false, OnOk, IfOk, Ok, Err, Some, string_bytes};
 ghost use Rattle.rpki_fields.specs.declared.rendering.Form.TheVariants.{Json};
 ghost use Rattle.rpkicert.specs.Output.{name_octet, visible, line, file_text, marked, hash_text, hashed, verdict};
-ghost use Rattle.rpkicert.specs.Output.{verdict_sheet, IsTextOf, IsOutput, IsChecked, checked_parts, checked_fault};
-ghost use Rattle.rpkicert.specs.Output.{fault_line, fault_verdict, status_in, verdict_over, IsCheckedFault};
+ghost use Rattle.rpkicert.specs.Output.{verdict_sheet, objected, IsTextOf, IsOutput, IsChecked, checked_parts};
+ghost use Rattle.rpkicert.specs.Output.{checked_fault, checked_other, fault_line, fault_verdict, status_in};
+ghost use Rattle.rpkicert.specs.Output.{verdict_over, IsCheckedFault};
 ghost use Rattle.rpki_fields.specs.Object.{objection_to};
 ghost use Rattle.rpkicert.specs.OutcomeView.{found_of, finding_of};
 ghost use Rattle.rpkicert.specs.OutputView.{parts_of};
@@ -206,6 +207,25 @@ pub fn verdict(
     }
 }
 
+/// The verdict on an object of whose signatures this was checked: what the RPKI doesn't use of it.
+fn objected(
+    alloc: Global,
+    form: Form,
+    signature: Signature,
+    name: &str,
+    said: &[u8],
+) -> Result<Output, AllocError>
+    ensures { IfOk result (λ s. parts_of s ≡ objected form signature name.now said.now) }
+{
+    let output = verdict(alloc, form, signature, name, said)?;
+    let faults = Vec::new(alloc);
+    Ok(Output {
+        output,
+        faults,
+        status: 1,
+    })
+}
+
 /// The verdict on an object of whose signatures this was checked: that it is well, or what the RPKI doesn't use of it.
 fn checked(
     alloc: Global,
@@ -216,18 +236,11 @@ fn checked(
 ) -> Result<Output, AllocError>
     ensures { IfOk result (λ s. parts_of s ≡ checked_parts form signature name.now (objection_to object.now)) }
 {
-    let faults = Vec::new(alloc);
     match object.objection(alloc)? {
-        Some(said) => {
-            let output = verdict(alloc, form, signature, name, said.as_slice())?;
-            Ok(Output {
-                output,
-                faults,
-                status: 1,
-            })
-        }
+        Some(said) => objected(alloc, form, signature, name, said.as_slice()),
         None => {
             let output = verdict(alloc, form, signature, name, signature.verdict())?;
+            let faults = Vec::new(alloc);
             Ok(Output {
                 output,
                 faults,
@@ -301,6 +314,21 @@ fn checked_fault(
     })
 }
 
+/// The verdict on a certificate of an algorithm that the RPKI doesn't use: which one.
+fn checked_other(
+    alloc: Global,
+    form: Form,
+    name: &str,
+    object: &Object,
+) -> Result<Output, AllocError>
+    ensures { IfOk result (λ s. parts_of s ≡ checked_other form name.now (objection_to object.now)) }
+{
+    match object.objection(alloc)? {
+        Some(said) => objected(alloc, form, Signature::Unchecked, name, said.as_slice()),
+        None => checked_fault(alloc, form, name, Fault::OtherAlgorithm, &None),
+    }
+}
+
 /// The verdict on an object's fault.
 fn checked_told(
     alloc: Global,
@@ -352,6 +380,7 @@ fn checked_wrong(
 {
     match fault {
         Fault::Violated(first) => checked_rules(alloc, form, terms, name, object, first),
+        Fault::OtherAlgorithm => checked_other(alloc, form, name, object),
         fault => checked_told(alloc, form, terms, name, object, fault),
     }
 }

@@ -1,10 +1,12 @@
 //! The profiles of certificates (RFC 6487 4, RFC 9323 2, RFC 8209 3.1).
 
-ghost use Rattle.std.specs.Prelude.{◌≡◌, Some, MatchResult};
+ghost use Rattle.std.specs.Prelude.{◌≡◌, Some, None, MatchResult};
 ghost use Rattle.std.specs.Option.{option_copied};
+ghost use Rattle.rpki_fields.specs.Object.{cert_of};
 ghost use Rattle.rpkicert.specs.Requirements.{signed_of};
-ghost use Rattle.rpkicert.specs.Profiled.{asked_inspection, choice_for, end_profile, own_inspection, Inspects};
-ghost use Rattle.rpkicert.specs.Profiled.{InspectsAs, InspectsBoth, IsProfiled, IsUnprofiled};
+ghost use Rattle.rpkicert.specs.Profiled.{asked_inspection, choice_for, end_profile, names_profile, own_inspection};
+ghost use Rattle.rpkicert.specs.Profiled.{Inspects, InspectsAs, InspectsBoth, IsProfiled, IsUnprofiled};
+ghost use Rattle.rpkicert.specs.declared.choice.Choice.TheVariants.{Auto};
 
 use crate::alone::signed;
 use crate::choice::{Choice, chosen};
@@ -55,16 +57,26 @@ pub fn own_inspection(asked: Option<Inspection>, object: &Object) -> Option<Insp
     }
 }
 
+/// The profile of what the object's certificate says that it is, where it has one.
+fn own_choice(cert: Option<&TbsCert>) -> Option<Choice>
+    ensures { result ≡ choice_for Auto None (option_copied cert.entry) }
+{
+    match cert {
+        Some(_) => Some(Choice::Auto),
+        None => None,
+    }
+}
+
 /// Which profile the object's certificate is to have, where this is asked for: that of a signer keeps the one of an end
-/// entity in place of its own.
-fn choice_for(choice: Choice, object: &Object) -> Choice
-    ensures { result ≡ choice_for choice (signed_of object.now) }
+/// entity in place of its own; what has no certificate has none, where none is named.
+fn choice_for(choice: Choice, object: &Object) -> Option<Choice>
+    ensures { result ≡ choice_for choice (signed_of object.now) (cert_of object.now) }
 {
     match choice {
-        Choice::Named(profile) => Choice::Named(profile),
+        Choice::Named(profile) => Some(Choice::Named(profile)),
         Choice::Auto => match signed(object) {
-            Some(object) => Choice::Named(end_profile(object)),
-            None => Choice::Auto,
+            Some(object) => Some(Choice::Named(end_profile(object))),
+            None => own_choice(object.cert()),
         },
     }
 }
@@ -74,12 +86,24 @@ pub fn asked_inspection(asked: Option<Inspection>, object: &Object) -> Option<In
     ensures { result ≡ asked_inspection asked object.now }
 {
     match asked {
-        Some(inspection) => {
-            let choice = choice_for(inspection.choice, object);
-            let strict = inspection.strict;
-            Some(Inspection { choice, strict })
-        }
+        Some(inspection) => match choice_for(inspection.choice, object) {
+            Some(choice) => {
+                let strict = inspection.strict;
+                Some(Inspection { choice, strict })
+            }
+            None => None,
+        },
         None => None,
+    }
+}
+
+/// Whether a profile was named, which only a certificate can have.
+pub fn names_profile(asked: Option<Inspection>) -> bool
+    ensures { result ≡ names_profile asked }
+{
+    match asked {
+        Some(inspection) => inspection.choice.is_named(),
+        None => false,
     }
 }
 
@@ -136,8 +160,8 @@ fn inspect_both(
 /// Whether the object's certificate has the profile that is asked for, if one is; and, where it is that of a signer,
 /// that of an end entity.
 ///
-/// Returns `NoCertificate` for a revocation list that is to have a profile; `Violated` with the rule that is broken
-/// first.
+/// Returns `NoCertificate` for a revocation list that is to have a profile by name; `Violated` with the rule that is
+/// broken first.
 pub fn profiled(asked: Option<Inspection>, object: &Object) -> Result<(), Fault>
     ensures { MatchResult result (λ _. IsProfiled asked object.now) (IsUnprofiled asked object.now) }
 {

@@ -3,10 +3,10 @@
 ghost use Rattle.std.specs.Prelude.{◌≡◌, map, codes, IfOk, false, option_map, string_bytes};
 ghost use Rattle.clap.specs.Words.{all_of, app_of, first_of, rule_of};
 ghost use Rattle.rpkicert.specs.Request.{flag, lettered, valued, files_rule, command_app, matched, is_given};
-ghost use Rattle.rpkicert.specs.Request.{form_of, named_inspection, some_files, request_of, with_files};
+ghost use Rattle.rpkicert.specs.Request.{form_of, inspected, named_inspection, some_files, request_of, with_files};
 ghost use Rattle.rpkicert.specs.RequestView.{asked_of, rows_in};
 
-use crate::choice::choice_of;
+use crate::choice::{Choice, choice_of};
 use crate::profile::Inspection;
 use clap::error::ErrorKind;
 use clap::{Arg, ArgAction, ArgMatches, Command};
@@ -119,20 +119,31 @@ fn form_of(json: bool) -> Form
     if json { Form::Json } else { Form::Text }
 }
 
-/// How a certificate is checked against the profile of this name, if one is named. None if there is no profile of that
-/// name, or none is named that names are not to be checked against.
-fn named_inspection(lax: bool, name: Option<&str>) -> Option<Option<Inspection>>
-    ensures { result ≡ named_inspection lax (option_map (λ name. name.now) name.entry) }
+/// How a certificate is checked against the profile of this choice.
+fn inspected(lax: bool, choice: Choice) -> Option<Inspection>
+    ensures { result ≡ inspected lax choice }
+{
+    Some(Inspection {
+        choice,
+        strict: !lax,
+    })
+}
+
+/// How a certificate is checked against the profile of this name, if one is named; for a verdict, else against the one
+/// of what it says that it is. None if there is no profile of that name, or there is none that names are not to be
+/// checked against.
+fn named_inspection(check: bool, lax: bool, name: Option<&str>) -> Option<Option<Inspection>>
+    ensures { result ≡ named_inspection check lax (option_map (λ name. name.now) name.entry) }
 {
     match name {
         Some(name) => match choice_of(name.as_bytes()) {
-            Some(choice) => Some(Some(Inspection {
-                choice,
-                strict: !lax,
-            })),
+            Some(choice) => Some(inspected(lax, choice)),
             None => None,
         },
         None => {
+            if check {
+                return Some(inspected(lax, Choice::Auto));
+            }
             if lax {
                 return None;
             }
@@ -155,15 +166,17 @@ fn some_files<'m, 'a>(files: Option<&'m [&'a str]>) -> Option<&'m [&'a str]>
 impl<'m, 'a> Request<'m, 'a, 'a> {
     /// What is asked for of files: how objects are printed, whether those in folders are, a profile, an issuer and a
     /// moment, perhaps, and the files.
-    /// None if there are none, or what belongs to a profile is asked for without one.
+    /// None if there are none, or what belongs to a profile is asked for without one and without a verdict.
     pub fn of(matches: &'m ArgMatches<'a>) -> Option<Request<'m, 'a, 'a>>
         ensures { option_map asked_of result ≡ request_of (rows_in matches.entry.now) }
     {
-        let inspection = named_inspection(is_given(matches, "lax"), matches.get_str("profile"))?;
+        let check = is_given(matches, "check");
+        let lax = is_given(matches, "lax");
+        let inspection = named_inspection(check, lax, matches.get_str("profile"))?;
         let files = some_files(matches.get_raw("FILE"))?;
         Some(Request {
             form: form_of(is_given(matches, "json")),
-            check: is_given(matches, "check"),
+            check,
             recursive: is_given(matches, "recursive"),
             inspection,
             issuer: matches.get_str("issuer"),

@@ -2,7 +2,7 @@
 
 /// How the program is used.
 pub const USAGE: &[u8] =
-    b"usage: rpkicert [--json] [--check] [--profile NAME [--lax]] [--issuer FILE] [--at MOMENT] \
+    b"usage: rpkicert [--json] [--check] [--profile NAME] [--lax] [--issuer FILE] [--at MOMENT] \
 [-r] FILE..\n";
 
 /// The program's name and version.
@@ -21,7 +21,7 @@ pub const NOT_UTF8: &[u8] = b"rpkicert: an argument is not UTF-8\n";
 pub const HELP: &[u8] = b"\
 rpkicert - verify and print the objects of a repository of the RPKI
 
-usage: rpkicert [--json] [--check] [--profile NAME [--lax]] [--issuer FILE]
+usage: rpkicert [--json] [--check] [--profile NAME] [--lax] [--issuer FILE]
                 [--at MOMENT] [-r] FILE..
        rpkicert -h | --help
        rpkicert --version
@@ -49,17 +49,17 @@ disagree both are told: the one that was found, and the one that is expected.
   --json       print an object of JSON a line
   --check      print a verdict a line and file: its name, and OK, OK, issuer not
                checked, of a locator OK, certificate not checked, or what is
-               wrong; of a profile each rule that is broken,
-               a line each; with --json as an object of JSON, with file,
-               signature, verdict, found and expected, and violations.
-               --profile auto holds certificates to all that is known of
-               their kind
+               wrong; of a profile each rule that is broken, a line each; with
+               --json as an object of JSON, with file, signature, verdict,
+               found and expected, and violations. The profile is auto where
+               none is named
   --profile P  hold each certificate, and that of the signer of each signed
                object, to the profile of a trust anchor (ta), a certification
                authority (ca), an end entity (ee), one without subject
                information access (detached, RFC 9323), a BGPsec router
-               (router), or what the certificate says that it is (auto)
-  --lax        with --profile, don't hold the names to the profile
+               (router), or what the certificate says that it is (auto), which
+               asks nothing of lists and locators
+  --lax        don't hold the names to the profile
   --issuer F   hold each certificate, that of the signer of each signed object,
                and each revocation list to its issuer, whose certificate alone
                is in F: to the signature, the name, the key identifiers, and known

@@ -1,8 +1,8 @@
-use Rattle.std.proofs.Common.{◌≡◌, ◌∙◌, sym, ap, ap₂, map, refl, rules}
+use Rattle.std.proofs.Common.{◌≡◌, ◌∙◌, sym, ap, map, refl, rules}
 use Rattle.std.specs.Prelude.{Some, None, codes}
 use Rattle.clap.specs.Words.{found_of}
 use Rattle.clap.proofs.WalkLemmas.{first_value-rows, raw_values-rows}
-use Rattle.rpkicert.specs.Request.{form_of, named_inspection, some_files}
+use Rattle.rpkicert.specs.Request.{form_of, some_files}
 use Rattle.rpkicert.specs.RequestView.{rows_in}
 use Rattle.rpkicert.proofs.RequestLaws.{of-parts, of-all}
 use Rattle.rpkicert.proofs.request.Request.of.Goals as goal
@@ -11,8 +11,8 @@ pub returns-in_err-inspection : goal.returns-in_err-inspection
 returns-in_err-inspection c =
     let none : c.from_residual.result ≡ None = search rules in
     let inspection : c.named_inspection.result ≡ None = search rules in
-    let given = c.named_inspection.ensures ∙ ap₂ named_inspection c.is_given.ensures
-    (c.get_str.ensures ∙ first_value-rows (found_of c.args.matches.now) (codes "profile")) in
+    let named = c.get_str.ensures ∙ first_value-rows (found_of c.args.matches.now) (codes "profile") in
+    let given = c.named_inspection.ensures ∙ rw (c.is_given-check.ensures, c.is_given-lax.ensures, named) refl in
     rw none (of-parts (rows_in c.args.matches.now) None _ (sym inspection ∙ given) refl)
 
 pub returns-in_err-files : goal.returns-in_err-files
@@ -20,25 +20,25 @@ returns-in_err-files c =
     let none : c.from_residual-in_err-files.result ≡ None = search rules in
     let inspection : c.named_inspection.result ≡ Some c.in_ok-inspection.inspection = search rules in
     let files : c.some_files.result ≡ None = search rules in
-    let given = c.named_inspection.ensures ∙ ap₂ named_inspection c.is_given.ensures
-    (c.get_str.ensures ∙ first_value-rows (found_of c.args.matches.now) (codes "profile")) in
-    let named = c.some_files.ensures ∙ ap some_files
+    let named = c.get_str.ensures ∙ first_value-rows (found_of c.args.matches.now) (codes "profile") in
+    let given = c.named_inspection.ensures ∙ rw (c.is_given-check.ensures, c.is_given-lax.ensures, named) refl in
+    let filed = c.some_files.ensures ∙ ap some_files
     (c.get_raw.ensures ∙ raw_values-rows (found_of c.args.matches.now) (codes "FILE")) in
     rw none (of-parts (rows_in c.args.matches.now) (Some c.in_ok-inspection.inspection) None (sym inspection ∙ given)
-    (rw files at named))
+    (rw files at filed))
 
 pub returns : goal.returns
 returns c =
     let rows = rows_in c.args.matches.now in
     let inspection : c.named_inspection.result ≡ Some c.in_ok-inspection.inspection = search rules in
     let files : c.some_files.result ≡ Some c.in_ok-files.files = search rules in
-    let given = c.named_inspection.ensures ∙ ap₂ named_inspection c.is_given.ensures
-    (c.get_str.ensures ∙ first_value-rows (found_of c.args.matches.now) (codes "profile")) in
+    let named = c.get_str.ensures ∙ first_value-rows (found_of c.args.matches.now) (codes "profile") in
+    let given = c.named_inspection.ensures ∙ rw (c.is_given-check.ensures, c.is_given-lax.ensures, named) refl in
     let issuer = c.get_str-2.ensures ∙ first_value-rows (found_of c.args.matches.now) (codes "issuer") in
     let moment = c.get_str-3.ensures ∙ first_value-rows (found_of c.args.matches.now) (codes "at") in
-    let named = c.some_files.ensures ∙ ap some_files
+    let filed = c.some_files.ensures ∙ ap some_files
     (c.get_raw.ensures ∙ raw_values-rows (found_of c.args.matches.now) (codes "FILE")) in
     of-all rows _ _ _ _ _ c.in_ok-inspection.inspection (map (λ file. file.now) c.in_ok-files.files.now) issuer moment
-    (c.form_of.ensures ∙ ap form_of c.is_given-2.ensures) c.is_given-3.ensures c.is_given-4.ensures
+    (c.form_of.ensures ∙ ap form_of c.is_given.ensures) c.is_given-check.ensures c.is_given-2.ensures
     (sym inspection ∙ given)
-    (rw files at named)
+    (rw files at filed)
