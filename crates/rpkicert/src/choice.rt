@@ -7,7 +7,7 @@ ghost use Rattle.rpkicert.specs.Request.{choice_of, profile_of};
 use rpki_cert::{CertRule, Profile, TbsCert};
 
 /// The profile that a certificate is to have.
-#[derive(Clone, Copy, Debug, PartialEq, Eq)]
+#[derive(Clone, Copy, Debug)]
 pub enum Choice {
     /// This one.
     Named(Profile),

@@ -20,7 +20,7 @@ use std::io::ErrorKind;
 const OTHER_ALGORITHM: &str = "RFC 7935 2, 3: of an algorithm that the RPKI doesn't use";
 
 /// Why a file could not be read to its end.
-#[derive(Clone, Copy, Debug, PartialEq, Eq)]
+#[derive(Clone, Copy, Debug)]
 pub enum Cause {
     /// There is no file of this name.
     Absent,
@@ -59,7 +59,7 @@ impl Cause {
 }
 
 /// What has to hold of an object, in the order in which it is looked at.
-#[derive(Clone, Copy, Debug, PartialEq, Eq)]
+#[derive(Clone, Copy, Debug)]
 pub enum Clause {
     /// The period of the certificate (RFC 6487 7.2).
     Period,

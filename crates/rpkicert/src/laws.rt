@@ -1,13 +1,12 @@
 //! Laws of what is printed: each function does nothing, and its contract is the law.
 
-ghost use Rattle.std.specs.Prelude.{◌≡◌, ◌↔◌, ℕ, Bool, List, Option, IsTrue};
+ghost use Rattle.std.specs.Prelude.{ℕ, Bool, List, Option};
 ghost use Rattle.rpki_fields.specs.declared.rendering.Form.{Form};
 ghost use Rattle.rpki_fields.specs.AtMostOne.{AtMostOne};
 ghost use Rattle.rpki_fields.specs.declared.object.Object.{Object};
 ghost use Rattle.rpki_cert.specs.Cert.{TbsParts};
 ghost use Rattle.rpkicert.specs.Chosen.{IsChosen};
 ghost use Rattle.rpkicert.specs.declared.choice.Choice.{Choice};
-ghost use Rattle.rpkicert.specs.declared.violation.Violation.{Violation as BrokenRule};
 ghost use Rattle.rpkicert.specs.declared.signature.Signature.{Signature};
 ghost use Rattle.rpkicert.specs.Outcome.{IsObject, OutcomeParts, IsFoundAlone};
 ghost use Rattle.rpkicert.specs.Moment.{Clock};
@@ -16,9 +15,6 @@ ghost use Rattle.rpkicert.specs.Requirements.{TermParts};
 ghost use Rattle.rpkicert.specs.Output.{IsTextOf, HasOneGoodAnswer, HasOneGoodText};
 ghost use Rattle.rpkicert.specs.Run.{Holds};
 ghost use Rattle.rpkicert.specs.Under.{Lists, IsKnownUnder, RunsAlikeUnder};
-
-use crate::violation::Violation;
-use rpki::repository::error::ValidationError;
 
 /// Octets are one object at most. With the name of a file it has one text in each form.
 pub fn one_text()
@@ -47,10 +43,4 @@ pub fn one_output()
 /// Of a certificate one profile at most is chosen.
 pub fn one_profile()
     ensures { (choice : Choice) (t : TbsParts) → AtMostOne (IsChosen choice t) }
-{}
-
-/// Violations are equal exactly where their rules are one and their errors are equal.
-pub fn equal_violations_have_equal_parts()
-    ensures { (v w : BrokenRule) → IsTrue (⟦<Violation as PartialEq>⟧.eq v w)
-        ↔ ((v.rule ≡ w.rule) × IsTrue (⟦<ValidationError as PartialEq>⟧.eq v.error w.error)) }
 {}

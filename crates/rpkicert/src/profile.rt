@@ -20,7 +20,7 @@ use rpki_objects::SignedObject;
 const CHECKLIST: &[u8] = &[42, 134, 72, 134, 247, 13, 1, 9, 16, 1, 48];
 
 /// How a certificate is checked against a profile.
-#[derive(Clone, Copy, Debug, PartialEq, Eq)]
+#[derive(Clone, Copy, Debug)]
 pub struct Inspection {
     /// Which profile.
     pub choice: Choice,

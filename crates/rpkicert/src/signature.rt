@@ -11,7 +11,7 @@ use rpki_fields::Object;
 use std::alloc::{AllocError, Global};
 
 /// What was checked of an object's signatures.
-#[derive(Clone, Copy, Debug, PartialEq, Eq)]
+#[derive(Clone, Copy, Debug)]
 pub enum Signature {
     /// Each is good: the object's own, that of its certificate, and so on, up to the issuer's.
     Good,

@@ -8,7 +8,7 @@ use rpki_cert::CertRule;
 use std::alloc::{AllocError, Global};
 
 /// A rule of a profile that a certificate breaks, and how.
-#[derive(Clone, Copy, Debug, PartialEq, Eq)]
+#[derive(Clone, Copy, Debug)]
 pub struct Violation {
     /// The rule.
     pub rule: CertRule,

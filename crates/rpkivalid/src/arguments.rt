@@ -12,7 +12,7 @@ use std::io::ErrorKind;
 use std::{env, io};
 
 /// Why there are no words.
-#[derive(Clone, Copy, Debug, PartialEq, Eq)]
+#[derive(Clone, Copy, Debug)]
 pub enum Wordless {
     /// One of the arguments is not UTF-8.
     Encoding,
