@@ -1,12 +1,14 @@
 #!/usr/bin/env python3
 """Makes the rows of RSA signatures: crates/rsa_rows/stdin, a row the bits of a key, a message and a signature in
 hexadecimal digits, crates/rsa_rows/stdout, what the definition says of each by Python's numbers, and
-tests/signatures/names.txt. Keys are new, by openssl, which is asked the same of each key that is accepted.
+tests/signatures/names.txt. Keys are new, by openssl, or by Python's numbers where it makes none of a size: an odd one,
+or one whose highest limb is to be the least or the greatest. openssl is asked the same of each key that is accepted.
 Needs openssl.
 
 usage: tests/signatures/rows.py"""
 import hashlib
 import os
+import random
 import sys
 import tempfile
 
@@ -14,7 +16,7 @@ sys.dont_write_bytecode = True
 sys.path.append(os.path.join(os.path.dirname(os.path.abspath(__file__)), "..", "python"))
 
 from judges.signatures import answer
-from makers.rsa import PREFIX, Key, bits_of, encoded, openssl_says
+from makers.rsa import PREFIX, Key, bits_of, encoded, key_near, openssl_says
 from programs import TOP
 
 MESSAGE = b"abc"
@@ -31,7 +33,7 @@ def good(folder):
     for name, message in (("abc", MESSAGE), ("nothing", b""), ("1,000 octets", b"a" * 1000)):
         key = key_in(folder)
         yield f"message {name}", key.octets, key.exponent, message, key.signed_by_openssl(message)
-    for bits in (2041, 2047, 2049, 2056, 2112, 3072, 4095, 4096):
+    for bits in (2056, 2112, 3072, 4096):
         key = key_in(folder, bits)
         yield f"{bits} bits", key.octets, key.exponent, MESSAGE, key.signed_by_openssl(MESSAGE)
     for exponent in (3, 5, 17, 257, 65539, 2**32 + 15, 2**63 + 29, 2**64 - 59):
@@ -124,10 +126,26 @@ def other_keys(folder):
     yield "key: no modulus", b"", key.exponent, MESSAGE, b""
 
 
+def sizes(_):
+    """Keys of an exact size, and keys of the least and the greatest moduli of a size: a good signature, and a changed
+    one."""
+    cases = {f"{bits} bits": (bits, random.randrange(1 << bits - 1, 1 << bits), 2)
+             for bits in (2041, 2047, 2049, 2050, 2111, 3073, 4095)}
+    for bits in (2048, 3072, 4096):
+        cases[f"{bits} bits, the least"] = bits, 1 << bits - 1, 2
+        cases[f"{bits} bits, the greatest"] = bits, (1 << bits) - 1, -2
+    for name, (bits, number, step) in cases.items():
+        key = key_near(number, step)
+        assert key.modulus.bit_length() == bits, name
+        signature = key.sign(MESSAGE)
+        yield name, key.octets, key.exponent, MESSAGE, signature
+        yield f"{name}, changed", key.octets, key.exponent, MESSAGE, signature[:-1] + bytes([signature[-1] ^ 1])
+
+
 def main():
     names, given, expected = [], [], []
     with tempfile.TemporaryDirectory() as folder:
-        for rows in (good, changed, other_encodings, forged, other_keys):
+        for rows in (good, sizes, changed, other_encodings, forged, other_keys):
             for name, modulus, exponent, message, signature in rows(folder):
                 said = answer(modulus, exponent, message, signature)
                 bits = bits_of(modulus, exponent)

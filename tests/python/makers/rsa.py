@@ -1,6 +1,9 @@
-"""Keys of RSA that openssl makes, and signatures (RFC 8017 8.2.1) by Python's numbers."""
+"""Keys of RSA that openssl makes, or of a modulus that is near a number, and signatures (RFC 8017 8.2.1) by Python's
+numbers."""
 import hashlib
+import math
 import os
+import random
 import subprocess
 
 import lax
@@ -35,19 +38,12 @@ def encoded(size, message, prefix=PREFIX, kind=1, padding=None, separator=b"\0",
     return bytes([0, kind]) + padding + separator + info
 
 
-class Key:
-    """A key of so many bits in a file, which openssl makes where it isn't there."""
+class Numbers:
+    """A key of these numbers."""
 
-    def __init__(self, path, bits=2048, exponent=65537):
-        self.path, self.exponent = path, exponent
-        if not os.path.exists(path):
-            openssl("genpkey", "-algorithm", "RSA", "-pkeyopt", f"rsa_keygen_bits:{bits}", "-pkeyopt",
-                    f"rsa_keygen_pubexp:{exponent}", "-out", path)
-        # RFC 8017 A.1.2.
-        whole = openssl("rsa", "-in", path, "-outform", "DER", "-traditional")
-        numbers = [int.from_bytes(contents, "big") for _, contents, _ in lax.values(lax.contents(whole))]
-        self.modulus, self.private = numbers[1], numbers[3]
-        self.octets = octets_of(self.modulus)
+    def __init__(self, modulus, exponent, private):
+        self.modulus, self.exponent, self.private = modulus, exponent, private
+        self.octets = octets_of(modulus)
         self.bits = bits_of(self.octets, exponent)
         self.identifier = hashlib.sha1(self.bits).digest()  # RFC 6487 4.8.2
 
@@ -58,9 +54,40 @@ class Key:
     def sign(self, message):
         return self.power(encoded(len(self.octets), message))
 
+
+class Key(Numbers):
+    """A key of so many bits in a file, which openssl makes where it isn't there."""
+
+    def __init__(self, path, bits=2048, exponent=65537):
+        self.path = path
+        if not os.path.exists(path):
+            openssl("genpkey", "-algorithm", "RSA", "-pkeyopt", f"rsa_keygen_bits:{bits}", "-pkeyopt",
+                    f"rsa_keygen_pubexp:{exponent}", "-out", path)
+        # RFC 8017 A.1.2.
+        whole = openssl("rsa", "-in", path, "-outform", "DER", "-traditional")
+        numbers = [int.from_bytes(contents, "big") for _, contents, _ in lax.values(lax.contents(whole))]
+        super().__init__(numbers[1], exponent, numbers[3])
+
     def signed_by_openssl(self, message):
         path = write(os.path.dirname(self.path), "message", message)
         return openssl("dgst", "-sha256", "-sign", self.path, path)
+
+
+def prime_from(number, step):
+    """The first odd number on the way that is as good as prime (Fermat's test), and fits an exponent of 65537."""
+    if number % 2 == 0:
+        number += step // 2
+    while any(number % it == 0 for it in (3, 5, 7, 11, 13)) or number % 65537 == 1 or pow(2, number - 1, number) != 1:
+        number += step
+    return number
+
+
+def key_near(number, step):
+    """A key whose modulus is next to a number, from there up (a step of 2) or down (-2)."""
+    half = number.bit_length() // 2
+    first = prime_from(random.getrandbits(half - 2) | 3 << half - 2, 2)
+    second = prime_from(-(-number // first) if step > 0 else number // first, step)
+    return Numbers(first * second, 65537, pow(65537, -1, math.lcm(first - 1, second - 1)))
 
 
 def openssl_says(folder, bits, message, signature):
