@@ -12,8 +12,10 @@ pub mod ExceptionsText
 pub mod Listed
 pub mod Quoted
 pub mod Lines
+pub mod Made
 pub mod Route
 pub mod Alone
 pub mod Json
+pub mod StayRtr
 pub mod Form
 pub mod Metrics

@@ -1,6 +1,7 @@
 -- The forms with a line a payload. Those of csv and BIRD are prefixes that may be announced alone.
-use Rattle.std.specs.Prelude.{ℕ, List, [], ◌∷◌, ◌++◌, codes, decimal, drop}
+use Rattle.std.specs.Prelude.{ℕ, Bool, true, false, not, List, [], ◌∷◌, ◌++◌, if◌then◌else◌, codes, decimal, drop}
 use Rattle.std.specs.List.{flat_map}
+use Rattle.std.specs.Net.Addr.{is_ipv4}
 use Rattle.std.specs.Net.Text.{ip_text}
 use Rattle.rpki_contents.specs.Aspa.{AspaParts}
 use Rattle.rpki_resources.specs.Text.{as_number_text, prefix_text}
@@ -41,19 +42,24 @@ client_lines p = flat_map (client_line p.name) p.timed
 abbrev pub client_text : List PayloadParts → List ℕ
 client_text all = codes "ASN,IP Prefix,Max Length,Trust Anchor,Expires\n" ++ flat_map client_lines all
 
--- ---- OpenBGPD, bgpd.conf(5): `10.0.0.0/8 maxlen 24 source-as 64496` in a set
+-- ---- OpenBGPD, bgpd.conf(5): `10.0.0.0/8 maxlen 24 source-as 64496 expires 1798761599` in a set, with the second that
+-- is the end
 
 unfoldable pub openbgpd_length : Vrp → List ℕ
 openbgpd_length v = codes " maxlen " ++ decimal v.max_length
 
 unfoldable pub openbgpd_number : Vrp → List ℕ
-openbgpd_number v = codes " source-as " ++ decimal v.as_id ++ 10 ∷ []
+openbgpd_number v = codes " source-as " ++ decimal v.as_id
 
-abbrev pub openbgpd_line : Vrp → List ℕ
-openbgpd_line v = codes "    " ++ vrp_prefix v ++ openbgpd_length v ++ openbgpd_number v
+unfoldable pub openbgpd_end : ℕ → List ℕ
+openbgpd_end n = codes " expires " ++ decimal n ++ 10 ∷ []
 
-abbrev pub openbgpd_origins : List Vrp → List ℕ
-openbgpd_origins vrps = codes "roa-set {\n" ++ flat_map openbgpd_line vrps ++ codes "}\n"
+abbrev pub openbgpd_line : TimedVrp → List ℕ
+openbgpd_line t =
+    codes "    " ++ vrp_prefix t.vrp ++ openbgpd_length t.vrp ++ openbgpd_number t.vrp ++ openbgpd_end t.expires
+
+abbrev pub openbgpd_origins : List TimedVrp → List ℕ
+openbgpd_origins all = codes "roa-set {\n" ++ flat_map openbgpd_line all ++ codes "}\n"
 
 -- `customer-as 64496 provider-as { 64499, 64501 }` in a set
 
@@ -74,15 +80,31 @@ abbrev pub openbgpd_customers : List AspaParts → List ℕ
 openbgpd_customers [] = []
 openbgpd_customers (x ∷ xs) = openbgpd_set (x ∷ xs)
 
-abbrev pub openbgpd_text : List Vrp → List AspaParts → List ℕ
-openbgpd_text vrps customers = openbgpd_origins vrps ++ openbgpd_customers customers
+abbrev pub openbgpd_text : List TimedVrp → List AspaParts → List ℕ
+openbgpd_text all customers = openbgpd_origins all ++ openbgpd_customers customers
 
--- ---- BIRD 2: `route 10.0.0.0/8 max 24 as 64496;` of the protocol `static`
+-- ---- BIRD 2: `route 10.0.0.0/8 max 24 as 64496;` of a protocol `static` for each family of addresses, each of which
+-- fills a table of its own
 
 abbrev pub bird_line : Vrp → List ℕ
 bird_line v =
     codes "route " ++ vrp_prefix v ++ codes " max " ++ decimal v.max_length ++ codes " as " ++ decimal v.as_id
     ++ codes ";\n"
 
+-- its addresses are of version 4, or of version 6
+abbrev pub is_of_family : (is_v4 : Bool) → Vrp → Bool
+is_of_family true v = is_ipv4 v.addr
+is_of_family false v = not (is_ipv4 v.addr)
+
+-- its line, if they are
+abbrev pub bird_route : Bool → Vrp → List ℕ
+bird_route is_v4 v = if is_of_family is_v4 v then bird_line v else []
+
+abbrev pub bird_routes : Bool → List Vrp → List ℕ
+bird_routes is_v4 vrps = flat_map (bird_route is_v4) vrps
+
 abbrev pub bird_text : List Vrp → List ℕ
-bird_text vrps = flat_map bird_line vrps
+bird_text vrps =
+    codes "roa4 table ROAS4;\nroa6 table ROAS6;\n\nprotocol static {\n    roa4 { table ROAS4; };\n"
+    ++ bird_routes true vrps ++ codes "}\n\nprotocol static {\n    roa6 { table ROAS6; };\n" ++ bird_routes false vrps
+    ++ codes "}\n"

@@ -7,6 +7,7 @@ use Rattle.rpki_payloads.specs.declared.timed.TimedVrp.{TimedVrp}
 use Rattle.rpki_payloads.specs.declared.vap.CustomerProvider.{CustomerProvider}
 use Rattle.rpki_payloads.specs.declared.vrp.Vrp.{Vrp}
 use Rattle.rpki_payloads.specs.Sets.{IsSetOf}
+use Rattle.rpki_payloads.specs.Timed.{AreLatest}
 use Rattle.rpki_payloads.specs.Vap.{pair_cmp}
 use Rattle.rpki_payloads.specs.Vrp.{vrp_cmp}
 
@@ -28,6 +29,10 @@ payload_parts name vrps timed pairs keys tally =
 -- the prefixes of all locators, each once, in order
 abbrev pub AreUnited : List PayloadParts → List Vrp → Type 0
 AreUnited all = IsSetOf vrp_cmp (Contains (flat_map (λ p. p.vrps) all))
+
+-- these with their ends: the latest end of each under any locator
+abbrev pub AreUnitedTimed : List PayloadParts → List TimedVrp → Type 0
+AreUnitedTimed all = AreLatest (flat_map (λ p. p.timed) all)
 
 -- the providers of all locators, each once, in order
 abbrev pub AreUnitedPairs : List PayloadParts → List CustomerProvider → Type 0

@@ -1,10 +1,9 @@
 -- Keys of BGPsec routers (RFC 8210 5.10, RFC 8635).
-use Rattle.std.specs.Prelude.{◌==◌, ◌&&◌, ℕ, List, [], ◌∷◌, nat_lt, if◌then◌else◌}
+use Rattle.std.specs.Prelude.{◌&&◌, ℕ, List, [], ◌∷◌, nat_lt, if◌then◌else◌}
 use Rattle.std.specs.Ordering.{nat_cmp, ordering_then}
 use Rattle.std.specs.Cmp.Lexicographic.{slice_cmp}
 use Rattle.std.specs.declared.cmp.Ordering.{Ordering}
 use Rattle.rpki_resources.specs.declared.block.Block.{Block}
-use Rattle.rpki_resources.specs.Text.{as_number_text, range_text}
 use Rattle.rpki_payloads.specs.declared.router_key.RouterKey.{RouterKey}
 
 -- by the AS numbers, the identifier, and the key
@@ -12,11 +11,6 @@ abbrev pub key_cmp : RouterKey → RouterKey → Ordering
 key_cmp v w =
     ordering_then (nat_cmp v.first w.first) (ordering_then (nat_cmp v.last w.last)
     (ordering_then (slice_cmp nat_cmp v.identifier w.identifier) (slice_cmp nat_cmp v.info w.info)))
-
--- its AS numbers: `AS64496`, or `AS64496-AS64511`
-abbrev pub numbers_text : ℕ → ℕ → List ℕ
-numbers_text first last =
-    if first == last then as_number_text first else range_text (as_number_text first) (as_number_text last)
 
 abbrev pub router_key : (first last : ℕ) (identifier info : List ℕ) → RouterKey
 router_key first last identifier info =

@@ -3,18 +3,21 @@
 ghost use Rattle.std.specs.Prelude.{◌≡◌, ◌++◌, OnOk, IfOk, drop, string_bytes};
 ghost use Rattle.std.specs.List.{flat_map};
 ghost use Rattle.rpki_payloads.specs.Json.{json_string, json_number, json_prefix, json_length, json_name};
-ghost use Rattle.rpki_payloads.specs.Json.{json_vrp, json_vrps, json_keys, json_vap, json_array, json_text};
+ghost use Rattle.rpki_payloads.specs.Json.{json_vrp, json_vrps, json_keys, json_vap, json_array, json_arrays};
+ghost use Rattle.rpki_payloads.specs.Json.{json_text};
 
 use crate::json_keys::push_keys;
 use crate::json_vaps::vap_objects;
+use crate::made::{key_count, push_metadata, vrp_count};
 use crate::payloads::Payloads;
 use crate::vap::Vap;
 use crate::vrp::Vrp;
+use rpki::repository::x509::Time;
 use serde_json::Value;
 use std::alloc::{AllocError, Global};
 
 /// A text as a string of JSON, in quotation marks (RFC 8259 7). What is not UTF-8 is replaced.
-fn json_string(alloc: Global, text: &[u8]) -> Result<String, AllocError>
+pub(crate) fn json_string(alloc: Global, text: &[u8]) -> Result<String, AllocError>
     ensures { IfOk result (λ json. string_bytes json ≡ json_string text.now) }
 {
     let text = String::from_utf8_lossy(alloc, text)?;
@@ -31,7 +34,7 @@ fn number_text(alloc: Global, vrp: Vrp) -> Result<String, AllocError>
 
 /// The member with the prefix, after another one.
 #[tactic(auto, unfolding(crate::specs::Json::json_prefix))]
-fn prefix_text(alloc: Global, vrp: Vrp) -> Result<String, AllocError>
+pub(crate) fn prefix_text(alloc: Global, vrp: Vrp) -> Result<String, AllocError>
     ensures { IfOk result (λ text. string_bytes text ≡ json_prefix vrp) }
 {
     let prefix = vrp.prefix();
@@ -40,7 +43,7 @@ fn prefix_text(alloc: Global, vrp: Vrp) -> Result<String, AllocError>
 
 /// The member with the maximum length, after another one.
 #[tactic(auto, unfolding(crate::specs::Json::json_length))]
-fn length_text(alloc: Global, vrp: Vrp) -> Result<String, AllocError>
+pub(crate) fn length_text(alloc: Global, vrp: Vrp) -> Result<String, AllocError>
     ensures { IfOk result (λ text. string_bytes text ≡ json_length vrp) }
 {
     format!(in alloc; ", \"maxLength\": {}", vrp.max_length)
@@ -131,7 +134,7 @@ fn after_comma(text: &[u8]) -> &[u8]
 
 /// Adds a member, whose name is in quotation marks after what comes before it: an array of objects, each of which
 /// is after a comma here.
-fn push_array(text: &mut Vec<u8>, name: &[u8], objects: &[u8]) -> Result<(), AllocError>
+pub(crate) fn push_array(text: &mut Vec<u8>, name: &[u8], objects: &[u8]) -> Result<(), AllocError>
     ensures { OnOk result (text.new.items ≡ text.old.items ++ json_array name.now objects.now) }
 {
     text.extend_from_slice(name)?;
@@ -140,17 +143,42 @@ fn push_array(text: &mut Vec<u8>, name: &[u8], objects: &[u8]) -> Result<(), All
     text.extend_from_slice(b"\n  ]")
 }
 
+/// Adds the arrays of objects, and the end of the object.
+fn push_arrays(
+    text: &mut Vec<u8>,
+    prefixes: &[u8],
+    keys: &[u8],
+    customers: &[u8],
+) -> Result<(), AllocError>
+    ensures { OnOk result (text.new.items ≡ text.old.items ++ json_arrays prefixes.now keys.now customers.now) }
+{
+    push_array(text, b"  \"roas\"", prefixes)?;
+    push_array(text, b",\n  \"routerKeys\"", keys)?;
+    push_array(text, b",\n  \"aspas\"", customers)?;
+    text.extend_from_slice(b"\n}\n")
+}
+
 /// The payloads of all locators, as an object of JSON, where these are the providers of customers.
-pub fn json_text(alloc: Global, all: &[Payloads], vaps: &[Vap]) -> Result<Vec<u8>, AllocError>
-    ensures { IfOk result (λ text. text.items ≡ json_text all.now vaps.now) }
+pub fn json_text(
+    alloc: Global,
+    all: &[Payloads],
+    vaps: &[Vap],
+    made: Time,
+) -> Result<Vec<u8>, AllocError>
+    ensures { IfOk result (λ text. text.items ≡ json_text all.now vaps.now made) }
 {
     let prefixes = prefix_objects(alloc, all)?;
     let keys = key_objects(alloc, all)?;
     let customers = vap_objects(alloc, vaps)?;
+    let vrp_count = vrp_count(all)?;
+    let key_count = key_count(all)?;
     let mut text = Vec::new(alloc);
-    push_array(&mut text, b"{\n  \"roas\"", prefixes.as_slice())?;
-    push_array(&mut text, b",\n  \"routerKeys\"", keys.as_slice())?;
-    push_array(&mut text, b",\n  \"aspas\"", customers.as_slice())?;
-    text.extend_from_slice(b"\n}\n")?;
+    push_metadata(&mut text, made, vrp_count, key_count, vaps.len())?;
+    push_arrays(
+        &mut text,
+        prefixes.as_slice(),
+        keys.as_slice(),
+        customers.as_slice(),
+    )?;
     Ok(text)
 }

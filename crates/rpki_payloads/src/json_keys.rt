@@ -2,31 +2,38 @@
 
 ghost use Rattle.std.specs.Prelude.{◌≡◌, ◌++◌, OnOk, IfOk, string_bytes};
 ghost use Rattle.std.specs.List.{flat_map};
-ghost use Rattle.rpki_payloads.specs.Json.{json_numbers, json_identifier, json_info, json_key};
-ghost use Rattle.rpki_payloads.specs.RouterKey.{numbers_text};
+ghost use Rattle.rpki_payloads.specs.Json.{json_identifier, json_info, json_key, json_number_alone, json_numbers};
+ghost use Rattle.rpki_payloads.specs.Json.{json_range};
 
 use crate::json::push_name;
 use crate::router_key::RouterKey;
 use rpki_text::util::base_64::Slurm;
 use std::alloc::{AllocError, Global};
 
-/// The AS numbers of a key: `AS64496`, or `AS64496-AS64511`.
-fn range_text(alloc: Global, first: u32, last: u32) -> Result<String, AllocError>
-    ensures { IfOk result (λ text. string_bytes text ≡ numbers_text first last) }
+/// The member with an AS number, at the beginning of an object.
+#[tactic(auto, unfolding(crate::specs::Json::json_number_alone))]
+fn number_text(alloc: Global, number: u32) -> Result<String, AllocError>
+    ensures { IfOk result (λ text. string_bytes text ≡ json_number_alone number) }
 {
-    if first == last {
-        return format!(in alloc; "AS{first}");
-    }
-    format!(in alloc; "AS{first}-AS{last}")
+    format!(in alloc; "{{ \"asn\": \"AS{number}\"")
 }
 
-/// The member with the AS numbers, at the beginning of an object.
-#[tactic(auto, unfolding(crate::specs::Json::json_numbers))]
+/// The members with the lowest and the highest of a range of AS numbers, at the beginning of an object.
+#[tactic(auto, unfolding(crate::specs::Json::json_range))]
+fn range_text(alloc: Global, first: u32, last: u32) -> Result<String, AllocError>
+    ensures { IfOk result (λ text. string_bytes text ≡ json_range first last) }
+{
+    format!(in alloc; "{{ \"minAsn\": {first}, \"maxAsn\": {last}")
+}
+
+/// The members with the AS numbers, at the beginning of an object.
 fn numbers_text(alloc: Global, key: &RouterKey) -> Result<String, AllocError>
     ensures { IfOk result (λ text. string_bytes text ≡ json_numbers key.now) }
 {
-    let numbers = range_text(alloc, key.first, key.last)?;
-    format!(in alloc; "{{ \"asn\": \"{}\"", numbers)
+    if key.first == key.last {
+        return number_text(alloc, key.first);
+    }
+    range_text(alloc, key.first, key.last)
 }
 
 /// The member with the identifier, after another one.

@@ -7,8 +7,10 @@
 #![tactic(auto)]
 
 mod alone;
+mod bird;
 mod client;
 mod covered;
+mod csv_lines;
 mod customers;
 mod exceptions;
 mod exceptions_text;
@@ -19,15 +21,17 @@ mod json_keys;
 mod json_vaps;
 mod key_filters;
 pub mod laws;
-mod lines;
+mod made;
 mod members;
 mod metrics;
+mod openbgpd;
 mod order;
 mod payload_list;
 mod payloads;
 mod quoted;
 mod route;
 mod router_key;
+mod stayrtr;
 mod tally;
 mod timed;
 mod vap;
@@ -39,6 +43,7 @@ pub use exceptions_text::{ExceptionsError, Member};
 pub use filters::PrefixFilter;
 pub use form::Form;
 pub use key_filters::KeyFilter;
+pub use made::vrp_count;
 pub use metrics::metrics_text;
 pub use order::{sort_vrps, united, united_pairs, vrps_of};
 pub use payload_list::{ListError, listed_vrps};

@@ -1,13 +1,15 @@
 //! Payloads with the second until which they are valid.
 
 ghost use Rattle.std.specs.Prelude.{◌≡◌, ◌↔◌, IsTrue, IfOk, MatchOption, map, slice_get};
-ghost use Rattle.std.specs.List.{Contains};
+ghost use Rattle.std.specs.List.{Contains, flat_map};
 ghost use Rattle.std.specs.List.Sorted.{IsStrictlySortedBy};
 ghost use Rattle.rpki_payloads.specs.declared.timed.TimedVrp.{TimedVrp as T};
+ghost use Rattle.rpki_payloads.specs.Payloads.{AreUnitedTimed};
 ghost use Rattle.rpki_payloads.specs.Sets.{IsSetOf};
 ghost use Rattle.rpki_payloads.specs.Timed.{AreLatest, IsLatest, endless, timed_cmp};
 
 use crate::order::sort_once;
+use crate::payloads::Payloads;
 use crate::vrp::Vrp;
 use std::alloc::{AllocError, Global};
 
@@ -66,6 +68,27 @@ pub fn latest_of(alloc: Global, mut all: Vec<TimedVrp>) -> Result<Vec<TimedVrp>,
     let mut latest = last_of_each(alloc, all.as_slice())?;
     sort_timed(&mut latest);
     Ok(latest)
+}
+
+/// Those under each locator.
+fn joined_timed(alloc: Global, all: &[Payloads]) -> Result<Vec<TimedVrp>, AllocError>
+    ensures { IfOk result (λ timed. timed.items ≡ flat_map (λ p. p.timed) all.now) }
+{
+    let mut timed = Vec::new(alloc);
+    'all: for one in all {
+        timed.extend_from_slice(one.timed())?;
+    }
+    Ok(timed)
+}
+
+/// The prefixes of all locators: each once, with its latest end under any of them, in order.
+///
+/// Returns `AllocError` if allocation fails.
+pub(crate) fn united_timed(alloc: Global, all: &[Payloads]) -> Result<Vec<TimedVrp>, AllocError>
+    ensures { IfOk result (λ timed. AreUnitedTimed all.now timed.items) }
+{
+    let timed = joined_timed(alloc, all)?;
+    latest_of(alloc, timed)
 }
 
 /// The payloads, with no end of their own.
