@@ -52,9 +52,8 @@ def another_key(folder):
     path = os.path.join(folder, "example.tal")
     with open(path, encoding="ascii") as file:
         head, _, digits = file.read().partition("\n\n")
-    swaps = str.maketrans("ABCD", "BADC")
     lines = digits.split("\n")
-    lines[2] = lines[2].translate(swaps)
+    lines[2] = lines[2].swapcase()
     edit(path, f"{head}\n\n{chr(10).join(lines)}".encode())
 
 
@@ -70,7 +69,7 @@ def changes():
         yield f"{it}: a route origin is cut short", cut(it, "r0.roa", 300), left, 0
         yield f"{it}: a route origin is empty", cut(it, "r0.roa", 0), left, 0
         yield f"{it}: a route origin is longer", longer(it, "r0.roa"), left, 0
-        yield f"{it}: a folder in place of a route origin", as_folder(it, "r0.roa"), left, 1
+        yield f"{it}: a folder in place of a route origin", as_folder(it, "r0.roa"), left, 0
         yield f"{it}: the manifest is missing", removed(it, "m.mft"), left, 0
         yield f"{it}: the manifest has another octet", other_octet(it, "m.mft"), left, 0
         yield f"{it}: the manifest of another authority", swapped(it, sister, "m.mft"), left, 0
@@ -80,9 +79,9 @@ def changes():
         yield f"{it}: the certificate is missing", removed(parent(it), f"ca{it}.cer"), \
             [other for other in everyone if other not in below(parent(it))], 0
         yield f"{it}: a file that no manifest lists", added(it, "extra.roa"), everyone, 0
-    yield "the trust anchor is missing", removed(0, "ca0.cer"), [], 1
-    yield "another certificate in place of the trust anchor", another_anchor, [], 1
-    yield "another key in the locator", another_key, [], 1
+    yield "the trust anchor is missing", removed(0, "ca0.cer"), [], 2
+    yield "another certificate in place of the trust anchor", another_anchor, [], 2
+    yield "another key in the locator", another_key, [], 2
     yield "nothing is changed", None, everyone, 0
 
 

@@ -383,8 +383,10 @@ int main(int count, char **words) {
                 point.spki = raw(der, (size_t)size);
                 SHA1(der + size - 65, 65, point.id);
             }
-            c = certificate(&point, "ROUTER-0000FC00", &keys[i], cn, 2, none, aia, crl, none,
-                            seq(tlv(0xa0, seq(integer((uint64_t)i)))));
+            int numbers = getenv("ROUTERNUMBERS") ? atoi(getenv("ROUTERNUMBERS")) : 1;
+            struct buf asn = integer((uint64_t)i);
+            if (numbers > 1) asn = seq(cat(2, asn, integer((uint64_t)(i + numbers - 1))));
+            c = certificate(&point, "ROUTER-0000FC00", &keys[i], cn, 2, none, aia, crl, none, seq(tlv(0xa0, seq(asn))));
             keep(dir, "router.cer", c);
             listed = cat(2, listed, entry("router.cer", c));
             free(c.at);

@@ -1,8 +1,11 @@
 """The forms of what is printed, names of locators, ends of payloads, numbers for monitoring, and other payloads."""
+import base64
+import datetime
 import json
 import os
 import shutil
 import subprocess
+import time
 
 from alterations import removed
 from compared import compared
@@ -10,6 +13,21 @@ from counting import holds
 from exceptions import slurm
 from programs import octets_of
 from repositories import AT, AUTHORITIES, ORIGINS, TITLES, below, edit, payloads, router_key, url_safe
+
+
+def since(text):
+    """The second of a moment of JSON."""
+    return int(datetime.datetime.strptime(text, "%Y-%m-%dT%H:%M:%S%z").timestamp())
+
+
+def listed_in(name, output, begun, counts):
+    """An object of JSON without `metadata`, which says when it was made, by the clock, and how much is in it."""
+    made = json.loads(output)
+    said = made.pop("metadata")
+    dates = [since(said.pop(it)) for it in ("generatedTime", "buildtime")]
+    holds(f"when {name} was made", dates == [said.pop("generated")] * 2 and begun <= dates[0] <= time.time(), dates)
+    holds(f"how much is in {name}", said == dict(zip(("vrps", "routerKeys", "aspas"), counts)), said)
+    return made
 
 
 def forms(program, maker):
@@ -21,14 +39,26 @@ def forms(program, maker):
         csv = [TITLES, *(",".join([*line[:3], name]) for name in names for line in lines)]
         made = json.dumps({"roas": [{"asn": line[0], "prefix": line[1], "maxLength": int(line[2]), "ta": name}
                                     for name in names for line in lines], "routerKeys": [], "aspas": []})
-        openbgpd = [f"    {line[1]} maxlen {line[2]} source-as {line[0][2:]}" for line in lines]
+        openbgpd = [f"    {line[1]} maxlen {line[2]} source-as {line[0][2:]} expires {FOREVER}" for line in lines]
+        routes = [f"route {line[1]} max {line[2]} as {line[0][2:]};" for line in lines]
+        tables = [["", "protocol static {", f"    roa{it} {{ table ROAS{it}; }};", *(routes if it == 4 else []), "}"]
+                  for it in (4, 6)]
         wanted = {"csv": csv, "openbgpd": ["roa-set {", *openbgpd, "}"],
-                  "bird": [f"route {line[1]} max {line[2]} as {line[0][2:]};" for line in lines]}
+                  "openbgpd-origins": ["roa-set {", *openbgpd, "}"],
+                  "bird": ["roa4 table ROAS4;", "roa6 table ROAS6;", *tables[0], *tables[1]]}
         for form, text in wanted.items():
             status, output, _ = program.run(folder, "--form", form, *words)
             holds(f"{form} of {len(names)}", status == 0 and output.split("\n") == [*text, ""], output[:300])
+        begun, counts = int(time.time()), (len(names) * len(lines), 0, 0)
         status, output, _ = program.run(folder, "--form", "json", *words)
-        holds(f"json of {len(names)}", status == 0 and json.dumps(json.loads(output)) == made, output[:300])
+        seen = listed_in(f"json of {len(names)}", output, begun, counts)
+        holds(f"json of {len(names)}", status == 0 and json.dumps(seen) == made, output[:300])
+        status, output, _ = program.run(folder, "--form", "stayrtr", *words)
+        seen = listed_in(f"stayrtr of {len(names)}", output, begun, counts)
+        stay = {"roas": [{"asn": int(line[0][2:]), "prefix": line[1], "maxLength": int(line[2]), "expires": FOREVER,
+                          "ta": name} for name in names for line in lines],
+                "bgpsec_keys": [], "provider_authorizations": {"ipv4": [], "ipv6": []}}
+        holds(f"stayrtr of {len(names)}", status == 0 and json.dumps(seen) == json.dumps(stay), output[:300])
 
 
 def names(program, maker):
@@ -105,6 +135,24 @@ def families(name, anchor, counts, rejected, end=FOREVER):
         *([f'rpkivalid_first_end_seconds{{ta="{name}"}} {end}'] if counts[0] else []), "# EOF", ""])
 
 
+def lone(program, maker, file):
+    """Of two locators one has no trust anchor: its metrics say so. Where none has one, nothing is written."""
+    folder, other = maker.repository(), os.path.join(maker.room, "other.tal")
+    lines = octets_of(os.path.join(folder, "example.tal")).decode().split("\n")
+    edit(other, "\n".join([lines[0].replace("ca0.cer", "none.cer"), *lines[1:]]).encode())
+    ended, output, _ = program.run(folder, "--metrics", file, "--tal", other)
+    anchors = [it for it in octets_of(file).decode().split("\n") if it.startswith("rpkivalid_trust_anchor{")]
+    wanted = [f'rpkivalid_trust_anchor{{ta="{name}"}} {bit}' for name, bit in (("example", 1), ("other", 0))]
+    holds("metrics: one of two trust anchors", ended == 1 and anchors == wanted and TITLES in output, (ended, anchors))
+    edit(file, b"before")
+    ended, output, faults = program.run(maker.changed(removed(0, "ca0.cer")), "--metrics", file)
+    said = faults.split("\n")[-2:]
+    holds("metrics: no trust anchor", (ended, output, octets_of(file), said) == (
+        2, "", b"before", ["rpkivalid: no locator has a trust anchor: nothing is written", ""]), (ended, said))
+    holds("which has none is told", faults.startswith("rpkivalid: example: no trust anchor: "), faults)
+    os.remove(file)
+
+
 def metrics(program, maker):
     """What is counted: payloads, and what a change lets be rejected."""
     file, odd = os.path.join(maker.room, "metrics"), 'a "name" \\'
@@ -117,8 +165,7 @@ def metrics(program, maker):
              (1, (origins - ORIGINS, 0, 0), (1, 0))),
             ("malformed objects", None, {"BADROA": "1"}, 0, (1, (origins, 0, 0), (0, AUTHORITIES))),
             ("an early end", None, {"LISTUNTIL": "261201000000Z", "LISTOF": "4"}, 0,
-             (1, (origins, 0, 0), (0, 0), SOON)),
-            ("no trust anchor", removed(0, "ca0.cer"), {}, 1, (0, (0, 0, 0), (0, 0)))):
+             (1, (origins, 0, 0), (0, 0), SOON))):
         folder = maker.changed(change, **variant)
         ended, output, _ = program.run(folder, "--metrics", file)
         seen = octets_of(file).decode()
@@ -132,6 +179,7 @@ def metrics(program, maker):
     wanted = families('a \\"name\\" \\\\', 1, (origins, 0, 0), (0, 0))
     holds("metrics: a name that is escaped", octets_of(file).decode() == wanted, octets_of(file)[:300])
     os.remove(file)
+    lone(program, maker, file)
     ended, output, faults = program.run(maker.repository(), "--metrics", os.path.join(maker.room, "none", "it"))
     holds("metrics: no such folder", ended == 2 and not output and "cannot be written" in faults, (ended, faults))
     ended, output, _ = program.run(maker.repository(), "--metrics", file, "--form", "none")
@@ -150,9 +198,20 @@ def others(program, maker):
         keys = [{"asn": f"AS{it}", "SKI": identifier.hex().upper(), "routerPublicKey": url_safe(info), "ta": name}
                 for name in names for it in all_of]
         status, output, _ = program.run(folder, "--form", "json", *words)
-        made = json.loads(output)
+        counts = (len(names) * AUTHORITIES * ORIGINS, len(names) * AUTHORITIES, AUTHORITIES)
+        made = listed_in(f"others of {len(names)}", output, 0, counts)
         holds(f"router keys of {len(names)}", status == 0 and made["routerKeys"] == keys, made["routerKeys"][:2])
         holds(f"customers of {len(names)}", made["aspas"] == aspas, made["aspas"][:2])
+        status, output, _ = program.run(folder, "--form", "stayrtr", *words)
+        made = json.loads(output)
+        keys = [{"asn": it, "ski": identifier.hex().upper(), "pubkey": base64.b64encode(info).decode(), "ta": name}
+                for name in names for it in all_of]
+        holds(f"StayRTR's keys of {len(names)}", status == 0 and made["bgpsec_keys"] == keys, made["bgpsec_keys"][:2])
+        vaps = [{"customer_asid": it, "providers": [64496, 64500]} for it in all_of]
+        seen = made["provider_authorizations"]
+        holds(f"StayRTR's customers of {len(names)}", seen == {"ipv4": vaps, "ipv6": vaps}, seen)
+        _, output, _ = program.run(folder, "--form", "openbgpd-origins", *words)
+        holds(f"no customers of {len(names)}", output.startswith("roa-set {") and output.count("{") == 1)
         status, output, _ = program.run(folder, "--form", "openbgpd", *words)
         wanted = ["aspa-set {", *(f"    customer-as {it} provider-as {{ 64496, 64500 }}" for it in all_of), "}", ""]
         holds(f"openbgpd's customers of {len(names)}", status == 0 and output.split("\n")[-len(wanted):] == wanted)

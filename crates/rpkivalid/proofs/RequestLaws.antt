@@ -20,26 +20,27 @@ pub of-parts : (rows : List Row) (form : Option Form) (cache : Option (List ℕ)
     → option_and_then (λ f. option_and_then (λ c. option_map (asked (strictness_of (is_given (codes "strict") rows))
     (first_of (codes "at") rows) (first_of (codes "output") rows) (first_of (codes "depth") rows)
     (first_of (codes "exceptions") rows) (first_of (codes "metrics") rows) (first_of (codes "explain") rows)
-    (first_of (codes "as") rows) (first_of (codes "compare") rows) f c) all) cache) form
+    (first_of (codes "as") rows) (first_of (codes "compare") rows) (first_of (codes "least") rows) f c) all) cache)
+    form
     ≡ request_of rows
 of-parts rows form cache all f c a = rw (f, c, a) refl
 
 -- the same, where there are all
 pub of-all : (rows : List Row) (strictness : Strictness)
-    (moment output depth exceptions metrics explain number compare : Option (List ℕ))
+    (moment output depth exceptions metrics explain number compare least : Option (List ℕ))
     (form : Form) (cache : List ℕ) (all : List (List ℕ)) → strictness ≡ strictness_of (is_given (codes "strict") rows)
     → moment ≡ first_of (codes "at") rows
     → output ≡ first_of (codes "output") rows → depth ≡ first_of (codes "depth") rows
     → exceptions ≡ first_of (codes "exceptions") rows → metrics ≡ first_of (codes "metrics") rows
     → explain ≡ first_of (codes "explain") rows → number ≡ first_of (codes "as") rows
-    → compare ≡ first_of (codes "compare") rows
+    → compare ≡ first_of (codes "compare") rows → least ≡ first_of (codes "least") rows
     → Some form ≡ form_of (first_of (codes "form") rows) → Some cache ≡ first_of (codes "cache") rows
     → Some all ≡ some_files (all_of (codes "tal") rows)
-    → Some (asked strictness moment output depth exceptions metrics explain number compare form cache all)
+    → Some (asked strictness moment output depth exceptions metrics explain number compare least form cache all)
     ≡ request_of rows
-of-all rows strictness moment output depth exceptions metrics explain number compare form cache all s m o d e k x n t f
-    c a =
-    rw (s, m, o, d, e, k, x, n, t) (of-parts rows (Some form) (Some cache) (Some all) f c a)
+of-all rows strictness moment output depth exceptions metrics explain number compare least form cache all s m o d e k x
+    n t l f c a =
+    rw (s, m, o, d, e, k, x, n, t, l) (of-parts rows (Some form) (Some cache) (Some all) f c a)
 
 -- the run that is asked for
 pub the-run : (rows : List Row) (x a : Asked) → is_given (codes "help") rows ≡ false

@@ -54,6 +54,11 @@ unread_text name = codes "rpkivalid: " ++ (name ++ codes ": cannot be read\n")
 abbrev pub denial_text : Denial → (files : List (List ℕ)) → (exceptions compare : Option (List ℕ)) → List ℕ
 denial_text D.NoMoment files exceptions compare = codes "rpkivalid: no such moment\n"
 denial_text D.NoDepth files exceptions compare = codes "rpkivalid: no such depth\n"
+denial_text D.NoLeast files exceptions compare = codes "rpkivalid: --least wants a number below 4294967296\n"
+denial_text D.NoAnchor files exceptions compare =
+    codes "rpkivalid: no locator has a trust anchor: nothing is written\n"
+denial_text D.TooFew files exceptions compare =
+    codes "rpkivalid: fewer route origins than --least asks for: nothing is written\n"
 denial_text D.NoUri files exceptions compare = codes "rpkivalid: not an rsync URI\n"
 denial_text D.NoRoute files exceptions compare = codes "rpkivalid: not a prefix and an AS number\n"
 denial_text (D.NoFile i) files exceptions compare = unread_text (name_at files i)

@@ -4,6 +4,7 @@ pub mod Arguments
 pub mod Request
 pub mod Denied
 pub mod Moment
+pub mod Enough
 pub mod Paths
 pub mod Locators
 pub mod Counted

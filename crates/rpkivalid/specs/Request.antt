@@ -8,7 +8,8 @@ use Rattle.clap.specs.declared.builder.action.ArgAction.TheVariants.{Append, Set
 use Rattle.rpki_objects.specs.declared.strictness.Strictness.{Strictness}
 use Rattle.rpki_objects.specs.Strictness.{all_strict, none_strict}
 use Rattle.rpki_payloads.specs.declared.form.Form.{Form}
-use Rattle.rpki_payloads.specs.declared.form.Form.TheVariants.{Csv, Json, OpenBgpd, Bird, RpkiClient}
+use Rattle.rpki_payloads.specs.declared.form.Form.TheVariants.{Csv, Json, StayRtr, OpenBgpd, OpenBgpdOrigins, Bird}
+use Rattle.rpki_payloads.specs.declared.form.Form.TheVariants.{RpkiClient}
 
 -- ---- the command, in the words of `clap`
 
@@ -36,10 +37,11 @@ command_alone =
 abbrev pub command_app : App
 command_app =
     with_rule (with_rule (with_rule (with_rule (with_rule (with_rule (with_rule (with_rule (with_rule (with_rule
-    (with_rule (with_rule (with_rule (with_rule command_alone help_flag) (flag (codes "version")))
+    (with_rule (with_rule (with_rule (with_rule (with_rule command_alone help_flag) (flag (codes "version")))
     (flag (codes "strict"))) (valued (codes "cache"))) (valued (codes "at"))) (valued (codes "form")))
     (valued (codes "output"))) (valued (codes "depth"))) (valued (codes "exceptions"))) (valued (codes "metrics")))
-    (valued (codes "explain"))) (valued (codes "as"))) (valued (codes "compare"))) (repeated (codes "tal"))
+    (valued (codes "explain"))) (valued (codes "as"))) (valued (codes "compare"))) (valued (codes "least")))
+    (repeated (codes "tal"))
 
 -- what `clap` matches in the words; None where it finds a fault in them
 abbrev pub matched : List (List ℕ) → Option (List Row)
@@ -57,7 +59,9 @@ form_of None = Some Csv
 form_of (Some word) =
     if bytes_eq word (codes "csv") then Some Csv
     else if bytes_eq word (codes "json") then Some Json
+    else if bytes_eq word (codes "stayrtr") then Some StayRtr
     else if bytes_eq word (codes "openbgpd") then Some OpenBgpd
+    else if bytes_eq word (codes "openbgpd-origins") then Some OpenBgpdOrigins
     else if bytes_eq word (codes "bird") then Some Bird
     else if bytes_eq word (codes "rpki-client") then Some RpkiClient
     else None
@@ -75,7 +79,8 @@ strictness_of false = none_strict
 
 -- how payloads are written, which rules are asked strictly, the folder of the copy, the text of the moment,
 -- the file to write, the text of the depth, the file of local exceptions, the file of metrics, what is to be explained,
--- the text of an AS number, the file that another validator wrote, and the files of locators
+-- the text of an AS number, the file that another validator wrote, the text of the least number of route origins, and
+-- the files of locators
 pub record Asked : Type 0 where
   pub form : Form
   pub strictness : Strictness
@@ -88,11 +93,13 @@ pub record Asked : Type 0 where
   pub explain : Option (List ℕ)
   pub number : Option (List ℕ)
   pub compare : Option (List ℕ)
+  pub least : Option (List ℕ)
   pub locators : List (List ℕ)
 
 abbrev pub asked : Strictness → Option (List ℕ) → Option (List ℕ) → Option (List ℕ) → Option (List ℕ)
-    → Option (List ℕ) → Option (List ℕ) → Option (List ℕ) → Option (List ℕ) → Form → List ℕ → List (List ℕ) → Asked
-asked strictness moment output depth exceptions metrics explain number compare form cache locators = record {
+    → Option (List ℕ) → Option (List ℕ) → Option (List ℕ) → Option (List ℕ) → Option (List ℕ) → Form → List ℕ
+    → List (List ℕ) → Asked
+asked strictness moment output depth exceptions metrics explain number compare least form cache locators = record {
   form = form;
   strictness = strictness;
   cache = cache;
@@ -104,6 +111,7 @@ asked strictness moment output depth exceptions metrics explain number compare f
   explain = explain;
   number = number;
   compare = compare;
+  least = least;
   locators = locators;
 }
 
@@ -115,7 +123,7 @@ request_of rows =
     (asked (strictness_of (is_given (codes "strict") rows)) (first_of (codes "at") rows)
     (first_of (codes "output") rows) (first_of (codes "depth") rows) (first_of (codes "exceptions") rows)
     (first_of (codes "metrics") rows) (first_of (codes "explain") rows) (first_of (codes "as") rows)
-    (first_of (codes "compare") rows) form cache)
+    (first_of (codes "compare") rows) (first_of (codes "least") rows) form cache)
     (some_files (all_of (codes "tal") rows)))
     (first_of (codes "cache") rows)) (form_of (first_of (codes "form") rows))
 

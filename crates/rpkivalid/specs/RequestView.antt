@@ -10,7 +10,8 @@ asked_of r =
     asked r.strictness (option_map (λ word. word.now) r.moment) (option_map (λ name. name.now) r.output)
     (option_map (λ word. word.now) r.depth) (option_map (λ name. name.now) r.exceptions)
     (option_map (λ name. name.now) r.metrics) (option_map (λ word. word.now) r.explain)
-    (option_map (λ word. word.now) r.number) (option_map (λ name. name.now) r.compare) r.form r.cache.now
+    (option_map (λ word. word.now) r.number) (option_map (λ name. name.now) r.compare)
+    (option_map (λ word. word.now) r.least) r.form r.cache.now
     (map (λ file. file.now) r.locators.now)
 
 -- what was matched

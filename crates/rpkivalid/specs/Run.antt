@@ -1,15 +1,17 @@
 -- A run of what is asked for.
-use Rattle.std.specs.Prelude.{◌≡◌, ◌&&◌, ℕ, Bool, true, List, [], Option, Some, None, IfSome, if◌then◌else◌}
+use Rattle.std.specs.Prelude.{◌≡◌, ◌≤◌, ◌&&◌, ℕ, Bool, true, List, [], Option, Some, None, IfSome, if◌then◌else◌}
 use Rattle.std.specs.Io.KnownBytes.{Appends}
 use Rattle.jiff.specs.Types.{DateTime}
 use Rattle.rpki.specs.Provider.{Check}
 use Rattle.rpki.specs.PublicKey.{KeyParts}
 use Rattle.rpki_payloads.specs.Form.{IsTextIn}
+use Rattle.rpki_payloads.specs.Made.{vrp_count}
 use Rattle.rpki_payloads.specs.Metrics.{metrics_text}
 use Rattle.rpki_payloads.specs.Payloads.{PayloadParts}
 use Rattle.rpki_validation.specs.Basis.{Basis}
 use Rattle.rpkivalid.specs.declared.question.Question.{Question}
 use Rattle.rpkivalid.specs.Compared.{IsComparison}
+use Rattle.rpkivalid.specs.Enough.{IsLeast, some_anchored}
 use Rattle.rpkivalid.specs.Excepted.{AreShown}
 use Rattle.rpkivalid.specs.Explained.{IsExplanation}
 use Rattle.rpkivalid.specs.Found.{AreFound, IsFoundIn, basis_with}
@@ -28,8 +30,20 @@ abbrev pub metrics_for : Option (List ℕ) → List PayloadParts → List ℕ
 metrics_for None shown = []
 metrics_for (Some file) shown = metrics_text shown
 
+-- The text of payloads in the form that is asked for, made at the clock's moment: there are as many route origins as
+-- are asked for.
+pub record IsWritten (clock : Option (Option DateTime)) (a : Asked) (shown : List PayloadParts) (text : List ℕ)
+    : Type 0 where
+  pub least : ℕ
+  pub fewest : IsLeast a.least least
+  pub enough : least ≤ vrp_count shown
+  pub made : DateTime
+  pub dated : IsMomentOf clock None made
+  pub lists : IsTextIn a.form shown made text
+
 -- The text is that of the payloads under the locators that are asked for, at the moment that is asked for, with the
--- local exceptions that are asked for; and these are its metrics, and the status.
+-- local exceptions that are asked for; and these are its metrics, and the status. One of the locators has a trust
+-- anchor.
 pub record IsAnswer (basis : DateTime → ℕ → KeyParts → Basis) (holds : Holds) (clock : Option (Option DateTime))
     (a : Asked) (text metrics : List ℕ) (status : ℕ) : Type 0 where
   pub at : DateTime
@@ -43,7 +57,8 @@ pub record IsAnswer (basis : DateTime → ℕ → KeyParts → Basis) (holds : H
   pub each : AreFound (IsFoundIn holds a.cache (basis at depth)) locators found anchored
   pub shown : List PayloadParts
   pub excepted : AreShown holds a.exceptions found shown
-  pub written : IsTextIn a.form shown text
+  pub some : some_anchored found ≡ true
+  pub written : IsWritten clock a shown text
   pub metrics_are : metrics ≡ metrics_for a.metrics shown
   pub read : Bool
   pub known : IfSome holds (λ files. read ≡ true)

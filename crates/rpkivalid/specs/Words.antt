@@ -18,6 +18,7 @@ memory_text = codes "rpkivalid: out of memory\n"
 -- how the program is used
 abbrev pub usage_text : List ℕ
 usage_text =
-    codes "usage: rpkivalid --tal FILE.. --cache FOLDER [--at MOMENT] [--form csv|json|rpki-client|openbgpd|bird] "
-    ++ codes "[--output FILE] [--exceptions FILE] [--metrics FILE] [--depth N] [--strict] "
-    ++ codes "[--explain URI|PREFIX [--as NUMBER]] [--compare FILE]\n"
+    codes "usage: rpkivalid --tal FILE.. --cache FOLDER [--at MOMENT] "
+    ++ codes "[--form csv|json|stayrtr|rpki-client|openbgpd|openbgpd-origins|bird] "
+    ++ codes "[--output FILE] [--least NUMBER] [--exceptions FILE] [--metrics FILE] "
+    ++ codes "[--depth N] [--strict] [--explain URI|PREFIX [--as NUMBER]] [--compare FILE]\n"

@@ -4,7 +4,9 @@ ghost use Rattle.std.specs.Prelude.{◌≡◌, IfOk, string_bytes};
 ghost use Rattle.rpkivalid.specs.Denied.{denial_text, exceptions_text, list_text, locator_text, name_at, name_in};
 ghost use Rattle.rpkivalid.specs.Denied.{name_of, names_of, unread_text};
 
-use crate::texts::{NO_DEPTH, NO_MOMENT, NO_ROUTE, NO_URI, OUT_OF_MEMORY};
+use crate::texts::{
+    NO_ANCHOR, NO_DEPTH, NO_LEAST, NO_MOMENT, NO_ROUTE, NO_URI, OUT_OF_MEMORY, TOO_FEW,
+};
 use rpki_locator::LocatorError;
 use rpki_payloads::{ExceptionsError, ListError};
 use std::alloc::{AllocError, AllocFailed, Global};
@@ -16,6 +18,12 @@ pub enum Denial {
     NoMoment,
     /// The word is no number of authorities.
     NoDepth,
+    /// The word is no number of route origins.
+    NoLeast,
+    /// No locator has a trust anchor.
+    NoAnchor,
+    /// There are fewer route origins than are asked for.
+    TooFew,
     /// The word is no rsync URI.
     NoUri,
     /// The words are no prefix and AS number.
@@ -155,6 +163,9 @@ impl Denial {
         match self {
             Denial::NoMoment => Vec::from_slice(alloc, NO_MOMENT),
             Denial::NoDepth => Vec::from_slice(alloc, NO_DEPTH),
+            Denial::NoLeast => Vec::from_slice(alloc, NO_LEAST),
+            Denial::NoAnchor => Vec::from_slice(alloc, NO_ANCHOR),
+            Denial::TooFew => Vec::from_slice(alloc, TOO_FEW),
             Denial::NoUri => Vec::from_slice(alloc, NO_URI),
             Denial::NoRoute => Vec::from_slice(alloc, NO_ROUTE),
             Denial::NoFile(at) => unread(alloc, file_at(files, at)),

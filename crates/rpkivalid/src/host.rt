@@ -1,14 +1,14 @@
 //! The host's files, and its clock.
 
+use crate::input::{Copied, Unread, read_regular};
 use crate::sources::Sources;
 use bytes::Bytes;
 use jiff::SignedDuration;
 use rpki::repository::x509::Time;
 use std::alloc::{AllocError, Global};
-use std::cell::Cell;
-use std::fs;
-use std::fs::OpenFile;
-use std::io::{ErrorKind, IsTerminal, Read};
+use std::cell::{Cell, RefCell};
+use std::collections::BTreeSet;
+use std::io::IsTerminal;
 use std::time::{SystemTime, UNIX_EPOCH};
 
 /// How many octets a file has at most.
@@ -20,18 +20,50 @@ const MOST_LISTED: u64 = 1_073_741_824;
 /// The files of the host, and its clock.
 #[derive(Drop)]
 pub struct Host<'a> {
-    /// The host.
-    pub rt: &'a HostRuntime,
-    /// Whether each file that is there could be read, until now.
-    pub read: Cell<bool>,
+    rt: &'a HostRuntime,
+    /// The moment of the clock, which is read once.
+    at: Option<Time>,
+    /// The folder of the copy.
+    copied: Copied<'a>,
+    /// Whether the system could read all that is there, until now.
+    read: Cell<bool>,
     /// How many files were read, until now.
-    pub files: Cell<u64>,
+    files: Cell<u64>,
+    /// The paths of which it is told that they can't be read.
+    told: RefCell<BTreeSet<String>>,
 }
 
 /// After how many files a terminal is told how many there were.
 const STEP: u64 = 1000;
 
-impl Host<'_> {
+/// The moment of the clock. None where it has none of the years 0 to 9999.
+fn moment_of(rt: &HostRuntime) -> Option<Time> {
+    let now = SystemTime::now(rt).ok()?;
+    let since = now.duration_since(UNIX_EPOCH).ok()?;
+    let seconds = i64::try_from(since.as_secs()).ok()?;
+    let begin = Time::utc(1970, 1, 1, 0, 0, 0)?;
+    begin.checked_add(SignedDuration::from_secs(seconds))
+}
+
+impl<'a> Host<'a> {
+    /// The host, where the copy is in this folder, if one is asked for. Standard error is told where it isn't there.
+    ///
+    /// Returns `AllocError` if allocation fails.
+    pub fn new(rt: &'a HostRuntime, folder: Option<&'a str>) -> Result<Host<'a>, AllocError> {
+        let host = Host {
+            rt,
+            at: moment_of(rt),
+            copied: Copied::new(rt, folder)?,
+            read: Cell::new(true),
+            files: Cell::new(0),
+            told: RefCell::new(BTreeSet::new(rt.alloc())),
+        };
+        if let Some(why) = host.copied.fault() {
+            let _ = eprintln!(rt; "rpkivalid: {}: {why}", host.copied.name());
+        }
+        Ok(host)
+    }
+
     /// Counts a file that was read. Standard error, where it is a terminal, has the number after each [STEP] files, in
     /// a line that the next one is written over.
     fn count(&self) {
@@ -42,56 +74,53 @@ impl Host<'_> {
         }
     }
 
-    /// Nothing, since a file could not be read: of a file that isn't there nothing is noted.
-    fn without(&self, kind: ErrorKind) -> Result<Option<Bytes>, AllocError> {
-        match kind {
-            ErrorKind::OutOfMemory => Err(AllocError),
-            ErrorKind::NotFound | ErrorKind::NotADirectory => Ok(None),
-            _ => {
-                self.read.set(false);
-                Ok(None)
-            }
+    /// Tells standard error why what is there isn't read, once a path.
+    fn tell(&self, path: &str, why: &str) -> Result<(), AllocError> {
+        let Ok(mut told) = self.told.try_borrow_mut() else {
+            return Ok(());
+        };
+        let path = String::from_str(self.rt.alloc(), path)?;
+        if !told.contains(&path) {
+            let _ = eprintln!(self.rt; "rpkivalid: {path}: {why}");
+            told.insert(path)?;
         }
+        Ok(())
     }
 
-    /// The octets of the file at the path, of which there are so many at most.
+    /// The octets of the file at the path, of which there are so many at most. None where there is no such file, or it
+    /// can't be read, which is told.
     fn read_up_to(
         &self,
         alloc: Global,
         path: &str,
         most: u64,
     ) -> Result<Option<Bytes>, AllocError> {
-        let mut file = match fs::open(self.rt, path) {
-            Ok(file) => file,
-            Err(e) => return self.without(e.kind()),
-        };
-        let size = match file.metadata() {
-            Ok(metadata) => metadata.len(),
-            Err(e) => return self.without(e.kind()),
-        };
-        if size > most {
-            return self.without(ErrorKind::FileTooLarge);
-        }
-        let mut octets = Vec::with_capacity(alloc, (size as usize).saturating_add(1))?;
-        match file.read_to_end(&mut octets) {
-            Ok(_) => match Bytes::from_vec(octets) {
-                Ok(octets) => {
-                    self.count();
-                    Ok(Some(octets))
-                }
-                Err(_) => Err(AllocError),
-            },
-            Err(e) => self.without(e.kind()),
+        match read_regular(self.rt, alloc, &self.copied, path, most) {
+            Ok(octets) => {
+                self.count();
+                Ok(Some(Bytes::from_vec(octets)?))
+            }
+            Err(Unread::Absent) => Ok(None),
+            Err(Unread::OutOfMemory) => Err(AllocError),
+            Err(Unread::Refused(why)) => {
+                self.tell(path, why)?;
+                Ok(None)
+            }
+            Err(Unread::Failed) => {
+                self.read.set(false);
+                self.tell(path, "cannot be read")?;
+                Ok(None)
+            }
         }
     }
 }
 
 impl Sources for Host<'_> {
-    ghost use Rattle.std.specs.Prelude.{None};
+    ghost use Rattle.std.specs.Prelude.{None, Some};
 
     ghost holds = { λ _. None };
 
-    ghost clock = { λ _. None };
+    ghost clock = { λ h. Some h.at };
 
     fn read(&self, alloc: Global, path: &str) -> Result<Option<Bytes>, AllocError> {
         self.read_up_to(alloc, path, MOST)
@@ -106,10 +135,6 @@ impl Sources for Host<'_> {
     }
 
     fn now(&self) -> Option<Time> {
-        let now = SystemTime::now(self.rt).ok()?;
-        let since = now.duration_since(UNIX_EPOCH).ok()?;
-        let seconds = i64::try_from(since.as_secs()).ok()?;
-        let begin = Time::utc(1970, 1, 1, 0, 0, 0)?;
-        begin.checked_add(SignedDuration::from_secs(seconds))
+        self.at
     }
 }

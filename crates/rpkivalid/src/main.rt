@@ -6,15 +6,18 @@ mod cache;
 mod compared;
 mod counted;
 mod denial;
+mod enough;
 mod excepted;
 mod explained;
 mod found;
 mod gathered;
 mod host;
+mod input;
 mod locators;
 mod moment;
 mod output;
 mod paths;
+mod put;
 mod question;
 mod reasons;
 mod refused;
@@ -28,21 +31,14 @@ mod walked;
 mod without;
 
 use crate::arguments::words_of;
-use crate::host::Host;
 use crate::output::run_to;
 use crate::run::{give_up, say};
-use std::cell::Cell;
 use std::env;
 use std::process::ExitCode;
 
 fn main(rt: HostRuntime) -> ExitCode {
-    let host = Host {
-        rt: &rt,
-        read: Cell::new(true),
-        files: Cell::new(0),
-    };
     let status = match words_of(rt.alloc(), env::args(&rt)) {
-        Ok(words) => match run_to(&rt, words.as_slice(), &host) {
+        Ok(words) => match run_to(&rt, words.as_slice()) {
             Ok(status) => status,
             Err(_) => give_up(&mut rt.stderr()),
         },

@@ -1,28 +1,28 @@
-//! Where a run writes: standard output, or a file; and a file of metrics. A file is written beside and then takes the
-//! place of the old one.
+//! Where a run writes: standard output, or a file; and a file of metrics. Each is written whole or not at all.
 
 use crate::host::Host;
+use crate::put::{Unwritten, are_one, is_writable, put, put_both};
 use crate::request::{Request, is_given, matched};
 use crate::run::run;
 use rpki_digests::RsaProvider;
 use std::alloc::{AllocError, Global};
-use std::fs::File;
 use std::io::Write;
-use std::{fs, io};
 
-/// The files that a run writes.
+/// What a run reads and writes by name.
 #[derive(Clone, Copy)]
 struct Files<'a> {
+    /// The folder of the copy.
+    cache: Option<&'a str>,
     /// Instead of standard output.
     output: Option<&'a str>,
     /// The metrics.
     metrics: Option<&'a str>,
 }
 
-/// The names of the files that the words ask to be written. An explanation and a comparison have no
-/// metrics.
+/// The names that the words have. An explanation and a comparison have no metrics; `-` is standard output.
 fn files_of<'a>(alloc: Global, words: &'a [String]) -> Result<Files<'a>, AllocError> {
     let none = Files {
+        cache: None,
         output: None,
         metrics: None,
     };
@@ -32,86 +32,110 @@ fn files_of<'a>(alloc: Global, words: &'a [String]) -> Result<Files<'a>, AllocEr
     if is_given(&matches, "help") || is_given(&matches, "version") {
         return Ok(none);
     }
-    match Request::of(&matches) {
-        Some(request) => Ok(Files {
-            output: request.output,
-            metrics: if request.explain.is_some() || request.compare.is_some() {
-                None
-            } else {
-                request.metrics
-            },
-        }),
-        None => Ok(none),
-    }
+    let Some(request) = Request::of(&matches) else {
+        return Ok(none);
+    };
+    let is_list = request.explain.is_none() && request.compare.is_none();
+    Ok(Files {
+        cache: Some(request.cache),
+        output: request.output.filter(|name| *name != "-"),
+        metrics: request.metrics.filter(|_| is_list),
+    })
 }
 
-/// A file beside the one of this name. None, and a line to the faults, if it can't be made.
-fn made(rt: &HostRuntime, name: &str) -> Result<Option<(File, String)>, AllocError> {
-    let beside = format!(in rt.alloc(); "{name}.new")?;
-    match fs::create(rt, beside.as_str()) {
-        Ok(file) => Ok(Some((file, beside))),
-        Err(_) => {
-            let _ = eprintln!(rt; "rpkivalid: {name}: cannot be written");
-            Ok(None)
+/// Tells standard error why nothing is written. Returns the status 2.
+fn denied(rt: &HostRuntime, name: &str, why: &str) -> u8 {
+    let _ = eprintln!(rt; "rpkivalid: {name}: {why}");
+    2
+}
+
+/// What can be known of the files before anything is read: the name of one that can't be written, and why.
+fn fault_of<'a>(rt: &HostRuntime, files: &Files<'a>) -> Option<(&'a str, &'static str)> {
+    for name in [files.output, files.metrics] {
+        if let Some(name) = name {
+            if !is_writable(rt, name) {
+                return Some((name, "cannot be written"));
+            }
         }
     }
-}
-
-/// Lets the file beside the one of this name take its place, if all of it is written; else takes it away. Returns the
-/// exit status.
-fn settled(
-    rt: &HostRuntime,
-    file: &File,
-    beside: &str,
-    name: &str,
-    status: Result<u8, AllocError>,
-) -> Result<u8, AllocError> {
-    if let Ok(0 | 1) = status {
-        if file.sync_all().is_ok() && fs::rename(rt, beside, name).is_ok() {
-            return status;
+    match (files.output, files.metrics) {
+        (Some(output), Some(metrics)) if are_one(rt, output, metrics) => {
+            Some((metrics, "is the output's file too"))
         }
-    }
-    let _ = fs::remove_file(rt, beside);
-    match status {
-        Ok(_) => Ok(2),
-        Err(e) => Err(e),
+        _ => None,
     }
 }
 
-/// Runs what the words ask for, to this output, and writes metrics to the file of this name. Returns the exit status.
-fn run_with<W: Write>(
-    rt: &HostRuntime,
-    words: &[String],
-    host: &Host<'_>,
-    out: &mut W,
-    metrics: Option<&str>,
-) -> Result<u8, AllocError> {
-    let alloc = rt.alloc();
-    let err = &mut rt.stderr();
-    let Some(name) = metrics else {
-        return run(alloc, words, host, &RsaProvider, out, &mut io::sink(), err);
-    };
-    let Some((mut file, beside)) = made(rt, name)? else {
-        return Ok(2);
-    };
-    let status = run(alloc, words, host, &RsaProvider, out, &mut file, err);
-    settled(rt, &file, beside.as_str(), name, status)
+/// Writes the list to standard output. Returns whether it did.
+fn is_printed(rt: &HostRuntime, text: &[u8]) -> bool {
+    rt.stdout().write_all(text).is_ok()
 }
 
-/// Runs what the words ask for, and returns the exit status: 2 if a file can't be made, written or put in its place,
-/// and else that of [run].
+/// Writes what a run made. Returns its status, or 2 if nothing is written; 3 if the metrics are, and the list isn't.
+fn given(rt: &HostRuntime, files: &Files<'_>, text: &[u8], metrics: &[u8], status: u8) -> u8 {
+    match (files.output, files.metrics) {
+        (None, None) => {
+            if is_printed(rt, text) {
+                return status;
+            }
+            denied(rt, "standard output", "cannot be written")
+        }
+        (Some(output), None) => {
+            if put(rt, output, text) {
+                return status;
+            }
+            denied(rt, output, "cannot be written")
+        }
+        (None, Some(file)) => {
+            if !put(rt, file, metrics) {
+                return denied(rt, file, "cannot be written");
+            }
+            if is_printed(rt, text) {
+                return status;
+            }
+            denied(rt, "standard output", "cannot be written");
+            3
+        }
+        (Some(output), Some(file)) => match put_both(rt, (output, text), (file, metrics)) {
+            Ok(()) => status,
+            Err(Unwritten::Same) => denied(rt, file, "is the output's file too"),
+            Err(Unwritten::First) => denied(rt, output, "cannot be written"),
+            Err(Unwritten::Second) => denied(rt, file, "cannot be written"),
+            Err(Unwritten::Half) => {
+                denied(rt, output, "cannot be written; the metrics are");
+                3
+            }
+        },
+    }
+}
+
+/// Runs what the words ask for, and returns the exit status: that of [run], or 2 if nothing can be written, with a line
+/// to standard error that says why; 3 if the metrics are written, and the list can't be.
 ///
 /// Returns `AllocError` if allocation fails before anything is written.
 // It has no clause: what the host's streams and files contain is known to none of its calls. [run] says what is
 // written.
-pub fn run_to(rt: &HostRuntime, words: &[String], host: &Host<'_>) -> Result<u8, AllocError> {
-    let files = files_of(rt.alloc(), words)?;
-    let Some(name) = files.output else {
-        return run_with(rt, words, host, &mut rt.stdout(), files.metrics);
-    };
-    let Some((mut file, beside)) = made(rt, name)? else {
-        return Ok(2);
-    };
-    let status = run_with(rt, words, host, &mut file, files.metrics);
-    settled(rt, &file, beside.as_str(), name, status)
+pub fn run_to(rt: &HostRuntime, words: &[String]) -> Result<u8, AllocError> {
+    let alloc = rt.alloc();
+    let files = files_of(alloc, words)?;
+    if let Some((name, why)) = fault_of(rt, &files) {
+        return Ok(denied(rt, name, why));
+    }
+    let host = Host::new(rt, files.cache)?;
+    let mut text = Vec::new(alloc);
+    let mut metrics = Vec::new(alloc);
+    let err = &mut rt.stderr();
+    let status = run(
+        alloc,
+        words,
+        &host,
+        &RsaProvider,
+        &mut text,
+        &mut metrics,
+        err,
+    )?;
+    if status > 1 {
+        return Ok(status);
+    }
+    Ok(given(rt, &files, text.as_slice(), metrics.as_slice(), status))
 }

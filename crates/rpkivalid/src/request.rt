@@ -37,6 +37,8 @@ pub struct Request<'m, 'a> {
     pub number: Option<&'a str>,
     /// The name of the file that another validator wrote.
     pub compare: Option<&'a str>,
+    /// The text of the least number of route origins.
+    pub least: Option<&'a str>,
     /// The names of the files of locators.
     pub locators: &'m [&'a str],
 }
@@ -96,6 +98,7 @@ fn command<'a>(alloc: Global) -> Result<Command<'a>, AllocError>
         .arg(valued(alloc, "explain"))?
         .arg(valued(alloc, "as"))?
         .arg(valued(alloc, "compare"))?
+        .arg(valued(alloc, "least"))?
         .arg(repeated(alloc, "tal"))
 }
 
@@ -138,8 +141,14 @@ fn form_of(name: Option<&str>) -> Option<Form>
             if name == "json" {
                 return Some(Form::Json);
             }
+            if name == "stayrtr" {
+                return Some(Form::StayRtr);
+            }
             if name == "openbgpd" {
                 return Some(Form::OpenBgpd);
+            }
+            if name == "openbgpd-origins" {
+                return Some(Form::OpenBgpdOrigins);
             }
             if name == "bird" {
                 return Some(Form::Bird);
@@ -194,6 +203,7 @@ impl<'m, 'a> Request<'m, 'a> {
             explain: matches.get_str("explain"),
             number: matches.get_str("as"),
             compare: matches.get_str("compare"),
+            least: matches.get_str("least"),
             locators,
         })
     }

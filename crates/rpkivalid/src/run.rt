@@ -7,13 +7,14 @@ ghost use Rattle.rpkivalid.specs.Denied.{IsDenied, text_of};
 ghost use Rattle.rpkivalid.specs.Moment.{IsDepth, IsMomentOf, IsNoDepth};
 ghost use Rattle.rpkivalid.specs.Request.{help, version};
 ghost use Rattle.rpkivalid.specs.RequestView.{asked_of, wanted_by, Asks, AskHelp, AskVersion, AskRun, AskNothing};
-ghost use Rattle.rpkivalid.specs.Run.{metrics_for, status_of, Runs};
+ghost use Rattle.rpkivalid.specs.Run.{metrics_for, status_of, IsWritten, Runs};
 ghost use Rattle.rpkivalid.specs.RunView.{AnswersTo, ComparesTo, Gives, RepliesTo, RespondsTo};
 ghost use Rattle.rpkivalid.specs.Words.{Prints, PrintsAlone, usage_text};
 
 use crate::arguments::Wordless;
 use crate::compared::{Compared, compare};
 use crate::denial::Denial;
+use crate::enough::{least_of, some_anchored};
 use crate::excepted::{exceptions_in, shown_of};
 use crate::explained::{Explained, explain};
 use crate::found::{Found, both, found_under_all};
@@ -27,7 +28,7 @@ use crate::texts::{HELP, OUT_OF_MEMORY, USAGE, VERSION};
 use clap::ArgMatches;
 use rpki::der::write_whole;
 use rpki::repository::x509::Time;
-use rpki_payloads::{Payloads, metrics_text};
+use rpki_payloads::{Payloads, metrics_text, vrp_count};
 use rpki_rsa::PreparingProvider;
 use std::alloc::{AllocError, Global};
 use std::io::Write;
@@ -85,7 +86,31 @@ fn metrics_of(alloc: Global, file: Option<&str>, shown: &[Payloads]) -> Result<V
     }
 }
 
-/// What is asked for, at this moment and to this depth. Adds to the report what is rejected.
+/// The text of the payloads in the form that is asked for, made at the clock's moment. [Denial::TooFew] if there are
+/// fewer route origins than are asked for.
+fn written<S: Sources>(
+    alloc: Global,
+    request: &Request<'_, '_>,
+    host: &S,
+    shown: &[Payloads],
+) -> Result<Vec<u8>, Denial>
+    ensures { IfOk result (λ text. IsWritten (S.clock host.now) (asked_of request.now) shown.now text.items) }
+{
+    let Some(least) = least_of(request.least) else {
+        return Err(Denial::NoLeast);
+    };
+    let Some(made) = moment_at(host, None) else {
+        return Err(Denial::NoMoment);
+    };
+    if vrp_count(shown)? < least as usize {
+        return Err(Denial::TooFew);
+    }
+    let text = request.form.text_of(alloc, shown, made)?;
+    Ok(text)
+}
+
+/// What is asked for, at this moment and to this depth. Adds to the report what is rejected. [Denial::NoAnchor] if no
+/// locator has a trust anchor.
 fn answer_at<S: Sources, P: PreparingProvider>(
     alloc: Global,
     request: &Request<'_, '_>,
@@ -117,8 +142,11 @@ fn answer_at<S: Sources, P: PreparingProvider>(
         payloads,
         have_anchors,
     } = found;
+    if !some_anchored(payloads.as_slice()) {
+        return Err(Denial::NoAnchor);
+    }
     let shown = shown_of(alloc, local, payloads)?;
-    let text = request.form.text_of(alloc, shown.as_slice())?;
+    let text = written(alloc, request, host, shown.as_slice())?;
     let metrics = metrics_of(alloc, request.metrics, shown.as_slice())?;
     push_counts(report, shown.as_slice())?;
     let status = status_of(have_anchors, host.is_read());
@@ -308,7 +336,10 @@ fn validate_all<S: Sources, P: PreparingProvider, W: Write, M: Write, F: Write>(
     let mut report = Vec::new(alloc);
     match answer_of(alloc, request, host, crypto, &mut report) {
         Ok(answer) => give(&answer, report.as_slice(), out, sink, err),
-        Err(denial) => deny(alloc, denial, request, err),
+        Err(denial) => match write_whole(err, report.as_slice()) {
+            Ok(()) => deny(alloc, denial, request, err),
+            Err(_) => 2,
+        },
     }
 }
 

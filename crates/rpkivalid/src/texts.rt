@@ -2,9 +2,9 @@
 
 /// How the program is used.
 pub const USAGE: &[u8] = b"usage: rpkivalid --tal FILE.. --cache FOLDER [--at MOMENT] \
-[--form csv|json|rpki-client|openbgpd|bird] [--output FILE] \
-[--exceptions FILE] [--metrics FILE] [--depth N] [--strict] \
-[--explain URI|PREFIX [--as NUMBER]] [--compare FILE]\n";
+[--form csv|json|stayrtr|rpki-client|openbgpd|openbgpd-origins|bird] \
+[--output FILE] [--least NUMBER] [--exceptions FILE] [--metrics FILE] \
+[--depth N] [--strict] [--explain URI|PREFIX [--as NUMBER]] [--compare FILE]\n";
 
 /// The program's name and version.
 pub const VERSION: &[u8] = b"rpkivalid 0.2.0\n";
@@ -21,6 +21,16 @@ pub const NO_MOMENT: &[u8] = b"rpkivalid: no such moment\n";
 /// What is said where the word is no number of authorities.
 pub const NO_DEPTH: &[u8] = b"rpkivalid: no such depth\n";
 
+/// What is said where the word is no number of route origins.
+pub const NO_LEAST: &[u8] = b"rpkivalid: --least wants a number below 4294967296\n";
+
+/// What is said where no locator has a trust anchor.
+pub const NO_ANCHOR: &[u8] = b"rpkivalid: no locator has a trust anchor: nothing is written\n";
+
+/// What is said where there are fewer route origins than are asked for.
+pub const TOO_FEW: &[u8] =
+    b"rpkivalid: fewer route origins than --least asks for: nothing is written\n";
+
 /// What is said where the word is no rsync URI.
 pub const NO_URI: &[u8] = b"rpkivalid: not an rsync URI\n";
 
@@ -32,7 +42,7 @@ pub const HELP: &[u8] = b"\
 rpkivalid - validate a local copy of a repository of the RPKI
 
 usage: rpkivalid --tal FILE.. --cache FOLDER [--at MOMENT]
-                 [--form csv|json|rpki-client|openbgpd|bird] [--output FILE]
+                 [--form F] [--output FILE] [--least NUMBER]
                  [--exceptions FILE] [--metrics FILE] [--depth N] [--strict]
                  [--explain URI|PREFIX [--as NUMBER]] [--compare FILE]
        rpkivalid -h | --help
@@ -50,10 +60,14 @@ an object a line, and how many payloads there are.
                   rsync, rpki-client and Routinator leave it; a trust anchor at an
                   https URI is FOLDER/ta/NAME/FILE
   --at MOMENT     such as 2026-11-27T12:00:00Z (RFC 3339); else the clock's
-  --form F        csv (the default) or json, as of Routinator, or rpki-client, its
-                  csv with the second that each ends in, with each payload once
-                  for each locator; openbgpd or bird, with each once
-  --output FILE   write to FILE, whole or not at all; else to standard output
+  --form F        with each payload once for each locator: csv (the default) or
+                  json, as of Routinator; stayrtr, the JSON that StayRTR serves to
+                  routers; rpki-client, its csv with the second that each ends in.
+                  With each once: openbgpd, openbgpd-origins (without providers,
+                  for OpenBGPD before 8.0) or bird
+  --output FILE   write to FILE, whole or not at all; -, and without it, standard
+                  output. What is there and no regular file is written to
+  --least NUMBER  write nothing where there are fewer route origins
   --exceptions FILE
                   local exceptions (RFC 8416): take away what its filters match,
                   and add its assertions, under the name of the file
@@ -72,7 +86,8 @@ an object a line, and how many payloads there are.
                   attestations say of the latter
 
 Exit status: 0 if all is written; 1 if all is written, but a locator has no trust
-anchor, a file that is there could not be read, or FILE has other payloads; 2 if
-nothing is written: for a wrong usage, without a locator, the local exceptions or
-the FILE to compare, if memory fails, and if writing fails.
+anchor, the copy could not be read, or FILE has other payloads; 2 if nothing is
+written: for a wrong usage, without a locator, any trust anchor, the local
+exceptions or the FILE to compare, if memory fails, and if writing fails; 3 if the
+metrics are written, and the payloads are not.
 ";

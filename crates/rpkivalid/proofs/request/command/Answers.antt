@@ -31,5 +31,7 @@ returns c =
     ∙ ap₂ with_rule explain c.valued-9.ensures.rule in
     let compare = c.in_ok-arg-13.ensures.shape c.valued-10.ensures.local
     ∙ ap₂ with_rule number c.valued-10.ensures.rule in
-    IfOk-weaker c.arg-14.result _ _ (λ r h. h.shape c.repeated.ensures.local
-    ∙ ap₂ with_rule compare c.repeated.ensures.rule) c.arg-14.ensures
+    let least = c.in_ok-arg-14.ensures.shape c.valued-11.ensures.local
+    ∙ ap₂ with_rule compare c.valued-11.ensures.rule in
+    IfOk-weaker c.arg-15.result _ _ (λ r h. h.shape c.repeated.ensures.local
+    ∙ ap₂ with_rule least c.repeated.ensures.rule) c.arg-15.ensures

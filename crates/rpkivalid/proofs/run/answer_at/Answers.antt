@@ -1,4 +1,4 @@
-use Rattle.std.proofs.Common.{map}
+use Rattle.std.proofs.Common.{map, rules}
 use Rattle.rpkivalid.specs.LocatorsView.{named_of}
 use Rattle.rpkivalid.proofs.RunLaws.{shown-by}
 use Rattle.rpkivalid.proofs.run.answer_at.Goals as goal
@@ -16,8 +16,9 @@ returns g c = record {
   each = rw c.as_slice.ensures.value at c.in_ok-found.ensures;
   shown = c.in_ok-shown.shown.items;
   excepted = shown-by _ _ _ _ _ c.in_ok-local.ensures c.in_ok-shown.ensures;
-  written = rw c.as_slice-2.ensures.value at c.in_ok-text.ensures;
-  metrics_are = rw c.as_slice-3.ensures.value at c.in_ok-metrics.ensures;
+  some = search rules;
+  written = rw c.as_slice-3.ensures.value at c.in_ok-text.ensures;
+  metrics_are = rw c.as_slice-4.ensures.value at c.in_ok-metrics.ensures;
   read = c.is_read.result;
   known = c.is_read.ensures;
   status_is = c.status_of-status.ensures;

@@ -59,7 +59,8 @@ returns c =
     let explain = c.get_str-8.ensures ∙ first_value-rows (found_of c.args.matches.now) (codes "explain") in
     let number = c.get_str-9.ensures ∙ first_value-rows (found_of c.args.matches.now) (codes "as") in
     let compare = c.get_str-10.ensures ∙ first_value-rows (found_of c.args.matches.now) (codes "compare") in
-    of-all rows _ _ _ _ _ _ _ _ _ c.in_ok-form.form c.in_ok-cache.cache.now
+    let least = c.get_str-11.ensures ∙ first_value-rows (found_of c.args.matches.now) (codes "least") in
+    of-all rows _ _ _ _ _ _ _ _ _ _ c.in_ok-form.form c.in_ok-cache.cache.now
     (map (λ file. file.now) c.in_ok-locators.locators.now)
     (c.strictness_of.ensures ∙ ap strictness_of c.is_given.ensures) moment output depth exceptions metrics
-    explain number compare (sym form ∙ named) (rw cache at folder) (rw files at all)
+    explain number compare least (sym form ∙ named) (rw cache at folder) (rw files at all)
