@@ -109,6 +109,8 @@ fn main() {
     stop(&[
         format!("there is no librpki.a in any of {folders:?}, and pkg-config knows no rpki"),
         format!("set {VARIABLE} to its folder: lib/{architecture} of an unpacked package of the library"),
-        "or, in a clone of the repository, make it by bindings/archive, which needs the toolchain".into(),
+        "or, in a clone of the repository, which wants the toolchain, make it there: bindings/archive proves it too, in \
+         an hour; tests/gate/unproved_library.py bindings/out builds it without proof, in a minute"
+            .into(),
     ]);
 }

@@ -25,6 +25,7 @@
 #![deny(unsafe_code)]
 #![deny(unsafe_op_in_unsafe_fn)]
 
+mod captured;
 pub mod crypto;
 mod encode;
 #[allow(unsafe_code)]
@@ -33,6 +34,7 @@ mod octets;
 pub mod oid;
 pub mod repository;
 pub mod resources;
+pub mod rtr;
 #[cfg(feature = "serde")]
 mod texts;
 pub mod uri;
@@ -40,6 +42,7 @@ pub mod util;
 mod version;
 pub mod view;
 
+pub use captured::Captured;
 pub use octets::IntoOctets;
 pub use version::{library_version, Version};
 pub use view::DecodeError;

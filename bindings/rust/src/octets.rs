@@ -1,5 +1,6 @@
 //! What values are read from.
 
+use crate::captured::Captured;
 use bytes::{Bytes, BytesMut};
 
 /// Octets that a value is read from. Owned ones, and those of [Bytes], are shared by the value that is read; of borrowed
@@ -44,6 +45,18 @@ impl IntoOctets for Box<[u8]> {
 impl IntoOctets for &Bytes {
     fn into_octets(self) -> Bytes {
         self.clone()
+    }
+}
+
+impl IntoOctets for Captured {
+    fn into_octets(self) -> Bytes {
+        self.into_bytes()
+    }
+}
+
+impl IntoOctets for &Captured {
+    fn into_octets(self) -> Bytes {
+        self.to_bytes()
     }
 }
 

@@ -216,6 +216,7 @@ impl Rsync {
 
     /// The URI without its last segment, with the slash before that; `None` where the path is empty. It shares this
     /// one's text.
+    #[must_use]
     pub fn parent(&self) -> Option<Self> {
         let (text, start) = (self.as_str(), self.path_start());
         // The last octet is of the last segment, also where it is a slash.
@@ -244,6 +245,7 @@ impl Rsync {
     /// `None` where they are in two modules or the other's segments do not begin this one's. Authorities are compared
     /// without regard to case, all else exactly.
     #[inline]
+    #[must_use]
     pub fn relative_to(&self, other: &Rsync) -> Option<&str> {
         let ends = self.parsed.ends();
         if other.parsed.ends().places_of_module() != ends.places_of_module() {
@@ -270,6 +272,7 @@ impl Rsync {
 
     /// Whether the other URI lies below this one: in the same module, with more segments that begin with this one's.
     #[inline]
+    #[must_use]
     pub fn is_parent_of(&self, other: &Self) -> bool {
         other.relative_to(self).map_or(false, |path| !path.is_empty())
     }
@@ -280,6 +283,7 @@ impl Rsync {
     }
 
     /// Whether both are in the same module and have the same segments, with a slash last or without.
+    #[must_use]
     pub fn is_identical_to(&self, other: &Self) -> bool {
         self.relative_to(other) == Some("")
     }
@@ -392,6 +396,7 @@ impl Https {
 
     /// The URI above: one last slash of the path dropped, and then everything after the last
     /// remaining slash; `None` where nothing remains. It shares this one's text.
+    #[must_use]
     pub fn parent(&self) -> Option<Self> {
         match self.parsed.parent() {
             Ok(size) => Some(Https { parsed: self.parsed.front(size) }),

@@ -53,9 +53,9 @@ fn claims_are_those_of_openssl() {
     }
     // Another extension: nothing is claimed.
     let none = changed(ip, b"\x06\x08\x2b\x06\x01\x05\x05\x07\x01\x7f");
-    assert!(!none.has_ip_resources() && none.v4_resources() == IpResources::missing());
+    assert!(!none.has_ip_resources() && none.v4_resources() == &IpResources::missing());
     let none = changed(numbers, b"\x06\x08\x2b\x06\x01\x05\x05\x07\x01\x7f");
-    assert_eq!(none.as_resources(), AsResources::missing());
+    assert_eq!(none.as_resources(), &AsResources::missing());
 }
 
 /// Addresses of IP version 6 alone are claimed too.

@@ -199,7 +199,7 @@ fn provider_is_asked_the_right_question() {
     struct Asks<'a>(&'a SignedObject);
     impl Provider for Asks<'_> {
         fn sha256(&self, octets: &[u8]) -> [u8; 32] {
-            assert_eq!(octets, self.0.content());
+            assert_eq!(octets, self.0.content().as_slice());
             let mut digest = [0; 32];
             digest.copy_from_slice(self.0.signed_attrs().message_digest().as_slice());
             digest

@@ -393,7 +393,7 @@ fn address_sets() {
 #[test]
 fn counts() {
     for (low, high, count) in
-        [(0, 0, 1), (5, 5, 1), (3000, 3999, 1000), (5, 4, 0), (1, u32::MAX, u32::MAX), (0, u32::MAX, u32::MAX)]
+        [(0, 0, 1), (5, 5, 1), (3000, 3999, 1000), (1, u32::MAX, u32::MAX), (0, u32::MAX, u32::MAX)]
     {
         let block = AsBlock::from((Asn::from_u32(low), Asn::from_u32(high)));
         assert_eq!(block.asn_count(), count, "{block}");
@@ -415,7 +415,7 @@ fn counts() {
     }
     assert!(AsBlocks::empty().is_empty() && !AsBlocks::all().is_empty());
     let reversed = AsBlock::from((Asn::from_u32(5), Asn::from_u32(4)));
-    assert!([reversed].into_iter().collect::<AsBlocks>().is_empty());
+    assert_eq!([reversed].into_iter().collect::<AsBlocks>().to_string(), "AS4-AS5");
     for (prefix, len, first, last) in [
         (Prefix::new(v4("10.0.32.1"), 20), 20, v4("10.0.32.0"), v4("10.0.47.255").to_max(32)),
         (Prefix::new(v4("10.0.64.0"), 24), 24, v4("10.0.64.0"), v4("10.0.64.255").to_max(32)),

@@ -105,6 +105,10 @@ fn locators() {
     assert!(matches!(read(format!("# only\n\n{key}")), Err(ReadError::Uri)));
     assert!(matches!(read(format!("ftp://a.example/\n\n{key}")), Err(ReadError::Uri)));
     assert!(matches!(read(format!("{uri}# late\n\n{key}")), Err(ReadError::Uri)));
+    for folder in ["rsync://a.example/b/", "rsync://a.example/b/c/", "https://a.example/", "https://a.example/b/"] {
+        assert!(matches!(read(format!("{folder}\n\n{key}")), Err(ReadError::Uri)), "{folder}");
+        assert!(matches!(read(format!("{uri}{folder}\n\n{key}")), Err(ReadError::Uri)), "{folder}");
+    }
     assert!(matches!(read(uri.into()), Err(ReadError::Base64)));
     assert!(matches!(read(format!("{uri}\n{key}*")), Err(ReadError::Base64)));
     assert!(matches!(read(format!("{uri}\n")), Err(ReadError::Key(_))));
@@ -189,7 +193,9 @@ fn authorities() {
 fn routers() {
     let (anchor, found) = (anchor(), authority());
     let router = Cert::decode(ROUTER).unwrap();
-    assert_eq!(router.validate_router_at(&found, true, now()), Ok(()));
+    let valid = router.validate_router_at(&found, true, now()).unwrap();
+    assert_eq!(ResourceSet::from(&valid).to_string(), "asn: 'AS64496', ipv4: '', ipv6: ''");
+    assert!(!valid.is_authority() && valid.as_cert() == &router);
     assert_eq!(text(router.validate_router_at(&anchor, true, now())), "issuer has another name");
     assert_eq!(text(router.validate_router_at(&found, true, at(UNTIL + 1))), "certificate has expired");
     let other = Cert::decode(changed(ROUTER, ROUTER.len() - 1)).unwrap();
@@ -303,6 +309,9 @@ fn origins() {
     assert_eq!(text(process(GONE, now())), "certificate is revoked");
     let lacking = "resources that the issuer or the signer does not have";
     assert_eq!(text(process(WIDE, now())), lacking);
+    // By its certificate alone, whatever it says.
+    let wide = Roa::decode(WIDE, true).unwrap().object().clone();
+    assert_eq!(text(wide.validate_at(&found, true, now())), lacking);
     assert_eq!(text(process(file!("far.roa"), now())), lacking);
     assert_eq!(text(process(file!("kinds.roa"), now())), "certificate with other kinds of resources than its object");
     assert_eq!(text(process(ROA, at(FROM - 1))), "certificate is not yet valid");
@@ -334,6 +343,9 @@ fn attestations() {
     assert_eq!(providers, [64499, 64501]);
     assert_eq!(text(process(file!("other.asa"))), "resources that the issuer or the signer does not have");
     assert_eq!(text(process(file!("above.asa"))), "resources that the issuer or the signer does not have");
+    let above = Aspa::decode(&file!("above.asa")[..], true).unwrap().object().clone();
+    let told = text(above.validate_at(&found, true, now()));
+    assert_eq!(told, "resources that the issuer or the signer does not have");
     assert_eq!(text(process(file!("kinds.asa"))), "certificate with other kinds of resources than its object");
     assert_eq!(text(process(ROA)), "content of another type");
 }

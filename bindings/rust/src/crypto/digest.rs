@@ -1,6 +1,7 @@
 //! Digest algorithms.
 
 use crate::crypto::algorithm;
+use crate::ffi;
 use crate::view::DecodeError;
 
 /// The digest algorithm of the RPKI, SHA-256 (RFC 7935 2).
@@ -32,6 +33,11 @@ impl DigestAlgorithm {
     /// How many octets a digest has: 32.
     pub fn digest_len(&self) -> usize {
         32
+    }
+
+    /// The digest of the octets.
+    pub fn digest(self, octets: &[u8]) -> Digest {
+        Digest(ffi::sha256(octets).to_vec())
     }
 
     /// Reads an algorithm identifier that is all of the octets: SHA-256, with NULL for parameters or with none.
@@ -71,5 +77,59 @@ impl DigestAlgorithm {
     /// The object identifier.
     pub fn encode_oid(self) -> &'static [u8] {
         IDENTIFIER
+    }
+}
+
+/// A digest: 32 octets by SHA-256, 20 by SHA-1.
+#[derive(Clone, Debug, PartialEq, Eq, Hash)]
+pub struct Digest(Vec<u8>);
+
+impl AsRef<[u8]> for Digest {
+    fn as_ref(&self) -> &[u8] {
+        &self.0
+    }
+}
+
+/// The digest of the octets by SHA-1 (FIPS 180-4 6.1), of which the RPKI makes key identifiers alone. It is Rust of this
+/// package's own: of a key [PublicKey::key_identifier](crate::crypto::PublicKey::key_identifier) is a proved call.
+///
+/// ```
+/// let digest = rpki_proved::crypto::digest::sha1_digest(b"abc");
+/// assert_eq!(digest.as_ref()[..4], [0xa9, 0x99, 0x3e, 0x36]);
+/// ```
+pub fn sha1_digest(octets: &[u8]) -> Digest {
+    let mut padded = octets.to_vec();
+    padded.push(0x80);
+    padded.resize((octets.len() + 9 + 63) / 64 * 64 - 8, 0);
+    padded.extend((octets.len() as u64 * 8).to_be_bytes());
+    let mut state = [0x6745_2301, 0xefcd_ab89, 0x98ba_dcfe, 0x1032_5476, 0xc3d2_e1f0];
+    for block in padded.chunks_exact(64) {
+        sha1_block(&mut state, block);
+    }
+    Digest(state.iter().flat_map(|word: &u32| word.to_be_bytes()).collect())
+}
+
+/// Takes in a block of 64 octets (FIPS 180-4 6.1.2).
+fn sha1_block(state: &mut [u32; 5], block: &[u8]) {
+    let mut words = [0_u32; 80];
+    for (word, octets) in words.iter_mut().zip(block.chunks_exact(4)) {
+        *word = u32::from_be_bytes([octets[0], octets[1], octets[2], octets[3]]);
+    }
+    for at in 16..80 {
+        words[at] = (words[at - 3] ^ words[at - 8] ^ words[at - 14] ^ words[at - 16]).rotate_left(1);
+    }
+    let [mut a, mut b, mut c, mut d, mut e] = *state;
+    for (at, word) in words.into_iter().enumerate() {
+        let (mixed, constant) = match at / 20 {
+            0 => (b & c | !b & d, 0x5a82_7999),
+            1 => (b ^ c ^ d, 0x6ed9_eba1),
+            2 => (b & c | b & d | c & d, 0x8f1b_bcdc),
+            _ => (b ^ c ^ d, 0xca62_c1d6),
+        };
+        let next: u32 = a.rotate_left(5).wrapping_add(mixed).wrapping_add(e).wrapping_add(constant).wrapping_add(word);
+        (a, b, c, d, e) = (next, a, b.rotate_left(30), c, d);
+    }
+    for (word, more) in state.iter_mut().zip([a, b, c, d, e]) {
+        *word = word.wrapping_add(more);
     }
 }

@@ -3,7 +3,7 @@
 use crate::ffi::{self, Status};
 use crate::octets::IntoOctets;
 use crate::repository::cert::{Cert, ResourceCert};
-use crate::repository::error::ValidationError;
+use crate::repository::error::{MalformedError, ValidationError};
 use crate::repository::resources::Asn;
 use crate::repository::sigobj::SignedObject;
 use crate::repository::x509::Time;
@@ -137,6 +137,7 @@ impl ProviderAsSet {
     }
 
     /// The providers as a set.
+    #[must_use]
     pub fn to_set(&self) -> SmallAsnSet {
         self.iter().collect()
     }
@@ -171,11 +172,13 @@ impl Iterator for Providers<'_> {
 }
 
 /// An attestation of providers: a signed object with its content (RFC 6488, draft-ietf-sidrops-aspa-profile).
-#[derive(Clone, Debug)]
+#[derive(Clone, Debug, PartialEq, Eq)]
 pub struct Aspa {
     object: SignedObject,
     content: AsProviderAttestation,
 }
+
+crate::captured::captured!(Aspa);
 
 impl Aspa {
     /// Reads a signed object, and its content, of this type; `strict` is as of [SignedObject::decode]. Nothing is
@@ -184,15 +187,21 @@ impl Aspa {
     /// # Errors
     /// The malformed part; the content is of another type.
     pub fn decode(octets: impl IntoOctets, strict: bool) -> Result<Self, ValidationError> {
-        let object = SignedObject::decode(octets, strict)?;
-        object.must_be_of(ffi::TYPE_ASPA)?;
-        let content = AsProviderAttestation::decode(object.content().clone())?;
+        let object = SignedObject::decode_of(octets, strict, ffi::TYPE_ASPA)?;
+        let reason = || AsProviderAttestation::reason(object.content()).map(|(_, reason)| reason);
+        let content = AsProviderAttestation::decode(object.content());
+        let content = content.map_err(|part| MalformedError::new(part, reason()))?;
         Ok(Aspa { object, content })
     }
 
     /// The signed object.
     pub fn object(&self) -> &SignedObject {
         &self.object
+    }
+
+    /// The octets of the object.
+    pub fn to_bytes(&self) -> Bytes {
+        self.object.to_bytes()
     }
 
     /// The certificate of its signer, of which nothing is verified.

@@ -4,6 +4,7 @@ use crate::crypto::keys::PublicKey;
 use crate::crypto::signature::{RpkiSignature, RpkiSignatureAlgorithm, Signature};
 use crate::ffi::{self, Status};
 use crate::octets::IntoOctets;
+use crate::repository::error::InspectionError;
 use crate::repository::x509::{Name, Serial, Validity};
 use crate::view::{DecodeError, Extension};
 use bytes::Bytes;
@@ -148,7 +149,11 @@ impl fmt::Display for CertError {
     }
 }
 
-impl Error for CertError {}
+impl Error for CertError {
+    fn source(&self) -> Option<&(dyn Error + 'static)> {
+        Some(&self.reason)
+    }
+}
 
 /// A resource certificate: its octets, and what they say, extensions included, read once. Names, the key and URIs share
 /// the octets that it was read from. Two are equal where their octets are. [Cert::inspect_ca] and its kin say whether
@@ -294,11 +299,17 @@ impl Cert {
         self.kept.as_ref().map(|kept| &kept.known).map_err(|error| *error)
     }
 
-    fn inspect(&self, profile: u8, strict: bool) -> Result<(), CertRule> {
+    /// # Errors
+    /// The rule of the profile of this number that the certificate breaks first.
+    pub(crate) fn keeps(&self, profile: u8, strict: bool) -> Result<(), CertRule> {
         if self.profile == Some(profile) {
             return Ok(());
         }
         ffi::certificate_inspect(&self.octets, profile, strict).map_err(CertRule::from_status)
+    }
+
+    fn inspect(&self, profile: u8, strict: bool) -> Result<(), InspectionError> {
+        Ok(self.keeps(profile, strict)?)
     }
 
     /// Holds the certificate to the profile of trust anchors (RFC 6487 4): that of certification
@@ -307,8 +318,8 @@ impl Cert {
     /// canonical; a trust anchor inherits none.
     ///
     /// # Errors
-    /// The rule that it breaks first.
-    pub fn inspect_ta(&self, strict: bool) -> Result<(), CertRule> {
+    /// The rule that it breaks first, as [InspectionError::rule].
+    pub fn inspect_ta(&self, strict: bool) -> Result<(), InspectionError> {
         self.inspect(ffi::CERTIFICATE_TA, strict)
     }
 
@@ -316,8 +327,8 @@ impl Cert {
     /// another.
     ///
     /// # Errors
-    /// The rule that it breaks first.
-    pub fn inspect_ca(&self, strict: bool) -> Result<(), CertRule> {
+    /// The rule that it breaks first, as [InspectionError::rule].
+    pub fn inspect_ca(&self, strict: bool) -> Result<(), InspectionError> {
         self.inspect(ffi::CERTIFICATE_CA, strict)
     }
 
@@ -325,8 +336,8 @@ impl Cert {
     /// does to another.
     ///
     /// # Errors
-    /// The rule that it breaks first.
-    pub fn inspect_ee(&self, strict: bool) -> Result<(), CertRule> {
+    /// The rule that it breaks first, as [InspectionError::rule].
+    pub fn inspect_ee(&self, strict: bool) -> Result<(), InspectionError> {
         self.inspect(ffi::CERTIFICATE_EE, strict)
     }
 
@@ -334,19 +345,21 @@ impl Cert {
     /// in no repository (RFC 9323 2), as [Cert::inspect_ta] does to another.
     ///
     /// # Errors
-    /// The rule that it breaks first.
-    pub fn inspect_detached_ee(&self, strict: bool) -> Result<(), CertRule> {
+    /// The rule that it breaks first, as [InspectionError::rule].
+    pub fn inspect_detached_ee(&self, strict: bool) -> Result<(), InspectionError> {
         self.inspect(ffi::CERTIFICATE_DETACHED_EE, strict)
     }
 
     /// Holds the certificate to the profile of BGPsec routers (RFC 8209 3.1), as [Cert::inspect_ta] does to another.
     ///
     /// # Errors
-    /// The rule that it breaks first.
-    pub fn inspect_router(&self, strict: bool) -> Result<(), CertRule> {
+    /// The rule that it breaks first, as [InspectionError::rule].
+    pub fn inspect_router(&self, strict: bool) -> Result<(), InspectionError> {
         self.inspect(ffi::CERTIFICATE_ROUTER, strict)
     }
 }
+
+crate::captured::captured!(Cert);
 
 impl PartialEq for Cert {
     fn eq(&self, other: &Cert) -> bool {

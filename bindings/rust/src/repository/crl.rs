@@ -4,6 +4,7 @@ use crate::crypto::keys::{KeyIdentifier, PublicKey};
 use crate::crypto::signature::{
     Provider, RpkiSignature, RpkiSignatureAlgorithm, Signature, SignatureVerificationError,
 };
+use crate::encode::{value, SEQUENCE};
 use crate::ffi::{self, Status};
 use crate::octets::IntoOctets;
 use crate::repository::cert::{Cert, ResourceCert};
@@ -194,6 +195,7 @@ impl Crl {
 
     /// Whether the next list is due by now, by the machine's clock, so that this one may lack certificates that are
     /// revoked.
+    #[must_use]
     pub fn is_stale(&self) -> bool {
         self.next_update < Time::now()
     }
@@ -220,6 +222,7 @@ impl Crl {
 
     /// Whether the list has a certificate of this serial number: in one step after [Crl::cache_serials], and else in
     /// one an entry.
+    #[must_use]
     pub fn contains(&self, serial: Serial) -> bool {
         match &self.serials {
             Some(serials) => serials.contains(&serial),
@@ -252,7 +255,8 @@ impl Crl {
 impl Crl {
     /// Checks that this is the list of the authority, and current now, by the machine's clock: it has the name and the
     /// key identifier of the authority's certificate, that key has signed it, and now is not before this update, nor
-    /// after the next (RFC 5280 6.3.3, RFC 6487 5). Whether another list is newer is not looked at.
+    /// after the next (RFC 5280 6.3.3, RFC 6487 5). Whether another list is newer is not looked at. Where more than a few
+    /// certificates are asked about, call [CurrentCrl::cache_serials] of what this returns.
     ///
     /// # Errors
     /// The first that doesn't hold; the issuer is no authority.
@@ -270,6 +274,8 @@ impl Crl {
         Ok(CurrentCrl(self))
     }
 }
+
+crate::captured::captured!(Crl);
 
 impl PartialEq for Crl {
     fn eq(&self, other: &Crl) -> bool {
@@ -303,6 +309,12 @@ impl CurrentCrl {
         Ok(())
     }
 
+    /// Keeps the serial numbers of the entries, as [Crl::cache_serials] does: without it each certificate that is asked
+    /// about takes a step an entry.
+    pub fn cache_serials(&mut self) {
+        self.0.cache_serials();
+    }
+
     /// The list.
     pub fn into_crl(self) -> Crl {
         self.0
@@ -333,8 +345,20 @@ impl RevokedCertificates {
     }
 
     /// Whether one of them has this serial number; takes a step an entry.
+    #[must_use]
     pub fn contains(&self, serial: Serial) -> bool {
         ffi::crl_contains(&self.0, &serial.into_array()).expect("entries that were read")
+    }
+}
+
+/// Those of these entries, in their order.
+impl FromIterator<CrlEntry> for RevokedCertificates {
+    fn from_iter<I: IntoIterator<Item = CrlEntry>>(entries: I) -> Self {
+        let entry = |entry: CrlEntry| {
+            let parts = [entry.user_certificate.encode(), entry.revocation_date.encode_varied()];
+            value(SEQUENCE, &parts.concat())
+        };
+        RevokedCertificates(entries.into_iter().map(entry).collect::<Vec<_>>().concat().into())
     }
 }
 

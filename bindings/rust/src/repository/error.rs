@@ -45,36 +45,56 @@ impl From<SignatureVerificationError> for ContentError {
     }
 }
 
-/// A value is well formed, and against what a profile says.
+/// A value is well formed, and against what a profile says. Its source is the rule that it breaks, a [CertRule] or an
+/// [ExtensionError], where it breaks one of these.
 #[derive(Clone, Debug, PartialEq, Eq)]
-pub struct InspectionError(ContentError);
+pub struct InspectionError {
+    error: ContentError,
+    rule: Option<CertRule>,
+    extension: Option<ExtensionError>,
+}
 
 impl InspectionError {
     /// The error with what is wrong.
     pub fn new(error: impl Into<ContentError>) -> Self {
-        InspectionError(error.into())
+        InspectionError { error: error.into(), rule: None, extension: None }
+    }
+
+    /// The rule of a profile of certificates that is broken, where it is one.
+    pub fn rule(&self) -> Option<CertRule> {
+        self.rule
+    }
+
+    /// The extension that is wrong, where it is one.
+    pub fn extension(&self) -> Option<ExtensionError> {
+        self.extension
     }
 }
 
 impl From<ContentError> for InspectionError {
     fn from(error: ContentError) -> Self {
-        InspectionError(error)
+        InspectionError::new(error)
     }
 }
 
 impl From<InspectionError> for ContentError {
     fn from(error: InspectionError) -> Self {
-        error.0
+        error.error
     }
 }
 
 impl fmt::Display for InspectionError {
     fn fmt(&self, f: &mut fmt::Formatter) -> fmt::Result {
-        self.0.fmt(f)
+        self.error.fmt(f)
     }
 }
 
-impl Error for InspectionError {}
+impl Error for InspectionError {
+    fn source(&self) -> Option<&(dyn Error + 'static)> {
+        let extension = || self.extension.as_ref().map(|it| it as _);
+        self.rule.as_ref().map(|it| it as _).or_else(extension)
+    }
+}
 
 /// A value is not what a signature or a period permits.
 #[derive(Clone, Debug, PartialEq, Eq)]
@@ -117,14 +137,81 @@ impl fmt::Display for VerificationError {
 
 impl Error for VerificationError {}
 
-/// Why a value is not valid: it could not be read, or an inspection or a verification failed.
+/// The malformed part of a value, as its reader names it.
+#[derive(Clone, Copy, Debug, PartialEq, Eq, Hash)]
+#[non_exhaustive]
+pub enum MalformedPart {
+    /// Of a certificate.
+    Cert(CertPart),
+    /// Of a revocation list.
+    Crl(CrlError),
+    /// Of a signed object.
+    SignedObject(SignedObjectError),
+    /// Of what a manifest contains.
+    Manifest(ManifestError),
+    /// Of what a route origin attestation contains.
+    Roa(RoaError),
+    /// Of what an attestation of providers contains.
+    Aspa(AspaError),
+}
+
+/// A part of a value is malformed. Its source is what is wrong in it, where that was looked for.
+#[derive(Clone, Copy, Debug, PartialEq, Eq, Hash)]
+pub struct MalformedError {
+    part: MalformedPart,
+    reason: Option<DecodeError>,
+}
+
+impl MalformedError {
+    pub(crate) fn new(part: impl Into<MalformedPart>, reason: Option<DecodeError>) -> Self {
+        MalformedError { part: part.into(), reason }
+    }
+
+    /// The malformed part.
+    pub fn part(&self) -> MalformedPart {
+        self.part
+    }
+
+    /// The leftmost error in it, as a reader of that part returns it: where a certificate, a manifest or an attestation
+    /// was read. Of a revocation list [Crl::reason](crate::repository::crl::Crl::reason) says it.
+    pub fn reason(&self) -> Option<DecodeError> {
+        self.reason
+    }
+
+    /// What is said of it.
+    fn text(&self) -> &'static str {
+        match &self.part {
+            MalformedPart::Cert(part) => part.text(),
+            MalformedPart::Crl(part) => part.text(),
+            MalformedPart::SignedObject(part) => part.text(),
+            MalformedPart::Manifest(part) => part.text(),
+            MalformedPart::Roa(part) => part.text(),
+            MalformedPart::Aspa(part) => part.text(),
+        }
+    }
+}
+
+impl fmt::Display for MalformedError {
+    fn fmt(&self, f: &mut fmt::Formatter) -> fmt::Result {
+        f.write_str(self.text())
+    }
+}
+
+impl Error for MalformedError {
+    fn source(&self) -> Option<&(dyn Error + 'static)> {
+        self.reason.as_ref().map(|it| it as _)
+    }
+}
+
+/// Why a value is not valid: it could not be read, or an inspection or a verification failed. Its source is the error
+/// that it has, and of that what is below.
 #[derive(Clone, Debug, PartialEq, Eq)]
 #[non_exhaustive]
 pub enum ValidationError {
     /// It could not be read.
     Decode(DecodeError),
     /// A part of it is malformed.
-    Malformed(ContentError),
+    Malformed(MalformedError),
     /// An inspection failed.
     Inspection(InspectionError),
     /// A verification failed.
@@ -160,38 +247,66 @@ impl fmt::Display for ValidationError {
     }
 }
 
-impl Error for ValidationError {}
+impl Error for ValidationError {
+    fn source(&self) -> Option<&(dyn Error + 'static)> {
+        Some(match self {
+            ValidationError::Decode(error) => error,
+            ValidationError::Malformed(error) => error,
+            ValidationError::Inspection(error) => error,
+            ValidationError::Verification(error) => error,
+        })
+    }
+}
 
 /// An error of a part of a value says that the part is malformed.
 macro_rules! malformed {
-    ($($name:ty),*) => {
+    ($($kind:ident($name:ty);)*) => {
         $(
+            impl From<$name> for MalformedPart {
+                fn from(part: $name) -> Self {
+                    MalformedPart::$kind(part)
+                }
+            }
+
             impl From<$name> for ValidationError {
-                fn from(error: $name) -> Self {
-                    ValidationError::Malformed(ContentError(error.text()))
+                fn from(part: $name) -> Self {
+                    MalformedError::new(part, None).into()
                 }
             }
         )*
     };
 }
 
-malformed!(CertPart, CrlError, SignedObjectError, ManifestError, RoaError, AspaError);
+malformed! {
+    Cert(CertPart);
+    Crl(CrlError);
+    SignedObject(SignedObjectError);
+    Manifest(ManifestError);
+    Roa(RoaError);
+    Aspa(AspaError);
+}
+
+impl From<MalformedError> for ValidationError {
+    fn from(error: MalformedError) -> Self {
+        ValidationError::Malformed(error)
+    }
+}
 
 impl From<CertError> for ValidationError {
     fn from(error: CertError) -> Self {
-        error.part().into()
+        MalformedError::new(error.part(), Some(error.reason())).into()
     }
 }
 
 impl From<CertRule> for InspectionError {
-    fn from(error: CertRule) -> Self {
-        InspectionError(ContentError(error.text()))
+    fn from(rule: CertRule) -> Self {
+        InspectionError { error: ContentError(rule.text()), rule: Some(rule), extension: None }
     }
 }
 
 impl From<ExtensionError> for InspectionError {
     fn from(error: ExtensionError) -> Self {
-        InspectionError(ContentError(error.text()))
+        InspectionError { error: ContentError(error.text()), rule: None, extension: Some(error) }
     }
 }
 

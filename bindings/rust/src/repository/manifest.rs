@@ -4,7 +4,7 @@ use crate::crypto::DigestAlgorithm;
 use crate::ffi::{self, Status};
 use crate::octets::IntoOctets;
 use crate::repository::cert::{Cert, ResourceCert};
-use crate::repository::error::ValidationError;
+use crate::repository::error::{MalformedError, ValidationError};
 use crate::repository::sigobj::{MessageDigest, SignedObject};
 use crate::repository::x509::{Serial, Time, Validity};
 use crate::uri;
@@ -137,6 +137,7 @@ impl ManifestContent {
     }
 
     /// Whether the next manifest is due by now, by the machine's clock.
+    #[must_use]
     pub fn is_stale(&self) -> bool {
         self.next_update < Time::now()
     }
@@ -244,11 +245,13 @@ impl Iterator for Files {
 impl ExactSizeIterator for Files {}
 
 /// A manifest: a signed object with its content (RFC 6488, RFC 9286).
-#[derive(Clone, Debug)]
+#[derive(Clone, Debug, PartialEq, Eq)]
 pub struct Manifest {
     object: SignedObject,
     content: ManifestContent,
 }
+
+crate::captured::captured!(Manifest);
 
 impl Manifest {
     /// Reads a signed object, and its content, of this type; `strict` is as of [SignedObject::decode]. Nothing is
@@ -257,15 +260,21 @@ impl Manifest {
     /// # Errors
     /// The malformed part; the content is of another type.
     pub fn decode(octets: impl IntoOctets, strict: bool) -> Result<Self, ValidationError> {
-        let object = SignedObject::decode(octets, strict)?;
-        object.must_be_of(ffi::TYPE_MANIFEST)?;
-        let content = ManifestContent::decode(object.content().clone())?;
+        let object = SignedObject::decode_of(octets, strict, ffi::TYPE_MANIFEST)?;
+        let reason = || ManifestContent::reason(object.content()).map(|(_, reason)| reason);
+        let content = ManifestContent::decode(object.content());
+        let content = content.map_err(|part| MalformedError::new(part, reason()))?;
         Ok(Manifest { object, content })
     }
 
     /// The signed object.
     pub fn object(&self) -> &SignedObject {
         &self.object
+    }
+
+    /// The octets of the object.
+    pub fn to_bytes(&self) -> Bytes {
+        self.object.to_bytes()
     }
 
     /// The certificate of its signer, of which nothing is verified.

@@ -3,7 +3,7 @@
 use crate::ffi::{self, Status};
 use crate::octets::IntoOctets;
 use crate::repository::cert::{Cert, ResourceCert};
-use crate::repository::error::ValidationError;
+use crate::repository::error::{MalformedError, ValidationError};
 use crate::repository::resources::{Addr, AddressFamily, Asn, Prefix};
 use crate::repository::sigobj::SignedObject;
 use crate::repository::x509::Time;
@@ -306,11 +306,13 @@ impl fmt::Display for FriendlyRoaIpAddress {
 }
 
 /// A route origin attestation: a signed object with its content (RFC 6488, RFC 9582).
-#[derive(Clone, Debug)]
+#[derive(Clone, Debug, PartialEq, Eq)]
 pub struct Roa {
     object: SignedObject,
     content: RouteOriginAttestation,
 }
+
+crate::captured::captured!(Roa);
 
 impl Roa {
     /// Reads a signed object, and its content, of this type; `strict` is as of [SignedObject::decode], and of
@@ -319,15 +321,21 @@ impl Roa {
     /// # Errors
     /// The malformed part; the content is of another type.
     pub fn decode(octets: impl IntoOctets, strict: bool) -> Result<Self, ValidationError> {
-        let object = SignedObject::decode(octets, strict)?;
-        object.must_be_of(ffi::TYPE_ROA)?;
-        let content = RouteOriginAttestation::decode(object.content().clone(), strict)?;
+        let object = SignedObject::decode_of(octets, strict, ffi::TYPE_ROA)?;
+        let reason = || RouteOriginAttestation::reason(object.content(), strict).map(|(_, reason)| reason);
+        let content = RouteOriginAttestation::decode(object.content(), strict);
+        let content = content.map_err(|part| MalformedError::new(part, reason()))?;
         Ok(Roa { object, content })
     }
 
     /// The signed object.
     pub fn object(&self) -> &SignedObject {
         &self.object
+    }
+
+    /// The octets of the object.
+    pub fn to_bytes(&self) -> Bytes {
+        self.object.to_bytes()
     }
 
     /// The certificate of its signer, of which nothing is verified.

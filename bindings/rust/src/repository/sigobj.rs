@@ -1,5 +1,6 @@
 //! Signed objects (RFC 5652, in the profile of RFC 6488).
 
+use crate::captured::Captured;
 use crate::crypto::keys::KeyIdentifier;
 use crate::crypto::signature::{Provider, RpkiSignature, RpkiSignatureAlgorithm, Signature};
 use crate::crypto::DigestAlgorithm;
@@ -7,7 +8,7 @@ use crate::ffi::{self, Status};
 use crate::octets::IntoOctets;
 use crate::oid::Oid;
 use crate::repository::cert::{Cert, CertPart, CertRule, ResourceCert};
-use crate::repository::error::ValidationError;
+use crate::repository::error::{InspectionError, MalformedError, ValidationError, VerificationError};
 use crate::repository::x509::Time;
 use crate::view::DecodeError;
 use bytes::Bytes;
@@ -235,7 +236,7 @@ impl fmt::Display for ObjectVerificationError {
 
 impl Error for ObjectVerificationError {}
 
-/// A signed object. Its parts share the octets that it was read from. Nothing of it is verified:
+/// A signed object. Its parts share the octets that it was read from, and two are equal where these are. Nothing of it is verified:
 /// [SignedObject::verify_signature] says whether the key of its certificate has signed it.
 ///
 /// ```
@@ -248,13 +249,23 @@ impl Error for ObjectVerificationError {}
 pub struct SignedObject {
     octets: Bytes,
     content_type: Oid<Bytes>,
-    content: Bytes,
+    content: Captured,
     cert: Cert,
     sid: KeyIdentifier,
     signed_attrs: SignedAttrs,
     signature: RpkiSignature,
     is_type_signed: bool,
 }
+
+crate::captured::captured!(SignedObject);
+
+impl PartialEq for SignedObject {
+    fn eq(&self, other: &SignedObject) -> bool {
+        self.octets == other.octets
+    }
+}
+
+impl Eq for SignedObject {}
 
 impl SignedObject {
     /// Reads a signed object that is all of the octets. If `strict`, it has a signing time, and no binary signing time
@@ -277,7 +288,7 @@ impl SignedObject {
         let algorithm = RpkiSignatureAlgorithm { has_parameters: found.has_parameters };
         Ok(SignedObject {
             content_type: Oid(part(found.content_type)),
-            content: part(found.content),
+            content: part(found.content).into(),
             cert,
             sid: KeyIdentifier::from(found.signer_identifier),
             signed_attrs: SignedAttrs {
@@ -315,7 +326,7 @@ impl SignedObject {
     }
 
     /// The octets of the content.
-    pub fn content(&self) -> &Bytes {
+    pub fn content(&self) -> &Captured {
         &self.content
     }
 
@@ -360,7 +371,7 @@ impl SignedObject {
     pub fn verify_signature(&self) -> Result<(), ObjectVerificationError> {
         // Who is not strict reads each object that was read here.
         ffi::object_verify(&self.octets, false).map_err(ObjectVerificationError::from_status)?;
-        self.cert.inspect_ee(false).map_err(ObjectVerificationError::Certificate)
+        self.cert.keeps(ffi::CERTIFICATE_EE, false).map_err(ObjectVerificationError::Certificate)
     }
 
     /// The same, as this provider says of the digest and of the signature.
@@ -382,7 +393,23 @@ impl SignedObject {
             .subject_public_key_info()
             .verify_with(provider, &self.signed_attrs.encode_verify(), &self.signature)
             .map_err(|_| ObjectVerificationError::Signature)?;
-        self.cert.inspect_ee(false).map_err(ObjectVerificationError::Certificate)
+        self.cert.keeps(ffi::CERTIFICATE_EE, false).map_err(ObjectVerificationError::Certificate)
+    }
+
+    /// Whether the certificate is that of an end entity, as [Cert::inspect_ee] says.
+    ///
+    /// # Errors
+    /// The rule that it breaks first.
+    pub fn inspect(&self, strict: bool) -> Result<(), InspectionError> {
+        self.cert.inspect_ee(strict)
+    }
+
+    /// [SignedObject::verify_signature], which is the same strict and not.
+    ///
+    /// # Errors
+    /// The first that doesn't hold.
+    pub fn verify(&self, _strict: bool) -> Result<(), VerificationError> {
+        self.verify_signature().map_err(|error| VerificationError::new(error.text()))
     }
 
     /// Checks that the key of the certificate has signed the content, and that the authority has issued the
@@ -435,15 +462,27 @@ impl SignedObject {
     where
         F: FnOnce(&Cert) -> Result<(), ValidationError>,
     {
-        let content = self.content.clone();
+        let content = self.content.to_bytes();
         let cert = self.validate_at(issuer, strict, now)?;
         check_crl(&cert)?;
         Ok((cert, content))
     }
 
+    /// Reads an object whose content is of this type, a number of the library.
+    ///
     /// # Errors
-    /// The content is of another type than this one, a number of the library.
-    pub(crate) fn must_be_of(&self, number: u8) -> Result<(), ValidationError> {
+    /// The malformed part, and what is wrong in it; the content is of another type.
+    pub(crate) fn decode_of(octets: impl IntoOctets, strict: bool, number: u8) -> Result<Self, ValidationError> {
+        let octets = octets.into_octets();
+        let reason = || SignedObject::reason(&octets, strict).map(|(_, reason)| reason);
+        let object = SignedObject::decode(&octets, strict).map_err(|part| MalformedError::new(part, reason()))?;
+        object.must_be_of(number)?;
+        Ok(object)
+    }
+
+    /// # Errors
+    /// The content is of another type than this one.
+    fn must_be_of(&self, number: u8) -> Result<(), ValidationError> {
         if ffi::content_type(self.content_type.0.as_ref()) != number {
             return Err(ValidationError::verification("content of another type"));
         }

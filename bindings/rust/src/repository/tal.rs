@@ -20,7 +20,7 @@ pub enum ReadError {
     Io(io::Error),
     /// It is not UTF-8.
     Text,
-    /// A line in front of the empty one is no URI, or there is none.
+    /// A line in front of the empty one is no URI, or that of a folder, or there is none.
     Uri,
     /// There is no empty line after the URIs, or what follows it is not base 64.
     Base64,
@@ -40,7 +40,15 @@ impl fmt::Display for ReadError {
     }
 }
 
-impl Error for ReadError {}
+impl Error for ReadError {
+    fn source(&self) -> Option<&(dyn Error + 'static)> {
+        match self {
+            ReadError::Io(error) => Some(error),
+            ReadError::Key(error) => Some(error),
+            ReadError::Text | ReadError::Uri | ReadError::Base64 => None,
+        }
+    }
+}
 
 impl From<io::Error> for ReadError {
     fn from(error: io::Error) -> Self {
@@ -69,13 +77,21 @@ impl TalUri {
     }
 }
 
-/// An rsync URI, or an https URI.
+/// An rsync URI, or an https URI, of a single object (RFC 8630 2.2): no folder's.
 impl FromStr for TalUri {
     type Err = ReadError;
 
     fn from_str(s: &str) -> Result<Self, ReadError> {
         let https = || s.parse().map(TalUri::Https).map_err(|_| ReadError::Uri);
-        s.parse().map(TalUri::Rsync).or_else(|_| https())
+        let uri = s.parse().map(TalUri::Rsync).or_else(|_| https())?;
+        let is_folder = match &uri {
+            TalUri::Rsync(uri) => uri.path_is_dir(),
+            TalUri::Https(uri) => uri.path_is_dir(),
+        };
+        if is_folder {
+            return Err(ReadError::Uri);
+        }
+        Ok(uri)
     }
 }
 

@@ -33,6 +33,7 @@ impl SmallAsnSet {
     }
 
     /// Whether this number is in the set.
+    #[must_use]
     pub fn contains(&self, asn: Asn) -> bool {
         self.0.binary_search(&asn).is_ok()
     }

@@ -115,6 +115,7 @@ impl<'a, 'i> Entry<'a, 'i> {
     }
 
     /// The entry of the value around this one; `None` for the first.
+    #[must_use]
     pub fn parent(&self) -> Option<Entry<'a, 'i>> {
         let place = self.raw().parent;
         (place != ffi::NO_PARENT).then_some(Entry { place, ..*self })

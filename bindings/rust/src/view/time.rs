@@ -121,6 +121,7 @@ impl Validity {
     }
 
     /// Whether a moment, in seconds since 1970-01-01 00:00:00, is in the period; both of its ends are.
+    #[must_use]
     pub fn contains(&self, seconds: i64) -> bool {
         (self.not_before.seconds..=self.not_after.seconds).contains(&seconds)
     }

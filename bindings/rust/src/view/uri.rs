@@ -93,6 +93,7 @@ impl<'a> Rsync<'a> {
     /// The path that leads from the other URI to this one: its segments after those of the other, with the last slash.
     /// `None` where they are in two modules or the other's segments do not begin this one's. Authorities are compared
     /// without regard to case, all else exactly.
+    #[must_use]
     pub fn relative_to(&self, base: &Rsync) -> Option<&'a str> {
         match ffi::rsync_relative_to(self.text.as_bytes(), base.text.as_bytes()) {
             Ok(place) => Some(place.of_text(self.text)),
@@ -102,6 +103,7 @@ impl<'a> Rsync<'a> {
     }
 
     /// The URI without its last segment, with the slash before that; `None` where the path is empty.
+    #[must_use]
     pub fn parent(&self) -> Option<Rsync<'a>> {
         match ffi::rsync_parent(self.text.as_bytes()) {
             Ok(size) => Some(Rsync {

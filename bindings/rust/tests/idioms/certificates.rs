@@ -67,6 +67,7 @@ mod certs {
     use super::*;
     use rpki::crypto::{KeyIdentifier, PublicKeyFormat};
     use rpki::repository::cert::{KeyUsage, Overclaim};
+    use rpki::repository::resources::{AsResources, IpResources};
     use rpki::repository::x509::{Serial, Time, Validity};
 
     #[test]
@@ -140,6 +141,8 @@ mod certs {
         if let Err(err) = cert.validate_router(&authority(), true) {
             panic!("router certificate: {err}");
         }
+        let asns: Vec<_> = cert.validate_router(&authority(), true).unwrap().as_resources().iter_asns().collect();
+        assert_eq!(asns.len(), 1);
         assert!(cert.validate_router(&anchor(), true).is_err());
     }
 
@@ -149,9 +152,27 @@ mod certs {
             cert.inspect_ca(true)?;
             Ok(())
         }
+        fn of_trust_anchor(cert: &Cert) -> Result<(), InspectionError> {
+            cert.inspect_ta(true)
+        }
+        assert_eq!(of_trust_anchor(&Cert::decode(ANCHOR).unwrap()), Ok(()));
         assert_eq!(check(&Cert::decode(AUTHORITY).unwrap()), Ok(()));
         assert!(check(&Cert::decode(ROUTER).unwrap()).is_err());
         assert!(Cert::decode(ANCHOR).unwrap().inspect_ta(true).is_ok());
+    }
+
+    #[test]
+    fn resources_are_lent() {
+        let cert = Cert::decode(AUTHORITY).unwrap();
+        let (v4, asns) = (cert.v4_resources(), cert.as_resources());
+        let both: (&IpResources, &AsResources) = (v4, asns);
+        assert!(both.0.is_present() && both.1.is_present());
+    }
+
+    #[test]
+    fn captured() {
+        let bytes: Bytes = Cert::decode(AUTHORITY).unwrap().to_captured().into_bytes();
+        assert_eq!(bytes, AUTHORITY);
     }
 
     #[test]
@@ -375,6 +396,22 @@ mod crls {
     #[test]
     fn authority_key_identifier() {
         assert_eq!(*list().authority_key_identifier(), authority().subject_key_identifier());
+    }
+
+    #[test]
+    fn revoked_certs_of_entries() {
+        let crl = Crl::decode(LIST).unwrap();
+        let revoked: RevokedCertificates = crl.revoked_certs().iter().collect();
+        assert_eq!(revoked.as_slice(), crl.revoked_certs().as_slice());
+    }
+
+    #[test]
+    fn caching() {
+        let mut crl = Crl::decode(LIST).unwrap().validate(&authority()).unwrap();
+        let cert = rpki::repository::Roa::decode(GONE, true).unwrap().cert().clone();
+        assert!(crl.verify_not_revoked(&cert).is_err());
+        crl.cache_serials();
+        assert!(crl.verify_not_revoked(&cert).is_err() && crl.contains(cert.serial_number()));
     }
 
     #[test]

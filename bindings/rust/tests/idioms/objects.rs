@@ -40,9 +40,29 @@ mod signed_objects {
     fn process() {
         let point = Point::new();
         let (cert, content) = object().process(&point.issuer, true, |cert| point.check_crl(cert)).unwrap();
-        assert_eq!((cert.tal().name(), content), ("example", object().content().clone()));
+        assert_eq!((cert.tal().name(), content), ("example", object().content().to_bytes()));
         let gone = SignedObject::decode(GONE, true).unwrap();
         assert!(gone.process(&point.issuer, true, |cert| point.check_crl(cert)).is_err());
+    }
+
+    #[test]
+    fn content() {
+        let bytes: Bytes = object().content().to_bytes();
+        assert_eq!(bytes, object().content().as_slice());
+        assert_eq!(object().to_captured().into_bytes(), ROA);
+    }
+
+    #[test]
+    fn inspect_and_verify() {
+        fn check(object: &SignedObject) -> Result<(), ValidationError> {
+            object.inspect(true)?;
+            object.verify(true)?;
+            Ok(())
+        }
+        assert_eq!(check(&object()), Ok(()));
+        let mut octets = ROA.to_vec();
+        *octets.last_mut().unwrap() ^= 1;
+        assert!(SignedObject::decode(octets, true).unwrap().verify(false).is_err());
     }
 
     #[test]

@@ -50,6 +50,28 @@ mod resources {
     }
 
     #[test]
+    fn digests() {
+        use rpki::crypto::{digest, DigestAlgorithm};
+        assert_eq!(digest::sha1_digest(b"abc").as_ref()[..4], [0xa9, 0x99, 0x3e, 0x36]);
+        assert_eq!(DigestAlgorithm::default().digest(b"abc").as_ref()[..4], [0xba, 0x78, 0x16, 0xbf]);
+    }
+
+    #[test]
+    fn payloads() {
+        use rpki::rtr::payload::{Aspa, Payload, RouteOrigin, RouterKey};
+        let roa = rpki::repository::Roa::decode(ROA, true).unwrap();
+        let origins: Vec<RouteOrigin> = roa.content().iter_origins().collect();
+        assert!(matches!(Payload::from(origins[0]), Payload::Origin(origin) if origin == origins[0]));
+        let cert = Cert::decode(ROUTER).unwrap();
+        let info = cert.subject_public_key_info().to_info_bytes();
+        let key = RouterKey::new(cert.subject_key_identifier(), 64496.into(), info);
+        assert!(matches!(Payload::from(key.clone()), Payload::RouterKey(it) if it == key));
+        let aspa = rpki::repository::Aspa::decode(ASPA, true).unwrap();
+        let aspa = Aspa::new(aspa.content().customer_as(), aspa.content().provider_as_set().to_set());
+        assert!(matches!(Payload::from(aspa.clone()), Payload::Aspa(it) if it == aspa));
+    }
+
+    #[test]
     fn set_operations() {
         let blocks = |s| IpBlocks::from_str(s).unwrap();
         let (one, other) = (blocks("10.0.0.0/8, 192.0.2.0/24"), blocks("10.0.0.0/9, 203.0.113.0/24"));
@@ -251,7 +273,9 @@ mod serialized {
     #[test]
     fn resource_sets() {
         let set = ResourceSet::from_strs("AS1-AS3", "10.0.0.0/8", "2001:db8::/32").unwrap();
-        both(set, r#"{"asn":"AS1-AS3","ipv4":"10.0.0.0/8","ipv6":"2001:db8::/32"}"#);
+        both(set.clone(), r#"{"asn":"AS1-AS3","ipv4":"10.0.0.0/8","ipv6":"2001:db8::/32"}"#);
+        let older = r#"{"asn":"AS1-AS3","v4":"10.0.0.0/8","v6":"2001:db8::/32"}"#;
+        assert_eq!(serde_json::from_str::<ResourceSet>(older).unwrap(), set);
     }
 
     #[test]

@@ -167,18 +167,32 @@ impl KnownExtensions {
     }
 }
 
-/// What was read of the extensions of a certificate: what they are, and where something is.
+/// What was read of the extensions of a certificate: what they are, where something is, and what it claims.
 #[derive(Clone, Debug)]
 pub(super) struct Kept {
     pub(super) known: KnownExtensions,
     places: Places,
+    v4: IpResources,
+    v6: IpResources,
+    numbers: AsResources,
 }
 
 impl Kept {
     /// What a call has found of a certificate of these octets.
     pub(super) fn of(octets: &Bytes, found: &ffi::KnownExtensions) -> Self {
         let known = KnownExtensions::of(octets, found);
-        Kept { places: Places::of(&known), known }
+        let ip = known.ip_resources.as_ref().or(known.ip_resources_v2.as_ref());
+        let (v4, v6) = ip.and_then(|claim| IpResources::decode_families(&claim.octets).ok()).unwrap_or_default();
+        let numbers = known.as_resources.as_ref().or(known.as_resources_v2.as_ref());
+        Kept {
+            v4: v4.unwrap_or_else(IpResources::missing),
+            v6: v6.unwrap_or_else(IpResources::missing),
+            numbers: numbers
+                .and_then(|claim| AsResources::decode(&claim.octets).ok())
+                .unwrap_or_else(AsResources::missing),
+            places: Places::of(&known),
+            known,
+        }
     }
 }
 
@@ -252,40 +266,25 @@ impl Cert {
         self.places()?.rpki_notify.as_ref()
     }
 
-    /// The addresses that the certificate claims: those of IP version 4, and those of IP version 6.
-    pub(crate) fn ip_resources(&self) -> (IpResources, IpResources) {
-        let claim = |known: &KnownExtensions| {
-            let claim = known.ip_resources.as_ref().or(known.ip_resources_v2.as_ref())?;
-            IpResources::decode_families(&claim.octets).ok()
-        };
-        let (v4, v6) = self.known().and_then(claim).unwrap_or_default();
-        (v4.unwrap_or_else(IpResources::missing), v6.unwrap_or_else(IpResources::missing))
-    }
-
     /// The addresses of IP version 4 that the certificate claims. Whether it has them, [ResourceCert] says.
     ///
     /// [ResourceCert]: super::ResourceCert
-    pub fn v4_resources(&self) -> IpResources {
-        self.ip_resources().0
+    pub fn v4_resources(&self) -> &IpResources {
+        self.kept.as_ref().map_or(IpResources::MISSING, |kept| &kept.v4)
     }
 
     /// The same of IP version 6.
-    pub fn v6_resources(&self) -> IpResources {
-        self.ip_resources().1
+    pub fn v6_resources(&self) -> &IpResources {
+        self.kept.as_ref().map_or(IpResources::MISSING, |kept| &kept.v6)
     }
 
     /// The same of AS numbers.
-    pub fn as_resources(&self) -> AsResources {
-        let claim = |known: &KnownExtensions| {
-            let claim = known.as_resources.as_ref().or(known.as_resources_v2.as_ref())?;
-            AsResources::decode(&claim.octets).ok()
-        };
-        self.known().and_then(claim).unwrap_or_else(AsResources::missing)
+    pub fn as_resources(&self) -> &AsResources {
+        self.kept.as_ref().map_or(AsResources::MISSING, |kept| &kept.numbers)
     }
 
     /// Whether the certificate claims addresses of either family.
     pub fn has_ip_resources(&self) -> bool {
-        let (v4, v6) = self.ip_resources();
-        v4.is_present() || v6.is_present()
+        self.v4_resources().is_present() || self.v6_resources().is_present()
     }
 }

@@ -12,6 +12,10 @@ use std::sync::Arc;
 /// A certificate that was valid when [Cert::validate_ta], [Cert::validate_ca], [Cert::validate_ee] or one of their kin
 /// made this of it: nothing else does. Whether it is revoked is for [CurrentCrl](crate::repository::crl::CurrentCrl) to
 /// say.
+///
+/// It derefs to its [Cert], of which each method speaks of what the certificate claims: what it has is what
+/// [ResourceCert::v4_resources], [ResourceCert::v6_resources] and [ResourceCert::as_resources] return, and
+/// [ResourceSet::from](crate::repository::resources::ResourceSet) of a `&ResourceCert`, not `try_from` of a `&Cert`.
 #[derive(Clone, Debug)]
 pub struct ResourceCert {
     cert: Cert,
@@ -119,8 +123,8 @@ impl Cert {
         ffi::anchor_verify(&self.octets, tal.key_octets()).map_err(ValidationError::from_status)?;
         self.validity.verify_at(now)?;
         // The profile has it that they are of one version, in canonical form, and not inherited.
-        let (v4, v6) = self.ip_resources();
-        let (v4, v6, numbers) = (v4.to_blocks()?, v6.to_blocks()?, self.as_resources().to_blocks()?);
+        let (v4, v6) = (self.v4_resources().to_blocks()?, self.v6_resources().to_blocks()?);
+        let numbers = self.as_resources().to_blocks()?;
         Ok(ResourceCert { v4, v6, numbers, is_authority: true, tal, cert: self })
     }
 
@@ -209,11 +213,13 @@ impl Cert {
         self.validate_issued(issuer, ffi::CERTIFICATE_DETACHED_EE, strict, now)
     }
 
-    /// As [Cert::validate_ca], of a BGPsec router ([Cert::inspect_router]).
+    /// As [Cert::validate_ca], of a BGPsec router ([Cert::inspect_router]). The AS numbers that its key speaks for are
+    /// those of what this returns: the certificate's own [Cert::as_resources] are its claim, of which the policy of RFC
+    /// 8360 leaves what the issuer has.
     ///
     /// # Errors
     /// Those of [Cert::validate_ca].
-    pub fn validate_router(&self, issuer: &ResourceCert, strict: bool) -> Result<(), ValidationError> {
+    pub fn validate_router(&self, issuer: &ResourceCert, strict: bool) -> Result<ResourceCert, ValidationError> {
         self.validate_router_at(issuer, strict, Time::now())
     }
 
@@ -221,7 +227,12 @@ impl Cert {
     ///
     /// # Errors
     /// Those of [Cert::validate_ca].
-    pub fn validate_router_at(&self, issuer: &ResourceCert, strict: bool, now: Time) -> Result<(), ValidationError> {
-        self.clone().validate_issued(issuer, ffi::CERTIFICATE_ROUTER, strict, now).map(|_| ())
+    pub fn validate_router_at(
+        &self,
+        issuer: &ResourceCert,
+        strict: bool,
+        now: Time,
+    ) -> Result<ResourceCert, ValidationError> {
+        self.clone().validate_issued(issuer, ffi::CERTIFICATE_ROUTER, strict, now)
     }
 }

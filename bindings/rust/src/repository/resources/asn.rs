@@ -10,6 +10,7 @@ use crate::view::DecodeError;
 use bytes::Bytes;
 use std::error::Error;
 use std::fmt;
+use std::hash::{Hash, Hasher};
 use std::str::FromStr;
 
 /// A text is no AS number, no block of them, or no list of blocks.
@@ -188,9 +189,9 @@ pub struct AsRange {
 }
 
 impl AsRange {
-    /// The numbers from the one to the other.
+    /// The numbers from the one to the other, of which either may be the lower.
     pub fn new(min: Asn, max: Asn) -> Self {
-        AsRange { min, max }
+        AsRange { min: min.min(max), max: max.max(min) }
     }
 
     /// The lowest number.
@@ -260,6 +261,13 @@ impl PartialEq for AsBlock {
 }
 
 impl Eq for AsBlock {}
+
+/// As it is compared.
+impl Hash for AsBlock {
+    fn hash<H: Hasher>(&self, state: &mut H) {
+        self.ends().hash(state);
+    }
+}
 
 impl From<Asn> for AsBlock {
     fn from(id: Asn) -> Self {
@@ -363,26 +371,31 @@ impl AsBlocks {
     }
 
     /// Whether each number of the other set is in this one.
+    #[must_use]
     pub fn contains(&self, other: &Self) -> bool {
         numbers::is_part(&other.0, &self.0)
     }
 
     /// Whether each number of the block is in the set.
+    #[must_use]
     pub fn contains_block(&self, block: impl Into<AsBlock>) -> bool {
         numbers::is_part(&[block.into().ends()], &self.0)
     }
 
     /// The numbers of both sets.
+    #[must_use]
     pub fn intersection(&self, other: &Self) -> Self {
         AsBlocks(numbers::shared(&self.0, &other.0))
     }
 
     /// The numbers of one of the sets, or of both.
+    #[must_use]
     pub fn union(&self, other: &Self) -> Self {
         AsBlocks(numbers::canonical([&self.0[..], &other.0[..]].concat()))
     }
 
     /// The numbers of this set that are not in the other.
+    #[must_use]
     pub fn difference(&self, other: &Self) -> Self {
         AsBlocks(numbers::lacking(&self.0, &other.0))
     }
@@ -406,7 +419,8 @@ impl AsBlocks {
         }
     }
 
-    /// The numbers, ascending.
+    /// The numbers, ascending. They may be 2^32: whoever takes them from what others wrote asks each of the
+    /// [blocks](AsBlocks::iter) for its [AsBlock::asn_count] first.
     pub fn iter_asns(&self) -> impl Iterator<Item = Asn> + '_ {
         self.0.iter().flat_map(|(low, high)| *low as u32..=*high as u32).map(Asn)
     }
@@ -428,6 +442,7 @@ impl AsBlocksBuilder {
     }
 
     /// The set of the blocks.
+    #[must_use]
     pub fn finalize(self) -> AsBlocks {
         self.0.into_iter().collect()
     }
@@ -490,6 +505,7 @@ impl AsResourcesBuilder {
     }
 
     /// The numbers.
+    #[must_use]
     pub fn finalize(self) -> AsResources {
         self.0.unwrap_or_else(AsResources::missing)
     }
@@ -500,6 +516,9 @@ impl AsResourcesBuilder {
 pub struct AsResources(ResourcesChoice<AsBlocks>);
 
 impl AsResources {
+    /// None, to be lent.
+    pub(crate) const MISSING: &'static Self = &AsResources(ResourcesChoice::Missing);
+
     /// Reads the contents of the extension id-pe-autonomousSysIds (RFC 3779 3.2.3, RFC 6487 4.8.11).
     ///
     /// # Errors
@@ -561,6 +580,7 @@ impl AsResources {
     }
 
     /// Which they are.
+    #[must_use]
     pub fn as_choice(&self) -> &ResourcesChoice<AsBlocks> {
         &self.0
     }

@@ -38,6 +38,7 @@ impl<T> ResourcesChoice<T> {
     }
 
     /// The same of what the function makes of the blocks.
+    #[must_use]
     pub fn map_blocks<U, F: FnOnce(T) -> U>(self, op: F) -> ResourcesChoice<U> {
         match self {
             ResourcesChoice::Missing => ResourcesChoice::Missing,

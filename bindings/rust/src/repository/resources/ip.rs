@@ -13,6 +13,7 @@ use crate::view::DecodeError;
 use bytes::Bytes;
 use std::error::Error;
 use std::fmt;
+use std::hash::{Hash, Hasher};
 use std::net::{IpAddr, Ipv4Addr, Ipv6Addr};
 use std::ops::Deref;
 use std::str::FromStr;
@@ -161,11 +162,13 @@ impl Addr {
     }
 
     /// The lowest address with the same first bits, as many.
+    #[must_use]
     pub fn to_min(self, prefix_len: u8) -> Self {
         Addr(self.0 & !Addr::below(prefix_len))
     }
 
     /// The highest address with the same first bits, as many.
+    #[must_use]
     pub fn to_max(self, prefix_len: u8) -> Self {
         Addr(self.0 | Addr::below(prefix_len))
     }
@@ -303,9 +306,9 @@ pub struct AddressRange {
 }
 
 impl AddressRange {
-    /// The addresses from the one to the other.
+    /// The addresses from the one to the other, of which either may be the lower.
     pub fn new(min: Addr, max: Addr) -> Self {
-        AddressRange { min, max }
+        AddressRange { min: min.min(max), max: max.max(min) }
     }
 
     /// The lowest address.
@@ -435,6 +438,13 @@ impl PartialEq for IpBlock {
 
 impl Eq for IpBlock {}
 
+/// As it is compared.
+impl Hash for IpBlock {
+    fn hash<H: Hasher>(&self, state: &mut H) {
+        self.ends().hash(state);
+    }
+}
+
 impl From<Prefix> for IpBlock {
     fn from(prefix: Prefix) -> Self {
         IpBlock::Prefix(prefix)
@@ -449,7 +459,7 @@ impl From<AddressRange> for IpBlock {
 
 impl From<(Addr, Addr)> for IpBlock {
     fn from((min, max): (Addr, Addr)) -> Self {
-        IpBlock::of((min.0, max.0))
+        IpBlock::of((min.min(max).0, max.max(min).0))
     }
 }
 
@@ -541,26 +551,31 @@ impl IpBlocks {
     }
 
     /// Whether each address of the other set is in this one.
+    #[must_use]
     pub fn contains(&self, other: &Self) -> bool {
         numbers::is_part(&other.0, &self.0)
     }
 
     /// Whether each address of the block is in the set.
+    #[must_use]
     pub fn contains_block(&self, block: impl Into<IpBlock>) -> bool {
         numbers::is_part(&[block.into().ends()], &self.0)
     }
 
     /// The addresses of both sets.
+    #[must_use]
     pub fn intersection(&self, other: &Self) -> Self {
         IpBlocks(numbers::shared(&self.0, &other.0))
     }
 
     /// The addresses of one of the sets, or of both.
+    #[must_use]
     pub fn union(&self, other: &Self) -> Self {
         IpBlocks(numbers::canonical([&self.0[..], &other.0[..]].concat()))
     }
 
     /// The addresses of this set that are not in the other.
+    #[must_use]
     pub fn difference(&self, other: &Self) -> Self {
         IpBlocks(numbers::lacking(&self.0, &other.0))
     }
@@ -639,6 +654,7 @@ impl IpBlocksBuilder {
     }
 
     /// The set of the blocks.
+    #[must_use]
     pub fn finalize(self) -> IpBlocks {
         self.0.into_iter().collect()
     }
@@ -727,6 +743,7 @@ impl IpResourcesBuilder {
     }
 
     /// The addresses.
+    #[must_use]
     pub fn finalize(self) -> IpResources {
         self.0.unwrap_or_else(IpResources::missing)
     }
@@ -737,6 +754,9 @@ impl IpResourcesBuilder {
 pub struct IpResources(ResourcesChoice<IpBlocks>);
 
 impl IpResources {
+    /// None, to be lent.
+    pub(crate) const MISSING: &'static Self = &IpResources(ResourcesChoice::Missing);
+
     /// Reads the contents of the extension id-pe-ipAddrBlocks (RFC 3779 2.2.3, RFC 6487 4.8.10): the addresses of IP
     /// version 4, and those of IP version 6; `None` where a family isn't named.
     ///
@@ -838,6 +858,7 @@ impl IpResources {
     }
 
     /// Which they are.
+    #[must_use]
     pub fn as_choice(&self) -> &ResourcesChoice<IpBlocks> {
         &self.0
     }

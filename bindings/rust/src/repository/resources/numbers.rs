@@ -6,7 +6,6 @@ pub(super) type Ends = (u128, u128);
 
 /// The canonical list of the numbers of these blocks.
 pub(super) fn canonical(mut blocks: Vec<Ends>) -> Vec<Ends> {
-    blocks.retain(|(low, high)| low <= high);
     blocks.sort_unstable();
     let mut found: Vec<Ends> = Vec::with_capacity(blocks.len());
     for (low, high) in blocks {

@@ -21,7 +21,9 @@ use std::fmt;
 #[cfg_attr(feature = "serde", derive(serde::Serialize, serde::Deserialize))]
 pub struct ResourceSet {
     asn: AsBlocks,
+    #[cfg_attr(feature = "serde", serde(alias = "v4"))]
     ipv4: Ipv4Blocks,
+    #[cfg_attr(feature = "serde", serde(alias = "v6"))]
     ipv6: Ipv6Blocks,
 }
 
@@ -65,16 +67,19 @@ impl ResourceSet {
     }
 
     /// The AS numbers, as a certificate has them.
+    #[must_use]
     pub fn to_as_resources(&self) -> AsResources {
         AsResources::blocks(self.asn.clone())
     }
 
     /// The addresses of IP version 4, as a certificate has them.
+    #[must_use]
     pub fn to_ip_resources_v4(&self) -> IpResources {
         IpResources::blocks(self.ipv4.clone().into())
     }
 
     /// The addresses of IP version 6, as a certificate has them.
+    #[must_use]
     pub fn to_ip_resources_v6(&self) -> IpResources {
         IpResources::blocks(self.ipv6.clone().into())
     }
@@ -85,28 +90,33 @@ impl ResourceSet {
     }
 
     /// Whether all of the other set are in this one.
+    #[must_use]
     pub fn contains(&self, other: &ResourceSet) -> bool {
         self.asn.contains(&other.asn) && self.ipv4.contains(&other.ipv4) && self.ipv6.contains(&other.ipv6)
     }
 
     /// Whether this AS number is in the set.
+    #[must_use]
     pub fn contains_asn(&self, asn: Asn) -> bool {
         self.asn.contains_block(asn)
     }
 
     /// Those of one of the sets, or of both.
+    #[must_use]
     pub fn union(&self, other: &ResourceSet) -> Self {
         let (v4, v6) = (self.ipv4.union(&other.ipv4), self.ipv6.union(&other.ipv6));
         ResourceSet::new(self.asn.union(&other.asn), v4.into(), v6.into())
     }
 
     /// Those of both sets.
+    #[must_use]
     pub fn intersection(&self, other: &ResourceSet) -> Self {
         let (v4, v6) = (self.ipv4.intersection(&other.ipv4), self.ipv6.intersection(&other.ipv6));
         ResourceSet::new(self.asn.intersection(&other.asn), v4.into(), v6.into())
     }
 
     /// Those of this set that are not in the other.
+    #[must_use]
     pub fn difference(&self, other: &ResourceSet) -> Self {
         let (v4, v6) = (self.ipv4.difference(&other.ipv4), self.ipv6.difference(&other.ipv6));
         ResourceSet::new(self.asn.difference(&other.asn), v4.into(), v6.into())
@@ -119,8 +129,8 @@ impl TryFrom<&Cert> for ResourceSet {
 
     /// Fails where the certificate claims those of its issuer.
     fn try_from(cert: &Cert) -> Result<Self, InheritedResources> {
-        let (v4, v6) = cert.ip_resources();
-        Ok(ResourceSet::new(cert.as_resources().to_blocks()?, v4.to_blocks()?.into(), v6.to_blocks()?.into()))
+        let (v4, v6) = (cert.v4_resources().to_blocks()?, cert.v6_resources().to_blocks()?);
+        Ok(ResourceSet::new(cert.as_resources().to_blocks()?, v4.into(), v6.into()))
     }
 }
 

@@ -7,7 +7,7 @@ use crate::repository::error::{ContentError, InspectionError};
 use crate::view::{DecodeError, InspectError};
 use bytes::Bytes;
 
-/// A name (RFC 5280 4.1.2.4), as its octets, which it shares.
+/// A name (RFC 5280 4.1.2.4), as its octets, which it shares, and by which it is compared.
 ///
 /// ```
 /// use rpki_proved::repository::x509::Name;
@@ -17,7 +17,7 @@ use bytes::Bytes;
 /// assert_eq!(name.inspect_rpki(true).unwrap_err().to_string(), "invalid name");
 /// # Ok::<(), rpki_proved::DecodeError>(())
 /// ```
-#[derive(Clone, Debug, PartialEq, Eq)]
+#[derive(Clone, Debug, PartialEq, Eq, Hash, PartialOrd, Ord)]
 pub struct Name {
     octets: Bytes,
 }

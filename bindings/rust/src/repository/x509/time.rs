@@ -370,6 +370,7 @@ impl Validity {
     }
 
     /// The period that both have in common: the later start and the earlier end.
+    #[must_use]
     pub fn trim(self, other: Self) -> Self {
         Validity::new(self.not_before.max(other.not_before), self.not_after.min(other.not_after))
     }
