@@ -37,6 +37,10 @@ NEEDS = [
     Need("rustc", "rustc", ("c", "package", "documents")),
     Need("openssl", "openssl", ("hostile", "certificates", "c")),
     Need("/usr/include/openssl/evp.h", "libssl-dev", ("certificates",)),
+    Need("/usr/sbin/bird", "bird2", ("certificates",)),
+    Need("/usr/sbin/bgpd", "openbgpd", ("certificates",)),
+    Need("stayrtr", "stayrtr", ("certificates",)),
+    Need("rtrdump", "rtr-tools", ("certificates",)),
     *(Need(f"the crate {crate}", f"librust-{crate.replace('_', '-')}-dev", ("c", "package", "documents"))
       for crate in ("bytes", "chrono", "openssl", "serde", "serde_json")),
     Need("valgrind", "valgrind", ()),
@@ -54,6 +58,7 @@ NEEDS = [
     Need("pycodestyle", "pycodestyle", ()),
     Need("mypy", "mypy", ()),
     Need("rpki-client", "rpki-client", ()),
+    Need("lintian", "lintian", ()),
 ]
 
 
