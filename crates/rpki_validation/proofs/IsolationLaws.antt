@@ -1,5 +1,6 @@
 -- What is elsewhere has no part in the payloads of an authority.
-use Rattle.std.proofs.Common.{◌∙◌, ℕ, Bool, List, IsTrue, sym}
+use Rattle.std.proofs.Common.{◌≡◌, ◌∙◌, ℕ, Bool, List, IsTrue, sym}
+use Rattle.std.specs.List.{Contains}
 use Rattle.rpki_contents.specs.ListedFile.{ListedFile}
 use Rattle.rpki_contents.specs.declared.route_origin.RouteOrigin.{RouteOrigin}
 use Rattle.rpki_contents.specs.Aspa.{AspaParts}
@@ -13,12 +14,33 @@ use Rattle.rpki_validation.specs.Levels.{Reached}
 use Rattle.rpki_validation.specs.Levels.Reached.{First, Next}
 use Rattle.rpki_validation.specs.Payload.{AreProviders, IsCounted, IsOrigin, IsRouter}
 use Rattle.rpki_validation.specs.Point.{IsFile, IsPoint}
-use Rattle.rpki_validation.specs.Publication.{HasRepository, PublicationParts, StandsAs}
+use Rattle.rpki_validation.specs.Publication.{PublicationParts, StandsAs}
 use Rattle.rpki_validation.specs.Reached.{IsBelow, IsFirstAnchor}
 use Rattle.rpki_validation.specs.Reached.IsFirstAnchor.{Here, Later}
 use Rattle.rpki_validation.specs.Snapshot.{Published}
+use Rattle.rpki_validation.proofs.FileNameLaws.{file-named, files-named, list-named}
+use Rattle.rpki_validation.proofs.MetLaws.{head-in, tail-in}
 
-module _ (own : RsyncUri → Bool) (one other : Published) (agree : AgreeAt own one other) (basis : Basis) where
+-- the trust anchor is the same where what was fetched from these URIs is
+first-moves : (p q : Published) (basis : Basis) (uris : List AnchorUri) (x : Holder)
+    → ((uri : AnchorUri) → Contains uris uri → p.anchors (uri_text uri) ≡ q.anchors (uri_text uri))
+    → IsFirstAnchor p basis uris x → IsFirstAnchor q basis uris x
+first-moves p q basis _ _ same (Here uri uris x h) = Here uri uris x (record {
+  octets = h.octets;
+  fetched = sym (same uri (head-in uri uris)) ∙ h.fetched;
+  anchor = h.anchor;
+})
+first-moves p q basis _ _ same (Later uri uris x none h) =
+    Later uri uris x
+    (λ y k. none y (record {
+      octets = k.octets;
+      fetched = same uri (head-in uri uris) ∙ k.fetched;
+      anchor = k.anchor;
+    }))
+    (first-moves p q basis uris x (λ u c. same u (tail-in uri uris u c)) h)
+
+module _ (own : RsyncUri → Bool) (uris : List AnchorUri) (one other : Published) (agree : AgreeAt own uris one other)
+    (basis : Basis) where
   -- ---- points
 
   file-moves : (folder : List ℕ) (file : ListedFile) (octets : List ℕ)
@@ -36,6 +58,8 @@ module _ (own : RsyncUri → Bool) (one other : Published) (agree : AgreeAt own 
       let there = h.there in
       let place = at.manifest there.place there.named in
       let list = there.list in
+      let listed = there.manifest in
+      let named = files-named basis.terms.strictness.attributes p.manifest listed.octets listed.spells in
       record {
         there = record {
           repository = there.repository;
@@ -50,102 +74,89 @@ module _ (own : RsyncUri → Bool) (one other : Published) (agree : AgreeAt own 
             file = list.file;
             listed = list.listed;
             octets = list.octets;
-            stands = file-moves p.folder list.file list.octets (at.files p.folder list.file.0 there.repository)
-                list.stands;
+            stands = file-moves p.folder list.file list.octets (at.files p.folder list.file.0 there.repository
+                (list-named p.manifest.content.files list.file named list.listed)) list.stands;
             spells = list.spells;
           };
         };
         valid = h.valid;
         whole = λ file listed. (
           (h.whole file listed).0,
-          file-moves p.folder file (h.whole file listed).0 (at.files p.folder file.0 there.repository)
-              (h.whole file listed).1,
+          file-moves p.folder file (h.whole file listed).0 (at.files p.folder file.0 there.repository
+              (file-named p.manifest.content.files file named listed)) (h.whole file listed).1,
         );
       }
 
   named-moves : (x : Holder) (p : PublicationParts) (end octets : List ℕ) → PublishesAt own x
-      → HasRepository x.cert.tbs p.folder → IsFile one basis p end octets → IsFile other basis p end octets
-  named-moves x p end octets at repository h = record {
-    file = h.file;
-    listed = h.listed;
-    ends = h.ends;
-    stands = file-moves p.folder h.file octets (at.files p.folder h.file.0 repository) h.stands;
-  }
+      → IsPoint one basis x p → IsFile one basis p end octets → IsFile other basis p end octets
+  named-moves x p end octets at point h =
+      let manifest = point.there.manifest in
+      let named = files-named basis.terms.strictness.attributes p.manifest manifest.octets manifest.spells in
+      record {
+        file = h.file;
+        listed = h.listed;
+        ends = h.ends;
+        stands = file-moves p.folder h.file octets (at.files p.folder h.file.0 point.there.repository
+            (file-named p.manifest.content.files h.file named h.listed)) h.stands;
+      }
 
   -- ---- authorities
-
-  anchor-moves : (uris : List AnchorUri) (x : Holder) → IsFirstAnchor one basis uris x
-      → IsFirstAnchor other basis uris x
-  anchor-moves _ _ (Here uri uris x h) = Here uri uris x (record {
-    octets = h.octets;
-    fetched = sym (agree.anchors (uri_text uri)) ∙ h.fetched;
-    anchor = h.anchor;
-  })
-  anchor-moves _ _ (Later uri uris x none h) =
-      Later uri uris x
-      (λ y k. none y (record {
-        octets = k.octets;
-        fetched = agree.anchors (uri_text uri) ∙ k.fetched;
-        anchor = k.anchor;
-      }))
-      (anchor-moves uris x h)
 
   below-moves : (issuer x : Holder) → IsBelowAt own one basis issuer x → IsBelow other basis issuer x
   below-moves issuer x h = record {
     point = h.1.point;
     published_there = point-moves issuer h.1.point h.0 h.1.published_there;
     octets = h.1.octets;
-    file = named-moves issuer h.1.point _ h.1.octets h.0 h.1.published_there.there.repository h.1.file;
+    file = named-moves issuer h.1.point _ h.1.octets h.0 h.1.published_there h.1.file;
     cert = h.1.cert;
   }
 
-  module _ (uris : List AnchorUri) where
-    reached-moves : (n : ℕ) (x : Holder) → Reached (IsFirstAnchor one basis uris) (IsBelowAt own one basis) n x
-        → Reached (IsFirstAnchor other basis uris) (IsBelow other basis) n x
-    reached-moves _ _ (First x h) = First x (anchor-moves uris x h)
-    reached-moves _ _ (Next n above x r h) = Next n above x (reached-moves n above r) (below-moves above x h)
+  reached-moves : (n : ℕ) (x : Holder) → Reached (IsFirstAnchor one basis uris) (IsBelowAt own one basis) n x
+      → Reached (IsFirstAnchor other basis uris) (IsBelow other basis) n x
+  reached-moves _ _ (First x h) = First x (first-moves one other basis uris x agree.anchors h)
+  reached-moves _ _ (Next n above x r h) = Next n above x (reached-moves n above r) (below-moves above x h)
 
-    -- ---- payloads
+  -- ---- payloads
 
-    counted-moves : (end octets : List ℕ) (issuer : Holder) (point : PublicationParts)
-        → IsCounted one basis uris end octets issuer point → CountsAt own one basis uris issuer
-        → IsCounted other basis uris end octets issuer point
-    counted-moves end octets issuer point h at = record {
-      counts = record { steps = at.steps; few = at.few; reached = reached-moves at.steps issuer at.reached };
-      published_there = point-moves issuer point at.itself h.published_there;
-      file = named-moves issuer point end octets at.itself h.published_there.there.repository h.file;
-    }
+  counted-moves : (end octets : List ℕ) (issuer : Holder) (point : PublicationParts)
+      → IsCounted one basis uris end octets issuer point → CountsAt own one basis uris issuer
+      → IsCounted other basis uris end octets issuer point
+  counted-moves end octets issuer point h at = record {
+    counts = record { steps = at.steps; few = at.few; reached = reached-moves at.steps issuer at.reached };
+    published_there = point-moves issuer point at.itself h.published_there;
+    file = named-moves issuer point end octets at.itself h.published_there h.file;
+  }
 
-    pub origin-moves : (v : RouteOrigin) (h : IsOrigin one basis uris v) → CountsAt own one basis uris h.issuer
-        → IsOrigin other basis uris v
-    origin-moves v h at = record {
-      issuer = h.issuer;
-      point = h.point;
-      octets = h.octets;
-      counted = counted-moves _ h.octets h.issuer h.point h.counted at;
-      attestation = h.attestation;
-      valid = h.valid;
-      says = h.says;
-    }
+  pub origin-moves : (v : RouteOrigin) (h : IsOrigin one basis uris v) → CountsAt own one basis uris h.issuer
+      → IsOrigin other basis uris v
+  origin-moves v h at = record {
+    issuer = h.issuer;
+    point = h.point;
+    octets = h.octets;
+    counted = counted-moves _ h.octets h.issuer h.point h.counted at;
+    attestation = h.attestation;
+    valid = h.valid;
+    says = h.says;
+  }
 
-    pub providers-move : (v : AspaParts) (h : AreProviders one basis uris v) → CountsAt own one basis uris h.issuer
-        → AreProviders other basis uris v
-    providers-move v h at = record {
-      issuer = h.issuer;
-      point = h.point;
-      octets = h.octets;
-      counted = counted-moves _ h.octets h.issuer h.point h.counted at;
-      attestation = h.attestation;
-      valid = h.valid;
-      says = h.says;
-    }
+  pub providers-move : (v : AspaParts) (h : AreProviders one basis uris v) → CountsAt own one basis uris h.issuer
+      → AreProviders other basis uris v
+  providers-move v h at = record {
+    issuer = h.issuer;
+    point = h.point;
+    octets = h.octets;
+    counted = counted-moves _ h.octets h.issuer h.point h.counted at;
+    attestation = h.attestation;
+    valid = h.valid;
+    says = h.says;
+  }
 
-    pub router-moves : (x : Holder) (h : IsRouter one basis uris x) → CountsAt own one basis uris h.issuer
-        → IsRouter other basis uris x
-    router-moves x h at = record {
-      issuer = h.issuer;
-      point = h.point;
-      octets = h.octets;
-      counted = counted-moves _ h.octets h.issuer h.point h.counted at;
-      valid = h.valid;
-    }
+  pub router-moves : (x : Holder) (h : IsRouter one basis uris x) → CountsAt own one basis uris h.issuer
+      → IsRouter other basis uris x
+  router-moves x h at = record {
+    issuer = h.issuer;
+    point = h.point;
+    octets = h.octets;
+    counted = counted-moves _ h.octets h.issuer h.point h.counted at;
+    valid = h.valid;
+  }

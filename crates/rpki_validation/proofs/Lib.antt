@@ -16,7 +16,7 @@
 --   sequence: RejectedLaws, RejectsLaws. How long payloads hold: HeldLaws.
 -- The walk, and that what it tells is exactly what is valid: WalkLaws.
 -- Payloads are signed down from the key of the locator; what is elsewhere has no part in them: SignedDownLaws,
---   IsolationLaws.
+--   IsolationLaws, over names of files: FileNameLaws.
 
 pub mod OneResourceLaws
 pub mod OneHolderLaws
@@ -44,4 +44,5 @@ pub mod HeldLaws
 pub mod RejectsLaws
 pub mod WalkLaws
 pub mod SignedDownLaws
+pub mod FileNameLaws
 pub mod IsolationLaws
