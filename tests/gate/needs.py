@@ -37,6 +37,7 @@ NEEDS = [
     Need("rustc", "rustc", ("c", "package", "documents")),
     Need("openssl", "openssl", ("hostile", "certificates", "c")),
     Need("/usr/include/openssl/evp.h", "libssl-dev", ("certificates",)),
+    Need("rsync", "rsync", ("certificates",)),
     Need("/usr/sbin/bird", "bird2", ("certificates",)),
     Need("/usr/sbin/bgpd", "openbgpd", ("certificates",)),
     Need("stayrtr", "stayrtr", ("certificates",)),

@@ -6,6 +6,7 @@
  * usage: generate FOLDER AUTHORITIES WIDTH ROAS PREFIXES KEYS
  *
  * FOLDER/rpki.example/repo is the rsync module, FOLDER/example.tal the locator. KEYS is a file that keeps the keys.
+ * With HOSTS each authority N publishes on a host of its own: FOLDER/hN.example/repo. NUMBER is that of its manifest.
  */
 #include <openssl/evp.h>
 #include <openssl/pem.h>
@@ -203,12 +204,22 @@ static struct buf object(const char *type, struct buf content, const struct key 
 static const char *folder;
 static size_t files, all;
 
+/* the host of an authority whose folder is dN */
+static void host_of(char *host, size_t size, const char *dir) {
+    snprintf(host, size, getenv("HOSTS") ? "h%s.example" : "rpki.example", dir + 1);
+}
+
 static void keep(const char *dir, const char *file, struct buf b) {
-    char path[512];
+    char path[512], host[32];
     FILE *f;
-    snprintf(path, sizeof path, "%s/rpki.example/repo/%s", folder, dir);
+    host_of(host, sizeof host, dir);
+    snprintf(path, sizeof path, "%s/%s", folder, host);
     mkdir(path, 0755);
-    snprintf(path, sizeof path, "%s/rpki.example/repo/%s/%s", folder, dir, file);
+    snprintf(path, sizeof path, "%s/%s/repo", folder, host);
+    mkdir(path, 0755);
+    snprintf(path, sizeof path, "%s/%s/repo/%s", folder, host, dir);
+    mkdir(path, 0755);
+    snprintf(path, sizeof path, "%s/%s/repo/%s/%s", folder, host, dir, file);
     f = fopen(path, "wb");
     if (!f) {
         perror(path);
@@ -263,7 +274,7 @@ int main(int count, char **words) {
     int crossings = getenv("CROSS") ? atoi(getenv("CROSS")) : 0;
     struct key pool[POOL], *keys;
     struct buf *entries, inherit, none = {NULL, 0};
-    char base[64] = "rsync://rpki.example/repo";
+    uint64_t number = getenv("NUMBER") ? (uint64_t)atoi(getenv("NUMBER")) : 7;
     (void)none;
     if (count != 7) return 2;
     if (getenv("LISTUNTIL")) list_until = getenv("LISTUNTIL");
@@ -292,34 +303,34 @@ int main(int count, char **words) {
     for (int i = 0; i < n; i++) {
         keys[i] = keyed(crossed(pool[i % POOL].key, pool[(i % POOL + 1 + i / POOL) % POOL].key));
     }
-    {
-        char path[512];
-        mkdir(folder, 0755);
-        snprintf(path, sizeof path, "%s/rpki.example", folder);
-        mkdir(path, 0755);
-        snprintf(path, sizeof path, "%s/rpki.example/repo", folder);
-        mkdir(path, 0755);
-    }
+    mkdir(folder, 0755);
     inherit = hexed("301030060402000105003006040200020500");
     /* authority 0 is the trust anchor; the parent of i is (i - 1) / width; the leaves' blocks: /24s of 10/8 and on */
     for (int i = n - 1; i >= 0; i--) {
         int parent = i ? (i - 1) / width : 0;
-        char cn[32], pcn[32], dir[32], pdir[32], own[32], up[128], sia1[128], sia2[128], aia[128], crl[128], pcrl[128],
-            file[32];
+        char cn[32], pcn[32], dir[32], pdir[32], gdir[32], own[32], up[128], sia1[128], sia2[128], aia[128], crl[128],
+            pcrl[128], file[32], host[32], base[64], pbase[64], gbase[64];
         struct buf list_octets, listed = {malloc(1), 0}, mft, c, ip;
         uint32_t address = 0x0a000000u + ((uint32_t)i << 8);
         snprintf(cn, sizeof cn, "ca%d", i);
         snprintf(pcn, sizeof pcn, "ca%d", parent);
         snprintf(dir, sizeof dir, "d%d", i);
         snprintf(pdir, sizeof pdir, "d%d", parent);
+        snprintf(gdir, sizeof gdir, "d%d", parent ? (parent - 1) / width : 0);
         snprintf(own, sizeof own, "ca%d.cer", i);
+        host_of(host, sizeof host, dir);
+        snprintf(base, sizeof base, "rsync://%s/repo", host);
+        host_of(host, sizeof host, pdir);
+        snprintf(pbase, sizeof pbase, "rsync://%s/repo", host);
+        host_of(host, sizeof host, gdir);
+        snprintf(gbase, sizeof gbase, "rsync://%s/repo", host);
         snprintf(sia1, sizeof sia1, "%s/%s/", base, dir);
         snprintf(sia2, sizeof sia2, "%s/%s/m.mft", base, dir);
         snprintf(crl, sizeof crl, "%s/%s/l.crl", base, dir);
-        snprintf(pcrl, sizeof pcrl, "%s/%s/l.crl", base, pdir);
-        snprintf(aia, sizeof aia, "%s/%s/ca%d.cer", base, i ? pdir : dir, i);
+        snprintf(pcrl, sizeof pcrl, "%s/%s/l.crl", pbase, pdir);
+        snprintf(aia, sizeof aia, "%s/%s/ca%d.cer", pbase, pdir, i);
         /* where the certificate of the parent is */
-        snprintf(up, sizeof up, "%s/d%d/ca%d.cer", base, parent ? (parent - 1) / width : 0, parent);
+        snprintf(up, sizeof up, "%s/%s/ca%d.cer", gbase, gdir, parent);
         /* its own objects */
         for (int r = 0; r < roas && i; r++) {
             struct key *ee = &pool[(i * 7 + r) % POOL];
@@ -396,8 +407,10 @@ int main(int count, char **words) {
             char jcn[32], j1[128], j2[128];
             struct buf x;
             snprintf(jcn, sizeof jcn, "ca%d", j);
-            snprintf(j1, sizeof j1, "%s/d%d/", base, j);
-            snprintf(j2, sizeof j2, "%s/d%d/m.mft", base, j);
+            snprintf(gdir, sizeof gdir, "d%d", j);
+            host_of(host, sizeof host, gdir);
+            snprintf(j1, sizeof j1, "rsync://%s/repo/%s/", host, gdir);
+            snprintf(j2, sizeof j2, "rsync://%s/repo/%s/m.mft", host, gdir);
             snprintf(file, sizeof file, "x%d.cer", j);
             x = certificate(&keys[j], jcn, &keys[i], cn, 1,
                             cat(2, access("2b06010505073005", j1),
@@ -455,7 +468,7 @@ int main(int count, char **words) {
             snprintf(een, sizeof een, "m%d", i);
             cert = certificate(ee, een, &keys[i], cn, 0, access("2b0601050507300b", sia2), aia, crl, copy(inherit),
                                hexed("3004a0020500"));
-            content = seq(cat(5, integer(7), text(0x18, "20260101000000Z"), text(0x18, manifest_until),
+            content = seq(cat(5, integer(number), text(0x18, "20260101000000Z"), text(0x18, manifest_until),
                               hexed("0609608648016503040201"), seq(listed)));
             mft = object(MANIFEST, content, ee, cert);
             keep(dir, "m.mft", mft);
