@@ -52,7 +52,8 @@ In this clone, with the kit (README.md says what it is):
   make archive                      proves the C library, and makes its archive, the shared library and pages: an hour
   make check                        the same, and then runs the worked rows in C
   make libraries CRATE=rpki_fields  proves what is below a crate, a line each, so that `rt check` in it is quick
-  make dist                         the package of programs and C library, in bindings/out/dist: two hours, proved
+  make dist                         the package of programs and C library, in bindings/out/dist, of what ./check proved
+                                    of this commit and left; else it proves all, in two hours
   make deb                          the Debian package of the programs of `make dist`
   ./check --install                 the gate: all is proved and tested, an hour on four cores; --quick five minutes
 Then, as root:

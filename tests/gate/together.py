@@ -57,6 +57,7 @@ def build(folder, names):
         lay(top, CRATE, "main.rt", names, text_of(names))
         unproved.build(CRATE, program, unproved.APART if unproved.CALLED in names else None, top)
         for name in names:
+            unproved.forget(os.path.join(folder, name))
             shutil.copy2(program, os.path.join(folder, name))
 
 

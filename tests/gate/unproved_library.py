@@ -82,6 +82,7 @@ def build(folder):
     """Builds the archive."""
     archive = os.path.join(os.path.abspath(folder), "librpki.a")
     os.makedirs(os.path.dirname(archive), exist_ok=True)
+    unproved.forget(archive)
     with tempfile.TemporaryDirectory() as room:
         found = lay(os.path.join(room, "tree"))
         built, whole = (os.path.join(room, name) for name in ("built.o", "rpki.o"))
@@ -89,8 +90,6 @@ def build(folder):
         unproved.build(CRATE, built, unproved.OPTIMIZED, os.path.join(room, "tree"), scripts)
         names = [call.rpartition("::")[2] for call in found]
         llvm("objcopy", *(f"--keep-global-symbol={name}" for name in names), built, whole)
-        if os.path.lexists(archive):
-            os.remove(archive)
         llvm("ar", "rcs", archive, whole)
 
 
