@@ -167,7 +167,8 @@ static struct buf certificate(const struct key *subject, const char *cn, const s
     return seq(cat(3, tbs, sha256rsa(), bits(out)));
 }
 
-static const char *list_until = FOREVER, *manifest_until = "20360101000000Z";
+static const char *list_from = "260101000000Z", *list_until = FOREVER;
+static const char *manifest_from = "20260101000000Z", *manifest_until = "20360101000000Z";
 
 static struct buf list(const struct key *issuer, const char *cn, int revoked) {
     struct buf tbs, s, entries = {malloc(1), 0};
@@ -175,7 +176,7 @@ static struct buf list(const struct key *issuer, const char *cn, int revoked) {
         entries = cat(2, entries, seq(cat(2, integer((uint64_t)(i + 1)), text(0x17, "260101000000Z"))));
     }
     entries = revoked ? seq(entries) : entries;
-    tbs = seq(cat(7, integer(1), sha256rsa(), name(cn), text(0x17, "260101000000Z"), text(0x17, list_until), entries,
+    tbs = seq(cat(7, integer(1), sha256rsa(), name(cn), text(0x17, list_from), text(0x17, list_until), entries,
                   tlv(0xa0, seq(cat(2, extension("551d23", 0, seq(tlv(0x80, raw(issuer->id, 20)))),
                                     extension("551d14", 0, integer(7)))))));
     s = sign(issuer->key, tbs);
@@ -277,6 +278,8 @@ int main(int count, char **words) {
     uint64_t number = getenv("NUMBER") ? (uint64_t)atoi(getenv("NUMBER")) : 7;
     (void)none;
     if (count != 7) return 2;
+    if (getenv("LISTFROM")) list_from = getenv("LISTFROM");
+    if (getenv("MANIFESTFROM")) manifest_from = getenv("MANIFESTFROM");
     if (getenv("LISTUNTIL")) list_until = getenv("LISTUNTIL");
     if (getenv("MANIFESTUNTIL")) manifest_until = getenv("MANIFESTUNTIL");
     folder = words[1];
@@ -468,7 +471,7 @@ int main(int count, char **words) {
             snprintf(een, sizeof een, "m%d", i);
             cert = certificate(ee, een, &keys[i], cn, 0, access("2b0601050507300b", sia2), aia, crl, copy(inherit),
                                hexed("3004a0020500"));
-            content = seq(cat(5, integer(number), text(0x18, "20260101000000Z"), text(0x18, manifest_until),
+            content = seq(cat(5, integer(number), text(0x18, manifest_from), text(0x18, manifest_until),
                               hexed("0609608648016503040201"), seq(listed)));
             mft = object(MANIFEST, content, ee, cert);
             keep(dir, "m.mft", mft);
