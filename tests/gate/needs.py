@@ -47,6 +47,7 @@ NEEDS = [
     Need("valgrind", "valgrind", ()),
     Need("pkg-config", "pkg-config", ()),
     Need("go", "golang-go", ()),
+    Need("musl-gcc", "musl-tools", ()),
     Need("qemu-aarch64", "qemu-user", ()),
     Need("aarch64-linux-gnu-gcc", "gcc-aarch64-linux-gnu", ()),
     Need("/usr/aarch64-linux-gnu/lib/crt1.o", "libc6-dev-arm64-cross", ()),

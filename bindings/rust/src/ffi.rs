@@ -7,6 +7,9 @@
 
 mod declarations;
 
+// Links the library.
+extern crate rpki_proved_sys as _;
+
 use bytes::Bytes;
 pub(crate) use declarations::*;
 use std::mem::MaybeUninit;

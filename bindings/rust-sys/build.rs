@@ -1,6 +1,9 @@
 //! Links the library, as `librpki.a` or, where only that is installed, as `librpki.so`: from the folder that
-//! `RPKI_ARCHIVE_DIR` names, or else from one beside this package, or else from where pkg-config finds it. A library of
-//! another major number than this package, or of an earlier minor number, is not linked.
+//! `RPKI_ARCHIVE_DIR` names, or else from this package, where it has the digest that is said there, or else from a
+//! folder beside it, or else from where pkg-config finds it. A library of another major number than this package, or of
+//! an earlier minor number, is not linked.
+
+mod digest;
 
 use std::env;
 use std::fs;
@@ -38,13 +41,36 @@ fn named(folder: PathBuf) -> Vec<PathBuf> {
     bases.map(|base| PathBuf::from(base).join(&folder)).collect()
 }
 
+/// The folder of this package as it is when this runs: a build script may be the one that was compiled for a copy in
+/// another folder.
+fn here() -> PathBuf {
+    PathBuf::from(env::var_os("CARGO_MANIFEST_DIR").unwrap_or_default())
+}
+
+/// The folder in this package that has the archive for this architecture, if there is one.
+fn own(architecture: &str) -> Option<PathBuf> {
+    let archives = here().join("archives");
+    let folder = archives.join(architecture);
+    let archive = fs::read(folder.join("librpki.a")).ok()?;
+    let sums = fs::read_to_string(archives.join("SHA256SUMS")).unwrap_or_default();
+    let named = format!("{}  {architecture}/librpki.a", digest::sha256(&archive));
+    if !sums.lines().any(|line| line == named) {
+        stop(&[format!("{} has not the digest that SHA256SUMS says there", folder.join("librpki.a").display())]);
+    }
+    Some(folder)
+}
+
 /// The folders beside this package that may have the archive for this architecture: what `bindings/archive` makes in a
 /// clone of the repository, where that for x86-64 has no folder of its own, and what a package of the library has.
 fn beside(architecture: &str) -> Vec<PathBuf> {
-    // As it is when this runs: a build script may be the one that was compiled for a copy in another folder.
-    let here = PathBuf::from(env::var_os("CARGO_MANIFEST_DIR").unwrap_or_default());
+    let here = here();
     let made = here.join("../out").join(if architecture == "x86_64" { "" } else { architecture });
     vec![made, here.join("../../lib").join(architecture)]
+}
+
+/// The folders that may have the archive for this architecture, where none is named.
+fn found(architecture: &str) -> Vec<PathBuf> {
+    own(architecture).map_or_else(|| beside(architecture), |folder| vec![folder])
 }
 
 /// What pkg-config prints, where it succeeds and prints something.
@@ -88,10 +114,13 @@ fn main() {
     if env::var_os("DOCS_RS").is_some() {
         return;
     }
-    let architecture = env::var("CARGO_CFG_TARGET_ARCH").unwrap_or_default();
+    let target = |part: &str| env::var(format!("CARGO_CFG_TARGET_{part}")).unwrap_or_default();
+    let (architecture, system) = (target("ARCH"), target("OS"));
     let variable = env::var_os(VARIABLE).map(PathBuf::from);
     let is_named = variable.is_some();
-    let folders = variable.map_or_else(|| beside(&architecture), named);
+    // What is not named is for Linux, with glibc or musl alike.
+    let for_linux = || if system == "linux" { found(&architecture) } else { Vec::new() };
+    let folders = variable.map_or_else(for_linux, named);
     if let Some(folder) = folders.iter().find(|folder| folder.join("librpki.a").is_file()) {
         if let Some(version) = version_of(folder) {
             hold(&version, folder);
@@ -106,11 +135,15 @@ fn main() {
             return link(Path::new(&folder));
         }
     }
+    if !is_named && system != "linux" {
+        stop(&[format!("the library is for Linux on x86_64 and aarch64, and there is none for {system}")]);
+    }
     stop(&[
         format!("there is no librpki.a in any of {folders:?}, and pkg-config knows no rpki"),
         format!("set {VARIABLE} to its folder: lib/{architecture} of an unpacked package of the library"),
-        "or, in a clone of the repository, which wants the toolchain, make it there: bindings/archive proves it too, in \
-         an hour; tests/gate/unproved_library.py bindings/out builds it without proof, in a minute"
+        "or, in a clone of the repository, which wants the toolchain, make it there: \
+         tests/gate/unproved_library.py bindings/out builds it without proof, in a minute; bindings/archive proves it \
+         too, in an hour"
             .into(),
     ]);
 }
