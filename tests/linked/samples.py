@@ -27,11 +27,13 @@ def of_content(words):
 
 
 def of_certificate(words):
-    """Each outcome that a row of a certificate has: a part and a reason, of extensions, of each profile."""
+    """Each outcome that a row of a certificate has: a part and a reason, whether its algorithm has parameters, of
+    extensions, of each profile."""
     if words[1] != "0":
         return [tuple(words[1:3])]
     places = [place for place, word in enumerate(words) if word == "|"]
-    return [("extensions", words[places[0] + 1])] + [("inspected", word) for word in words[places[1] + 1:]]
+    parts = [("parameters", words[places[0] - 1]), ("extensions", words[places[0] + 1])]
+    return parts + [("inspected", word) for word in words[places[1] + 1:]]
 
 
 def of_list(words):

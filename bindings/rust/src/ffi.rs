@@ -1013,7 +1013,16 @@ pub(crate) fn validity_trim(period: &Period, other: &Period) -> Result<Period, S
 
 #[cfg(test)]
 mod tests {
-    use super::{fits, version, VERSION_MAJOR, VERSION_MINOR};
+    use super::{aspa_is_within, fits, version, AsBlock, OTHER_RESOURCES, VERSION_MAJOR, VERSION_MINOR};
+
+    /// The customer, AS4096, may be in any of the blocks.
+    #[test]
+    fn customers_of_later_blocks() {
+        let octets = b"\x30\x11\xa0\x03\x02\x01\x01\x02\x02\x10\x00\x30\x06\x02\x01\x05\x02\x01\x07";
+        let blocks = [(1, 9), (4096, 4096)].map(|(low, high)| AsBlock { low, high, is_inherited: false });
+        assert_eq!(aspa_is_within(octets, &blocks), Ok(()));
+        assert_eq!(aspa_is_within(octets, &blocks[..1]), Err(OTHER_RESOURCES));
+    }
 
     /// A library fits that has every call of the header, and each as it is there: what rpki.h says of its versions.
     #[test]

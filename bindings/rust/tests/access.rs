@@ -158,7 +158,7 @@ fn access_is_descriptions_and_nothing_else() {
     let known = accessed(value(0x30, &one));
     assert_eq!(text(known.ca_repository().unwrap()).unwrap(), "rsync://a/m/1/");
     assert_eq!(accessed(value(0x30, &[])).subject_access().unwrap_err(), DecodeError::Content);
-    for tag in [0x31, 0xA0, 0x10, 0x24] {
+    for tag in [0x31, 0xA0, 0xB0, 0x70, 0x10, 0x24] {
         assert_eq!(accessed(value(tag, &one)).subject_access().unwrap_err(), DecodeError::Unexpected);
     }
     let behind = [value(0x30, &one), vec![5, 0]].concat();

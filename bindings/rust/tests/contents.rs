@@ -106,7 +106,10 @@ fn compare_manifest(all: &[u8], words: &[&str]) {
     assert_eq!(hexadecimal(&manifest.manifest_number().into_array()), words[5]);
     let base = uri::Rsync::from_str("rsync://example.org/module/").unwrap();
     let uris = manifest.iter_uris(&base);
-    assert_eq!(manifest.iter().len(), names.len());
+    let mut rest = manifest.iter();
+    assert_eq!(rest.len(), names.len());
+    rest.next();
+    assert_eq!(rest.len(), names.len().saturating_sub(1));
     for (((file, name), words), uri) in manifest.iter().zip(names).zip(words[6..].chunks(4)).zip(uris) {
         assert_eq!(file.file(), name);
         assert_eq!(hexadecimal(file.hash().as_slice()), words[3]);

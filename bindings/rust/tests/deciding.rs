@@ -5,9 +5,10 @@ use rpki_proved::crypto::{Provider, RsaProvider};
 use rpki_proved::repository::cert::CertRule;
 use rpki_proved::repository::error::ValidationError;
 use rpki_proved::repository::resources::{Asn, ResourceSet};
+use rpki_proved::repository::roa::{RoaError, RouteOriginAttestation};
 use rpki_proved::repository::sigobj::{ObjectVerificationError, SignedObject, SignedObjectError};
 use rpki_proved::repository::tal::{Tal, TalInfo};
-use rpki_proved::repository::x509::Time;
+use rpki_proved::repository::x509::{SignedData, Time, Validity};
 use rpki_proved::repository::{Aspa, Cert, Crl, CurrentCrl, Manifest, ResourceCert, Roa};
 use std::cell::Cell;
 use std::fs;
@@ -175,6 +176,10 @@ fn moments() {
         assert_eq!(text(at_a_moment(&old, &by, true, at(NOW))), EXPIRED, "{old}");
         assert_eq!(at_a_moment(&old, &by, true, at(JANUARY)), Ok(()), "{old}");
     }
+    let year = |year| Time::utc(year, 1, 1, 0, 0, 0);
+    assert!(!Validity::new(year(2000), year(2001)).verify().unwrap_err().is_too_new());
+    assert!(Validity::new(year(9998), year(9999)).verify().unwrap_err().is_too_new());
+    assert_eq!(Validity::new(year(2000), year(9999)).verify(), Ok(()));
     let key = tal(&cert("ta.cer"));
     assert!(cert("ta.cer").validate_ta(key.clone(), true).is_ok());
     assert_eq!(text(cert("ta-old.cer").validate_ta(key.clone(), true)), EXPIRED);
@@ -215,6 +220,12 @@ fn strict_of_names() {
         assert_eq!(cert.inspect_ee(true).unwrap_err().to_string(), NO_NAME);
         assert!(cert.inspect_ee(false).is_ok());
     }
+    for name in ["name.roa", "name.asa", "name.mft"] {
+        assert_eq!(object(name).inspect(true).unwrap_err().to_string(), NO_NAME);
+        assert!(object(name).inspect(false).is_ok());
+        assert_eq!(object(name).verify_signature(), Ok(()));
+        assert_eq!(object(name).verify_signature_with(&RsaProvider), Ok(()));
+    }
     assert!(cert("ca-name.cer").inspect_ca(true).is_err() && cert("ca-name.cer").inspect_ca(false).is_ok());
     assert!(cert("ta-name.cer").inspect_ta(true).is_err() && cert("ta-name.cer").inspect_ta(false).is_ok());
     let detached = cert("detached-name.cer");
@@ -247,6 +258,13 @@ fn strict_of_objects() {
             let told = SignedObject::decode(file(&name), true).map(|_| ());
             let is_strict = word == "ee" || word == "order";
             assert_eq!(told, if is_strict { Ok(()) } else { Err(SignedObjectError::SignedAttrs) }, "{name}");
+            let reason = |strict| SignedObject::reason(&file(&name), strict);
+            assert_eq!((reason(true).map(|(part, _)| part), reason(false)), (told.err(), None), "{name}");
+            if let Err(ValidationError::Malformed(error)) = decoded(true) {
+                assert!(error.reason().is_some(), "{name}");
+                let of_object = reason(true).map(|(_, reason)| reason);
+                assert!(is_strict || error.reason() == of_object, "{name}");
+            }
             assert_eq!(object(&name).verify_signature(), Ok(()), "{name}");
             for (_, by_the_clock, at_a_moment) in OF_OBJECTS.into_iter().filter(|way| way.0 == kind) {
                 assert_eq!(by_the_clock(&name, &by, true), Ok(()), "{name}");
@@ -254,6 +272,22 @@ fn strict_of_objects() {
             }
         }
     }
+    // Of another tag, the signature is what is wrong, and to a strict reader the attributes in front of it.
+    let mut other = file("untimed.roa");
+    let place = other.len() - 260;
+    assert_eq!(other[place..][..4], [4, 0x82, 1, 0]);
+    other[place] = 5;
+    let reason = |strict| SignedObject::reason(&other, strict).unwrap();
+    assert_eq!((reason(true).0, reason(false).0), (SignedObjectError::SignedAttrs, SignedObjectError::Signature));
+    for strict in [true, false] {
+        match Roa::decode(&other, strict) {
+            Err(ValidationError::Malformed(error)) => assert_eq!(error.reason(), Some(reason(strict).1)),
+            told => panic!("{told:?}"),
+        }
+    }
+    assert_ne!(reason(true).1, reason(false).1);
+    let order = |strict| RouteOriginAttestation::reason(object("order.roa").content(), strict).map(|(part, _)| part);
+    assert_eq!((order(true), order(false)), (Some(RoaError::AddressBlocks), None));
     assert_eq!(object("untimed.roa").signing_time(), None);
     assert_eq!(object("binary.roa").binary_signing_time(), Some(1_767_225_600));
     assert_eq!(object("binary.roa").signing_time(), Some(at(1_767_225_600)));
@@ -468,6 +502,13 @@ fn signatures() {
     let other = SignedObject::decode(other, true).unwrap();
     assert_eq!(other.verify_signature(), Err(ObjectVerificationError::Signature));
     assert_eq!(other.verify_signature_with(&RsaProvider), Err(ObjectVerificationError::Signature));
+    let signed = SignedData::decode(file("ca.cer")).unwrap();
+    for (name, is_issuer) in [("ta.cer", true), ("ca.cer", false)] {
+        let cert = cert(name);
+        let key = cert.subject_public_key_info();
+        assert_eq!(signed.verify_signature(key).is_ok(), is_issuer, "{name}");
+        assert_eq!(signed.verify_signature_with(&RsaProvider, key).is_ok(), is_issuer, "{name}");
+    }
     // The certificate of the signer has to be an end entity's.
     let rule = object("authority.roa").verify_signature();
     assert_eq!(rule, Err(ObjectVerificationError::Certificate(CertRule::NoBasicConstraints)));

@@ -287,6 +287,13 @@ fn names_of_subjects() {
     );
 }
 
+/// An identifier is that of its twenty octets, and not of more or fewer.
+#[test]
+fn identifiers_have_twenty_octets() {
+    let identifier = KeyIdentifier::from([7; 20]);
+    assert!(identifier == [7; 20] && identifier != [7; 21] && identifier != [7; 19]);
+}
+
 /// The octets of two hexadecimal digits each.
 fn octets(digits: &str) -> Vec<u8> {
     (0..digits.len()).step_by(2).map(|at| u8::from_str_radix(&digits[at..at + 2], 16).unwrap()).collect()
@@ -316,7 +323,8 @@ fn a_signature_is_verified() {
     assert!(other.verify(message, &signature(value)).is_err());
 }
 
-/// The same answers by OpenSSL.
+/// The same answers by OpenSSL; but of keys that certificates of the RPKI haven't (RFC 7935 3), one of 3,072 bits and
+/// one of the exponent 3, whose rows are among those of `tests/signatures/rows.py` too, no signature is good.
 #[cfg(feature = "openssl")]
 #[test]
 fn openssl_says_the_same() {
@@ -324,4 +332,11 @@ fn openssl_says_the_same() {
     let row: Vec<Vec<u8>> = include_str!("signature.txt").trim().split(' ').map(octets).collect();
     assert!(OpenSslProvider.rsa_check(&row[0], &row[1], &row[2]));
     assert!(!OpenSslProvider.rsa_check(&row[0], b"another", &row[2]));
+    assert!(!OpenSslProvider.rsa_check(b"no key", &row[1], &row[2]));
+    assert_eq!(OpenSslProvider.sha256(b"abc")[..4], [0xba, 0x78, 0x16, 0xbf]);
+    let others = include_str!("signatures.txt").lines();
+    for row in others.map(|row| row.split(' ').map(octets).collect::<Vec<_>>()) {
+        assert!(RsaProvider.rsa_check(&row[0], &row[1], &row[2]));
+        assert!(!OpenSslProvider.rsa_check(&row[0], &row[1], &row[2]));
+    }
 }

@@ -78,6 +78,8 @@ fn compare(all: &[u8], object: &SignedObject, words: &[&str]) {
     assert_eq!(hexadecimal(object.sid().as_slice()), words[9]);
     assert_eq!(number(object.signing_time().map(|time| time.timestamp())), words[10]);
     assert_eq!(number(object.binary_signing_time()), words[11]);
+    assert_eq!(attributes.signing_time(), object.signing_time());
+    assert_eq!(attributes.binary_signing_time(), object.binary_signing_time());
     assert_eq!(object.is_type_signed(), words[12] == "1");
     let is_default = *object.signature().algorithm() == RpkiSignatureAlgorithm::default();
     assert_eq!(is_default, words[13] == "1");

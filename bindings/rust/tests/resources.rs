@@ -428,6 +428,8 @@ fn counts() {
         let block = IpBlock::from(prefix);
         assert_eq!((block.min(), block.max()), (first, last));
     }
+    let one = AddressRange::from_v6_str("2001:db8::1-2001:db8::1").unwrap();
+    assert_eq!(one.min(), one.max());
     let range = AddressRange::from_v4_str("10.2.48.0-10.2.64.255").unwrap();
     assert_eq!((range.min(), range.max()), (v4("10.2.48.0"), v4("10.2.64.255").to_max(32)));
     for (text, count) in [("", 0), ("10.0.0.0/8", 1), ("10.0.0.0/9, 10.128.0.0/9", 1), ("10.0.0.0/9, 11.0.0.0/9", 2)] {

@@ -378,3 +378,25 @@ impl ValidationError {
         })
     }
 }
+
+#[cfg(test)]
+mod tests {
+    use super::ValidationError;
+    use crate::ffi;
+    use crate::repository::cert::{CertRule, ExtensionError};
+    use crate::view::DecodeError;
+
+    /// What is said of statuses that the calls return of no value of this package: its certificates were read, and have
+    /// been held to their profile, before they are asked about.
+    #[test]
+    fn statuses() {
+        let told = ValidationError::from_status;
+        assert_eq!(told(ffi::OUT_OF_MEMORY), ValidationError::Decode(DecodeError::OutOfMemory));
+        assert_eq!(told(ffi::KEY_NOT_ACCEPTED).to_string(), "key is not one that signatures are verified by");
+        assert_eq!(told(ffi::NO_ISSUER).to_string(), "issuer is no certificate");
+        assert_eq!(told(80), ExtensionError::BasicConstraints.into());
+        assert_eq!(told(84), ExtensionError::CertificatePolicies.into());
+        assert_eq!(told(ffi::RULE_SERIAL_NUMBER), CertRule::SerialNumber.into());
+        assert_eq!(told(ffi::RULE_ROUTER_SERIAL_NUMBER), CertRule::RouterSerialNumber.into());
+    }
+}

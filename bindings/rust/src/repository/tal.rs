@@ -150,7 +150,7 @@ impl Tal {
 
     /// Reads a locator, to be called so (RFC 8630 2.2): lines that begin with `#`, lines of one URI each, an empty
     /// line, and a SubjectPublicKeyInfo in base 64. Lines end with a line feed, with a carriage return before it or
-    /// without.
+    /// without; spaces, tabs and form feeds in the key are passed over. Comments are UTF-8 too.
     ///
     /// # Errors
     /// What is wrong first.

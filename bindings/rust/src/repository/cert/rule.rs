@@ -187,3 +187,25 @@ impl fmt::Display for CertRule {
 }
 
 impl Error for CertRule {}
+
+#[cfg(test)]
+mod tests {
+    use super::CertRule;
+
+    /// Each status has the rule of its name in the header.
+    #[test]
+    fn rules_are_those_of_the_header() {
+        let lines = include_str!("../../ffi/declarations.rs").lines();
+        let named: Vec<(&str, u8)> = lines
+            .filter_map(|line| {
+                line.strip_prefix("pub(crate) const RULE_")?.strip_suffix(';')?.split_once(": Status = ")
+            })
+            .map(|(name, number)| (name, number.parse().unwrap()))
+            .collect();
+        assert_eq!(named.len(), 38);
+        for (name, number) in named {
+            let letters = format!("{:?}", CertRule::from_status(number)).to_uppercase();
+            assert_eq!(letters, name.replace('_', ""), "{number}");
+        }
+    }
+}
