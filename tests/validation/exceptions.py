@@ -1,4 +1,5 @@
 """Local exceptions (RFC 8416)."""
+import base64
 import json
 import os
 
@@ -30,6 +31,11 @@ ASSERTIONS = [{"asn": 64500, "prefix": "198.51.100.0/24"},
               {"asn": 64496, "prefix": "2001:db8::/32", "maxPrefixLength": 48, "comment": "a site"},
               {"asn": 64500, "prefix": "198.51.100.0/24", "maxPrefixLength": 24}]
 ASSERTED = ["AS64500,198.51.100.0/24,24,local", "AS64496,2001:db8::/32,48,local"]
+
+
+# A public key on P-256, which openssl made.
+KEY = ("MFkwEwYHKoZIzj0CAQYIKoZIzj0DAQcDQgAEwqoGcakZncFZEfn0k3LTgg2h+qvnTxWG4D8eQHjDjNomh52wqWHa5cuEKMi/ehAGRE0iS/VR"
+       "2icQfJUSn8cPzw==")
 
 
 # A name, and a text that is no file of local exceptions.
@@ -71,6 +77,14 @@ def deviations():
                       ("a long maximum length", {"asn": 1, "prefix": "10.0.0.0/8", "maxPrefixLength": 33}),
                       ("another name", {"asn": 1, "prefix": "10.0.0.0/8", "maxLength": 8})):
         yield f"a prefix that is added with {name}", json.dumps(slurm(assertions=[one]))
+    ski, key = url_safe(bytes(20)), base64.b64decode(KEY)
+    yield "an identifier with padding", json.dumps(slurm(key_filters=[{"SKI": ski + "="}]))
+    for name, one in (("no octets", b""), ("no key", b"AAA"), ("an octet behind the key", key + b"A"),
+                      ("a key that is cut", key[:-1]), ("the bits alone", key[-65:])):
+        yield f"a key that is added with {name}", json.dumps(
+            slurm(key_assertions=[{"asn": 1, "SKI": ski, "routerPublicKey": url_safe(one)}]))
+    yield "a key that is added with padding", json.dumps(
+        slurm(key_assertions=[{"asn": 1, "SKI": ski, "routerPublicKey": base64.urlsafe_b64encode(key).decode()}]))
     yield "a key that is added without its identifier", json.dumps(
         slurm(key_assertions=[{"asn": 1, "routerPublicKey": "AAAA"}]))
     yield "a key that is added without the key", json.dumps(
@@ -108,10 +122,10 @@ def key_exceptions(program, folder, file):
                                 ("both", [{"asn": 2, "SKI": ski, "comment": "x"}], [it for it in all_of if it != 2]),
                                 ("both, of which one doesn't match", [{"asn": 2, "SKI": other}], all_of),
                                 ("two", [{"asn": 2}, {"asn": 3}], [it for it in all_of if it not in (2, 3)])):
-        added = [{"asn": 65000, "SKI": other, "routerPublicKey": url_safe(b"key")}]
+        added = [{"asn": 65000, "SKI": other, "routerPublicKey": url_safe(info)}]
         edit(file, json.dumps(slurm(key_filters=filters, key_assertions=added)).encode())
         status, output, _ = program.run(folder, "--form", "json", "--exceptions", file)
         made = [(key["asn"], key["SKI"], key["routerPublicKey"], key["ta"]) for key in json.loads(output)["routerKeys"]]
         wanted = [*((f"AS{it}", identifier.hex().upper(), url_safe(info), "example") for it in left),
-                  ("AS65000", bytes(range(20)).hex().upper(), url_safe(b"key"), "local")]
+                  ("AS65000", bytes(range(20)).hex().upper(), url_safe(info), "local")]
         holds(f"exceptions: filters of keys: {name}", status == 0 and made == wanted, made)

@@ -2,12 +2,13 @@
 use Rattle.std.specs.Prelude.{◌≡◌, ◌≤◌, ◌<◌, ◌+◌, ◌^◌, ℕ, suc, List, [], ◌∷◌, codes, length, Option, Some, None}
 use Rattle.std.specs.Prelude.{◌⊎◌, ⊤, if◌then◌else◌, IfSome, IsSome, IsUtf8, Ok, option_and_then}
 use Rattle.std.specs.Option.{unwrap_or, is_some}
-use Rattle.base64.specs.Engines.{url_safe_no_pad_indifferent}
+use Rattle.base64.specs.Engines.{url_safe_no_pad}
 use Rattle.base64.specs.GeneralPurpose.{decode_of}
 use Rattle.serde_json.specs.Data.{Data, Members, no_members, member}
 use Rattle.serde_json.specs.Find.{as_array, as_number, as_object, as_str, as_u64, get}
 use Rattle.serde_json.specs.Read.{read as read_text}
 use Rattle.serde_json.specs.View.{items_of}
+use Rattle.rpki.specs.PublicKey.{KeyParts, SpellsKey}
 use Rattle.rpki_resources.specs.declared.ip_text.Prefix.{Prefix}
 use Rattle.rpki_resources.specs.IpRead.{IsPrefixText, address_width}
 use Rattle.rpki_payloads.specs.declared.exceptions.Exceptions.{Exceptions}
@@ -81,8 +82,15 @@ IsPrefixIn d p = (text : List ℕ) × (as_str d ≡ Some text) × IsPrefixText t
 
 -- octets in base 64 (RFC 4648 5, without padding)
 abbrev pub AreOctetsIn : Data → List ℕ → Type 0
-AreOctetsIn d octets =
-    (text : List ℕ) × (as_str d ≡ Some text) × (decode_of url_safe_no_pad_indifferent text ≡ Ok octets)
+AreOctetsIn d octets = (text : List ℕ) × (as_str d ≡ Some text) × (decode_of url_safe_no_pad text ≡ Ok octets)
+
+-- octets that are a public key (RFC 5280 4.1)
+abbrev pub IsKeyInfo : List ℕ → Type 0
+IsKeyInfo octets = (k : KeyParts) × SpellsKey k octets
+
+-- those of the SubjectPublicKeyInfo of a certificate (RFC 8416 3.4.2)
+abbrev pub IsInfoIn : Data → List ℕ → Type 0
+IsInfoIn d info = AreOctetsIn d info × IsKeyInfo info
 
 -- those of the identifier of a key, of which there are twenty (RFC 6487 4.8.2)
 abbrev pub IsIdentifierIn : Data → List ℕ → Type 0
@@ -131,7 +139,7 @@ pub record IsKeyAssertion (d : Data) (k : RouterKey) : Type 0 where
   pub asn : IsMember (codes "asn") IsNumberIn d k.first
   pub one : k.last ≡ k.first
   pub identifier : IsMember (codes "SKI") IsIdentifierIn d k.identifier
-  pub info : IsMember (codes "routerPublicKey") AreOctetsIn d k.info
+  pub info : IsMember (codes "routerPublicKey") IsInfoIn d k.info
   pub comment : HasComment d
 
 -- ---- the whole (3.2)

@@ -6,7 +6,7 @@ ghost use Rattle.serde_json.specs.Find.{as_array, get};
 ghost use Rattle.serde_json.specs.View.{view, items_view};
 ghost use Rattle.rpki_payloads.specs.ExceptionsText.{AreAssertions, AreExceptions, AreExceptionsIn, AreFilters};
 ghost use Rattle.rpki_payloads.specs.ExceptionsText.{AreListed, IsKeyAssertion, IsKeyFilter, IsPrefixAssertion};
-ghost use Rattle.rpki_payloads.specs.ExceptionsText.{AreOctetsIn, IsMember, IsPrefixFilter, IsVersionOne, IsVrpWith};
+ghost use Rattle.rpki_payloads.specs.ExceptionsText.{IsInfoIn, IsMember, IsPrefixFilter, IsVersionOne, IsVrpWith};
 ghost use Rattle.rpki_payloads.specs.ExceptionsText.{IsArrayFault, IsAssertionsFault, IsElementFault};
 ghost use Rattle.rpki_payloads.specs.ExceptionsText.{IsExceptionsFault, IsFiltersFault, IsTextFault, member_name};
 ghost use Rattle.rpki_payloads.specs.declared.exceptions_text.Member.TheVariants.{KeyAssertions, KeyFilters};
@@ -20,7 +20,7 @@ use crate::filters::PrefixFilter;
 use crate::key_filters::KeyFilter;
 use crate::members::{
     asn_at, asn_in, has_comment, has_only_four, has_only_three, has_only_two, identifier_at,
-    identifier_in, longest_in, octets_of, prefix_at, prefix_in,
+    identifier_in, info_of, longest_in, prefix_at, prefix_in,
 };
 use crate::router_key::RouterKey;
 use crate::vrp::Vrp;
@@ -199,18 +199,12 @@ fn prefix_assertion_of(value: &Value) -> Option<Vrp>
     vrp_with(prefix, longest, asn)
 }
 
-/// The member `routerPublicKey`. None if it is not there, or is no text in base 64.
+/// The member `routerPublicKey`. None if it is not there, or is no public key in base 64.
 fn info_in(alloc: Global, value: &Value) -> Result<Option<Bytes>, AllocError>
-    ensures { IfOk result (λ o. Finds (IsMember (codes "routerPublicKey") AreOctetsIn (view value.now)) o) }
+    ensures { IfOk result (λ o. Finds (IsMember (codes "routerPublicKey") IsInfoIn (view value.now)) o) }
 {
     match value.get("routerPublicKey") {
-        Some(member) => match octets_of(alloc, member)? {
-            Some(octets) => {
-                let info = Bytes::from_vec(octets)?;
-                Ok(Some(info))
-            }
-            None => Ok(None),
-        },
+        Some(member) => info_of(alloc, member),
         None => Ok(None),
     }
 }

@@ -1,16 +1,22 @@
 //! Members of objects of JSON, as files of local exceptions have them.
 
-ghost use Rattle.std.specs.Prelude.{◌≡◌, ◌≤◌, ◌↔◌, ◌∷◌, [], IsTrue, IfOk, codes, map, option_map, if◌then◌else◌};
+ghost use Rattle.std.specs.Prelude.{◌≡◌, ◌≤◌, ◌↔◌, ◌∷◌, [], true, false, IsTrue, IfOk, codes, map, option_map};
+ghost use Rattle.std.specs.Prelude.{if◌then◌else◌};
 ghost use Rattle.std.specs.Option.{is_some};
 ghost use Rattle.serde_json.specs.Find.{get};
 ghost use Rattle.serde_json.specs.View.{view};
 ghost use Rattle.rpki_payloads.specs.Exceptions.{Finds};
-ghost use Rattle.rpki_payloads.specs.ExceptionsText.{AreOctetsIn, HasComment, HasOnly, IsIdentifierIn, IsNumberIn};
+ghost use Rattle.rpki_payloads.specs.ExceptionsText.{AreOctetsIn, HasComment, HasOnly, IsIdentifierIn, IsInfoIn};
+ghost use Rattle.rpki_payloads.specs.ExceptionsText.{IsKeyInfo, IsNumberIn};
 ghost use Rattle.rpki_payloads.specs.ExceptionsText.{IsMember, IsPrefixIn, MayBeMember, HasSize};
 
+use base64::DecodeAllocError;
+use base64::engine::general_purpose::URL_SAFE_NO_PAD;
+use bytes::Bytes;
+use rpki::crypto::PublicKey;
 use rpki::crypto::keys::KeyIdentifier;
+use rpki_der::DecodeError;
 use rpki_resources::Prefix;
-use rpki_text::util::base_64::{Base64Error, Slurm};
 use serde_json::Value;
 use std::alloc::{AllocError, Global};
 
@@ -106,15 +112,15 @@ pub fn prefix_of(value: &Value) -> Option<Prefix>
     }
 }
 
-/// Octets, in base 64.
+/// Octets, in base 64 without padding.
 pub fn octets_of(alloc: Global, value: &Value) -> Result<Option<Vec<u8>>, AllocError>
     ensures { IfOk result (λ o. Finds (AreOctetsIn (view value.now)) (option_map (λ v. v.items) o)) }
 {
     match value.as_str() {
-        Some(text) => match Slurm.decode(alloc, text) {
+        Some(text) => match URL_SAFE_NO_PAD.decode(alloc, text.as_bytes()) {
             Ok(octets) => Ok(Some(octets)),
-            Err(Base64Error::Refused(_)) => Ok(None),
-            Err(Base64Error::OutOfMemory) => Err(AllocError),
+            Err(DecodeAllocError::DecodeError(_)) => Ok(None),
+            Err(DecodeAllocError::OutOfMemory) => Err(AllocError),
         },
         None => Ok(None),
     }
@@ -131,6 +137,34 @@ pub fn identifier_of(alloc: Global, value: &Value) -> Result<Option<KeyIdentifie
         },
         None => Ok(None),
     }
+}
+
+/// Whether the octets are a public key in DER (RFC 5280 4.1).
+fn is_key(alloc: Global, info: &Bytes) -> Result<bool, AllocError>
+    ensures yes { IfOk result (λ is_one. is_one ≡ true → IsKeyInfo info.now) }
+    ensures no { IfOk result (λ is_one. is_one ≡ false → IsKeyInfo info.now → ⊥) }
+{
+    match PublicKey::decode(alloc, info.clone()?) {
+        Ok(_) => Ok(true),
+        Err(e) => match e {
+            DecodeError::OutOfMemory => Err(AllocError),
+            _ => Ok(false),
+        },
+    }
+}
+
+/// A public key in DER, in base 64.
+pub fn info_of(alloc: Global, value: &Value) -> Result<Option<Bytes>, AllocError>
+    ensures { IfOk result (λ o. Finds (IsInfoIn (view value.now)) o) }
+{
+    let Some(octets) = octets_of(alloc, value)? else {
+        return Ok(None);
+    };
+    let info = Bytes::from_vec(octets)?;
+    if is_key(alloc, &info)? {
+        return Ok(Some(info));
+    }
+    Ok(None)
 }
 
 /// The member `asn`, where there is one. None if it is no number below 2^32.
