@@ -229,8 +229,9 @@ def special_outputs(program, maker):
         told = ended.stderr.decode().endswith("rpkivalid: standard output: cannot be written\n")
         holds("standard output that is full, beside metrics", ended.returncode == 3 and told, ended)
         up = os.path.join(here.folder, "..", os.path.basename(here.folder), "example.tal")
-        status, _, faults = here.run("--tal", up)
-        holds("a locator above the copy", status == 0, faults)
+        words = [program.path, "--tal", up, "--cache", here.folder, "--at", AT]
+        ended = subprocess.run(words, capture_output=True, check=False)
+        holds("a locator above the copy", ended.returncode == 0, ended.stderr)
 
 
 def at_once(program, maker):
@@ -272,7 +273,7 @@ def least(program, maker):
         holds(f"--least {number}", status == wanted and is_list(file) == (wanted == 0), (status, faults[-200:]))
         if wanted == 2:
             is_number = str(number).isdigit() and int(number) < 2**32
-            few, no_number = "fewer route origins than --least asks for", "--least wants a number below 4294967296"
+            few, no_number = "fewer route origins than --least asks for", "--least takes a number below 4294967296"
             said = few if is_number else no_number
             holds(f"--least {number}: told", octets_of(file) == b"before" and said in faults, faults[-200:])
 

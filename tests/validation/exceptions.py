@@ -103,10 +103,24 @@ def exceptions(program, maker):
     left = [line for line in lines if not line.startswith("AS64529,")]
     program.holds("exceptions: prefixes that are added", folder, [*left, *ASSERTED], 0, *words)
     key_exceptions(program, folder, file)
+    other = {**slurm(), "validationOutputFilters": {"prefixFilters": {}, "bgpsecFilters": []}}
+    for text, said in (("", "3.1: not JSON"), ({**slurm(), "slurmVersion": 2}, "3.2: slurmVersion is not the number 1"),
+                       ({**slurm(), "validationOutputFilters": []},
+                        "3.3: validationOutputFilters is not an object of prefixFilters and bgpsecFilters"),
+                       ({**slurm(), "locallyAddedAssertions": []},
+                        "3.4: locallyAddedAssertions is not an object of prefixAssertions and bgpsecAssertions"),
+                       (other, "3.3.1: prefixFilters is not an array"),
+                       (slurm([{"asn": 1}, {}]), "3.3.1: prefixFilters[1] is no such element"),
+                       (slurm(key_filters=[{}]), "3.3.2: bgpsecFilters[0] is no such element"),
+                       (slurm(assertions=[{}]), "3.4.1: prefixAssertions[0] is no such element"),
+                       (slurm(key_assertions=[{}]), "3.4.2: bgpsecAssertions[0] is no such element")):
+        edit(file, json.dumps(text).encode() if text else b"")
+        _, _, faults = program.run(folder, *words)
+        holds(f"exceptions: told: {said}", faults == f"rpkivalid: {file}: RFC 8416 {said}\n", faults)
     for name, text in deviations():
         edit(file, text if isinstance(text, bytes) else text.encode())
         status, output, faults = program.run(folder, *words)
-        holds(f"exceptions: {name}", status == 2 and not output and "local.json: RFC 8416 3: " in faults,
+        holds(f"exceptions: {name}", status == 2 and not output and "local.json: RFC 8416 3." in faults,
               (status, output[:50], faults[:200]))
     status, output, faults = program.run(folder, "--exceptions", os.path.join(maker.room, "none.json"))
     holds("exceptions: no file", status == 2 and not output and "none.json: cannot be read" in faults, faults)

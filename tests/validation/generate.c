@@ -205,9 +205,14 @@ static struct buf object(const char *type, struct buf content, const struct key 
 static const char *folder;
 static size_t files, all;
 
-/* the host of an authority whose folder is dN */
+/* the host of an authority whose folder is dN; and as URIs name it, which URIHOST may spell otherwise */
 static void host_of(char *host, size_t size, const char *dir) {
     snprintf(host, size, getenv("HOSTS") ? "h%s.example" : "rpki.example", dir + 1);
+}
+static void base_of(char *base, size_t size, const char *dir) {
+    char host[32];
+    host_of(host, sizeof host, dir);
+    snprintf(base, size, "rsync://%s/repo", getenv("URIHOST") ? getenv("URIHOST") : host);
 }
 
 static void keep(const char *dir, const char *file, struct buf b) {
@@ -312,7 +317,7 @@ int main(int count, char **words) {
     for (int i = n - 1; i >= 0; i--) {
         int parent = i ? (i - 1) / width : 0;
         char cn[32], pcn[32], dir[32], pdir[32], gdir[32], own[32], up[128], sia1[128], sia2[128], aia[128], crl[128],
-            pcrl[128], file[32], host[32], base[64], pbase[64], gbase[64];
+            pcrl[128], file[32], base[64], pbase[64], gbase[64];
         struct buf list_octets, listed = {malloc(1), 0}, mft, c, ip;
         uint32_t address = 0x0a000000u + ((uint32_t)i << 8);
         snprintf(cn, sizeof cn, "ca%d", i);
@@ -321,12 +326,9 @@ int main(int count, char **words) {
         snprintf(pdir, sizeof pdir, "d%d", parent);
         snprintf(gdir, sizeof gdir, "d%d", parent ? (parent - 1) / width : 0);
         snprintf(own, sizeof own, "ca%d.cer", i);
-        host_of(host, sizeof host, dir);
-        snprintf(base, sizeof base, "rsync://%s/repo", host);
-        host_of(host, sizeof host, pdir);
-        snprintf(pbase, sizeof pbase, "rsync://%s/repo", host);
-        host_of(host, sizeof host, gdir);
-        snprintf(gbase, sizeof gbase, "rsync://%s/repo", host);
+        base_of(base, sizeof base, dir);
+        base_of(pbase, sizeof pbase, pdir);
+        base_of(gbase, sizeof gbase, gdir);
         snprintf(sia1, sizeof sia1, "%s/%s/", base, dir);
         snprintf(sia2, sizeof sia2, "%s/%s/m.mft", base, dir);
         snprintf(crl, sizeof crl, "%s/%s/l.crl", base, dir);
@@ -411,9 +413,9 @@ int main(int count, char **words) {
             struct buf x;
             snprintf(jcn, sizeof jcn, "ca%d", j);
             snprintf(gdir, sizeof gdir, "d%d", j);
-            host_of(host, sizeof host, gdir);
-            snprintf(j1, sizeof j1, "rsync://%s/repo/%s/", host, gdir);
-            snprintf(j2, sizeof j2, "rsync://%s/repo/%s/m.mft", host, gdir);
+            base_of(gbase, sizeof gbase, gdir);
+            snprintf(j1, sizeof j1, "%s/%s/", gbase, gdir);
+            snprintf(j2, sizeof j2, "%s/%s/m.mft", gbase, gdir);
             snprintf(file, sizeof file, "x%d.cer", j);
             x = certificate(&keys[j], jcn, &keys[i], cn, 1,
                             cat(2, access("2b06010505073005", j1),

@@ -3,6 +3,7 @@ import base64
 import datetime
 import json
 import os
+import re
 import shutil
 import subprocess
 import time
@@ -132,7 +133,22 @@ def families(name, anchor, counts, rejected, end=FOREVER):
         *(f'rpkivalid_rejected{{ta="{name}",type="{part}"}} {count}' for part, count in parts),
         "# TYPE rpkivalid_first_end_seconds gauge", "# UNIT rpkivalid_first_end_seconds seconds",
         "# HELP rpkivalid_first_end_seconds When the first route origin ends, since 1970.",
-        *([f'rpkivalid_first_end_seconds{{ta="{name}"}} {end}'] if counts[0] else []), "# EOF", ""])
+        *([f'rpkivalid_first_end_seconds{{ta="{name}"}} {end}'] if counts[0] else []), ""])
+
+
+def of_the_run(name, seen, begun):
+    """The metrics without those of the run: the version, when the list was made, by the clock, and how long it took."""
+    families_of, told, rest = seen.partition("# TYPE rpkivalid info\n")
+    run = re.fullmatch(
+        r'# HELP rpkivalid The program\.\nrpkivalid_info\{version="([0-9.]+)"\} 1\n'
+        r"# TYPE rpkivalid_made_seconds gauge\n# UNIT rpkivalid_made_seconds seconds\n"
+        r"# HELP rpkivalid_made_seconds When the list was made, since 1970\.\nrpkivalid_made_seconds (\d+)\n"
+        r"# TYPE rpkivalid_duration_seconds gauge\n# UNIT rpkivalid_duration_seconds seconds\n"
+        r"# HELP rpkivalid_duration_seconds How long the run took\.\nrpkivalid_duration_seconds (\d+)\n# EOF\n", rest)
+    now = int(time.time())
+    is_run = bool(run) and begun <= int(run[2]) <= now and int(run[3]) <= now - begun + 1
+    holds(f"metrics of the run: {name}", told and is_run, rest)
+    return families_of, run[1] if run else None
 
 
 def lone(program, maker, file):
@@ -167,8 +183,11 @@ def metrics(program, maker):
             ("an early end", None, {"LISTUNTIL": "261201000000Z", "LISTOF": "4"}, 0,
              (1, (origins, 0, 0), (0, 0), SOON))):
         folder = maker.changed(change, **variant)
+        begun = int(time.time())
         ended, output, _ = program.run(folder, "--metrics", file)
-        seen = octets_of(file).decode()
+        seen, version = of_the_run(name, octets_of(file).decode(), begun)
+        said = subprocess.run([program.path, "--version"], capture_output=True, check=True).stdout.decode()
+        holds(f"metrics: the version: {name}", said == f"rpkivalid {version}\n", (said, version))
         holds(f"metrics: {name}", ended == status and seen == families("example", *wanted), (ended, seen))
         holds(f"payloads beside metrics: {name}", len(output.split("\n")) == wanted[1][0] + 2, output[:99])
     folder = maker.changed(None)
@@ -177,7 +196,7 @@ def metrics(program, maker):
     words = [program.path, "--tal", locator, "--cache", folder, "--at", AT, "--metrics", file]
     subprocess.run(words, stdout=subprocess.DEVNULL, stderr=subprocess.DEVNULL, check=True)
     wanted = families('a \\"name\\" \\\\', 1, (origins, 0, 0), (0, 0))
-    holds("metrics: a name that is escaped", octets_of(file).decode() == wanted, octets_of(file)[:300])
+    holds("metrics: a name that is escaped", octets_of(file).decode().startswith(wanted), octets_of(file)[:300])
     os.remove(file)
     lone(program, maker, file)
     ended, output, faults = program.run(maker.repository(), "--metrics", os.path.join(maker.room, "none", "it"))

@@ -7,3 +7,8 @@ then-two old a b x y first second = second ∙ ap (λ (w : List ℕ). w ++ b) fi
 pub then-three : (old a b c x y z : List ℕ) → x ≡ old ++ a → y ≡ x ++ b → z ≡ y ++ c → z ≡ old ++ (a ++ b ++ c)
 then-three old a b c x y z first second third =
     then-two old (a ++ b) c y z (then-two old a b x y first second) third
+
+pub then-four : (old a b c d x y z w : List ℕ) → x ≡ old ++ a → y ≡ x ++ b → z ≡ y ++ c → w ≡ z ++ d
+    → w ≡ old ++ (a ++ b ++ c ++ d)
+then-four old a b c d x y z w first second third fourth =
+    then-two old (a ++ b ++ c) d z w (then-three old a b c x y z first second third) fourth

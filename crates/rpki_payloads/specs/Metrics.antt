@@ -2,8 +2,10 @@
 use Rattle.std.specs.Prelude.{◌==◌, ◌||◌, ◌++◌, ℕ, Bool, List, [], ◌∷◌, Option, Some, None, codes, decimal, length}
 use Rattle.std.specs.Prelude.{if◌then◌else◌, nat_lt}
 use Rattle.std.specs.List.{flat_map}
+use Rattle.jiff.specs.Types.{DateTime}
 use Rattle.rpki_payloads.specs.declared.tally.Tally.{Tally}
 use Rattle.rpki_payloads.specs.declared.timed.TimedVrp.{TimedVrp}
+use Rattle.rpki_payloads.specs.Made.{seconds_text}
 use Rattle.rpki_payloads.specs.Payloads.{PayloadParts}
 
 -- an octet of the value of a label: a line feed as `\n`, a quotation mark and a backslash after a backslash
@@ -99,5 +101,36 @@ rejected_family all = rejected_titles ++ flat_map rejected_samples all
 unfoldable pub end_family : List PayloadParts → List ℕ
 end_family all = end_titles ++ flat_map end_samples all
 
-abbrev pub metrics_text : List PayloadParts → List ℕ
-metrics_text all = anchor_family all ++ payload_family all ++ rejected_family all ++ end_family all ++ codes "# EOF\n"
+-- ---- the run: of which version, when the list was made, and how many seconds it took until then
+
+abbrev pub version_titles : List ℕ
+version_titles = codes "# TYPE rpkivalid info\n# HELP rpkivalid The program.\n"
+
+unfoldable pub version_family : (version : List ℕ) → List ℕ
+version_family version = version_titles ++ codes "rpkivalid_info{version=\"" ++ version ++ codes "\"} 1\n"
+
+abbrev pub made_titles : List ℕ
+made_titles =
+    codes "# TYPE rpkivalid_made_seconds gauge\n# UNIT rpkivalid_made_seconds seconds\n"
+    ++ codes "# HELP rpkivalid_made_seconds When the list was made, since 1970.\nrpkivalid_made_seconds "
+
+unfoldable pub made_family : DateTime → List ℕ
+made_family made = made_titles ++ seconds_text made ++ 10 ∷ []
+
+abbrev pub duration_titles : List ℕ
+duration_titles =
+    codes "# TYPE rpkivalid_duration_seconds gauge\n# UNIT rpkivalid_duration_seconds seconds\n"
+    ++ codes "# HELP rpkivalid_duration_seconds How long the run took.\nrpkivalid_duration_seconds "
+
+unfoldable pub duration_family : ℕ → List ℕ
+duration_family seconds = duration_titles ++ decimal seconds ++ 10 ∷ []
+
+unfoldable pub run_families : (version : List ℕ) → (made : DateTime) → (seconds : ℕ) → List ℕ
+run_families version made seconds = version_family version ++ made_family made ++ duration_family seconds
+
+unfoldable pub locator_families : List PayloadParts → List ℕ
+locator_families all = anchor_family all ++ payload_family all ++ rejected_family all ++ end_family all
+
+abbrev pub metrics_text : (version : List ℕ) → (made : DateTime) → (seconds : ℕ) → List PayloadParts → List ℕ
+metrics_text version made seconds all =
+    locator_families all ++ run_families version made seconds ++ codes "# EOF\n"

@@ -35,7 +35,7 @@ fn moment_text(at: Time) -> [u8; 20]
 }
 
 /// The whole seconds of a moment since 1970-01-01T00:00:00Z, in decimal digits.
-fn seconds_text(alloc: Global, at: Time) -> Result<String, AllocError>
+pub(crate) fn seconds_text(alloc: Global, at: Time) -> Result<String, AllocError>
     ensures { IfOk result (λ text. string_bytes text ≡ seconds_text at) }
 {
     let seconds = at.date_time().to_plain().to_second();

@@ -1,15 +1,18 @@
 //! Counts as metrics, in the text format of OpenMetrics 1.0.
 
-ghost use Rattle.std.specs.Prelude.{◌≡◌, ◌++◌, None, OnOk, IfOk};
+ghost use Rattle.std.specs.Prelude.{◌≡◌, ◌++◌, None, OnOk, IfOk, decimal, string_bytes};
 ghost use Rattle.std.specs.List.{flat_map};
 ghost use Rattle.rpki_payloads.specs.Metrics.{anchor_family, anchor_samples, bit, escaped, metrics_text};
 ghost use Rattle.rpki_payloads.specs.Metrics.{payload_family, payload_samples, rejected_family, rejected_samples};
 ghost use Rattle.rpki_payloads.specs.Metrics.{earlier, end_family, end_samples, first_end, kind_samples, sample};
-ghost use Rattle.rpki_payloads.specs.Metrics.{tally_samples};
+ghost use Rattle.rpki_payloads.specs.Metrics.{tally_samples, duration_family, locator_families, made_family};
+ghost use Rattle.rpki_payloads.specs.Metrics.{run_families, version_family};
 
+use crate::made::seconds_text;
 use crate::payloads::Payloads;
 use crate::tally::Tally;
 use crate::timed::TimedVrp;
+use rpki::repository::x509::Time;
 use std::alloc::{AllocError, Global};
 
 /// Adds an octet of the value of a label: a quotation mark, a backslash and a line feed by a backslash.
@@ -291,19 +294,103 @@ fn push_rejected_family(text: &mut Vec<u8>, all: &[Payloads]) -> Result<(), Allo
     Ok(())
 }
 
+/// Adds the family that says which version the program has.
+#[tactic(auto, unfolding(crate::specs::Metrics::version_family))]
+fn push_version_family(text: &mut Vec<u8>, version: &[u8]) -> Result<(), AllocError>
+    ensures { OnOk result (text.new.items ≡ text.old.items ++ version_family version.now) }
+{
+    text.extend_from_slice(b"# TYPE rpkivalid info\n# HELP rpkivalid The program.\n")?;
+    text.extend_from_slice(b"rpkivalid_info{version=\"")?;
+    text.extend_from_slice(version)?;
+    text.extend_from_slice(b"\"} 1\n")?;
+    Ok(())
+}
+
+/// Adds the family that says when the list was made.
+#[tactic(auto, unfolding(crate::specs::Metrics::made_family))]
+fn push_made_family(text: &mut Vec<u8>, made: Time) -> Result<(), AllocError>
+    ensures { OnOk result (text.new.items ≡ text.old.items ++ made_family made) }
+{
+    let seconds = seconds_text(*text.allocator(), made)?;
+    text.extend_from_slice(
+        b"# TYPE rpkivalid_made_seconds gauge\n\
+# UNIT rpkivalid_made_seconds seconds\n\
+# HELP rpkivalid_made_seconds When the list was made, since 1970.\n\
+rpkivalid_made_seconds ",
+    )?;
+    text.extend_from_slice(seconds.as_bytes())?;
+    text.extend_from_slice(b"\n")?;
+    Ok(())
+}
+
+/// The decimal digits of a number.
+fn digits_of(alloc: Global, number: u64) -> Result<String, AllocError>
+    ensures { IfOk result (λ text. string_bytes text ≡ decimal number) }
+{
+    format!(in alloc; "{number}")
+}
+
+/// Adds the family that says how many seconds the run took.
+#[tactic(auto, unfolding(crate::specs::Metrics::duration_family))]
+fn push_duration_family(text: &mut Vec<u8>, seconds: u64) -> Result<(), AllocError>
+    ensures { OnOk result (text.new.items ≡ text.old.items ++ duration_family seconds) }
+{
+    let digits = digits_of(*text.allocator(), seconds)?;
+    text.extend_from_slice(
+        b"# TYPE rpkivalid_duration_seconds gauge\n\
+# UNIT rpkivalid_duration_seconds seconds\n\
+# HELP rpkivalid_duration_seconds How long the run took.\n\
+rpkivalid_duration_seconds ",
+    )?;
+    text.extend_from_slice(digits.as_bytes())?;
+    text.extend_from_slice(b"\n")?;
+    Ok(())
+}
+
+/// Adds the families of the run.
+fn push_run_families(
+    text: &mut Vec<u8>,
+    version: &[u8],
+    made: Time,
+    seconds: u64,
+) -> Result<(), AllocError>
+    ensures { OnOk result (text.new.items ≡ text.old.items ++ run_families version.now made seconds) }
+{
+    push_version_family(text, version)?;
+    push_made_family(text, made)?;
+    push_duration_family(text, seconds)?;
+    Ok(())
+}
+
+/// Adds the families that have a sample for each locator.
+fn push_locator_families(text: &mut Vec<u8>, all: &[Payloads]) -> Result<(), AllocError>
+    ensures { OnOk result (text.new.items ≡ text.old.items ++ locator_families all.now) }
+{
+    push_anchor_family(text, all)?;
+    push_payload_family(text, all)?;
+    push_rejected_family(text, all)?;
+    push_end_family(text, all)?;
+    Ok(())
+}
+
 /// What is counted under each locator: whether it has a trust anchor; how many payloads there are of each kind; and how
 /// many publication points and objects are rejected; and the first second, since 1970-01-01T00:00:00Z, in which a
 /// prefix ends that may be announced, where there is any. What local exceptions add has payloads and their end alone.
+/// Then of which version the program is, when the list was made, and how many seconds that took.
 ///
 /// Returns `AllocError` if allocation fails.
-pub fn metrics_text(alloc: Global, all: &[Payloads]) -> Result<Vec<u8>, AllocError>
-    ensures { IfOk result (λ text. text.items ≡ metrics_text all.now) }
+pub fn metrics_text(
+    alloc: Global,
+    version: &[u8],
+    made: Time,
+    seconds: u64,
+    all: &[Payloads],
+) -> Result<Vec<u8>, AllocError>
+    ensures { IfOk result (λ text. text.items ≡ metrics_text version.now made seconds all.now) }
 {
     let mut text = Vec::new(alloc);
-    push_anchor_family(&mut text, all)?;
-    push_payload_family(&mut text, all)?;
-    push_rejected_family(&mut text, all)?;
-    push_end_family(&mut text, all)?;
+    push_locator_families(&mut text, all)?;
+    push_run_families(&mut text, version, made, seconds)?;
     text.extend_from_slice(b"# EOF\n")?;
     Ok(text)
 }

@@ -1,11 +1,14 @@
 -- Which lemma file answers which question.
 --
--- The rest of arguments, what words ask for: ArgumentLaws, RequestLaws. Paths of objects: PathLaws. Locators in
+-- The rest of arguments, what words ask for: ArgumentLaws, RequestLaws,
+-- ComplaintLaws. The moment: MomentLaws. Paths of objects: PathLaws. Locators in
 -- files: LocatorLaws. What is found under locators: FoundLaws. What is said under them:
 -- ToldLaws, RefusedLaws, ExplainedLaws, ComparedLaws. A run: RunLaws.
 
 mod ArgumentLaws
 mod RequestLaws
+mod ComplaintLaws
+mod MomentLaws
 mod PathLaws
 mod LocatorLaws
 mod FoundLaws

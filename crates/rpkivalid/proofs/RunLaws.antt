@@ -2,7 +2,7 @@
 use Rattle.std.proofs.Common.{◌≡◌, ◌⊎◌, ℕ, List, [], sym, subst, inl, inr}
 use Rattle.std.specs.Io.KnownBytes.{Appends}
 use Rattle.rpki_payloads.specs.Exceptions.{AreExcepted}
-use Rattle.std.specs.Prelude.{Option, Some, None, IfSome}
+use Rattle.std.specs.Prelude.{Option, Some, None}
 use Rattle.jiff.specs.Types.{DateTime}
 use Rattle.rpki.specs.PublicKey.{KeyParts}
 use Rattle.rpki_validation.specs.Basis.{Basis}
@@ -10,23 +10,10 @@ use Rattle.rpki_payloads.specs.Payloads.{PayloadParts}
 use Rattle.rpkivalid.specs.declared.excepted.Local.{Local}
 use Rattle.rpkivalid.specs.Excepted.{AreShown, Excepts, IsLocal}
 use Rattle.rpkivalid.specs.Locators.{Holds}
-use Rattle.rpkivalid.specs.Moment.{IsMomentOf}
 use Rattle.rpkivalid.specs.Request.{Asked}
 use Rattle.rpkivalid.specs.Run.{IsReplyTo, IsRunOf}
 use Rattle.rpkivalid.specs.Run.IsRunOf.{Answered, Denied}
 use Rattle.rpkivalid.specs.Words.{Prints}
-
--- what the clock has
-clock-some : (r : Option DateTime) (clock : Option (Option DateTime)) → IfSome clock (λ at. r ≡ at)
-    → IfSome r (λ t. IfSome clock (λ now. now ≡ Some t))
-clock-some None clock h = tt
-clock-some (Some t) None h = tt
-clock-some (Some t) (Some at) h = sym h
-
-pub clock-moment : (word : Option (List ℕ)) (r : Option DateTime) (clock : Option (Option DateTime)) → word ≡ None
-    → IfSome clock (λ at. r ≡ at) → IfSome r (IsMomentOf clock word)
-clock-moment word r clock e h =
-    subst (λ (w : Option (List ℕ)). IfSome r (IsMomentOf clock w)) (sym e) (clock-some r clock h)
 
 -- what is given is a run
 pub given-run : (basis : DateTime → ℕ → KeyParts → Basis) (holds : Holds) (clock : Option (Option DateTime))

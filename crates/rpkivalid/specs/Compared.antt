@@ -11,7 +11,7 @@ use Rattle.rpkivalid.specs.declared.question.Question.TheVariants.{Alone}
 use Rattle.rpkivalid.specs.Excepted.{AreShown}
 use Rattle.rpkivalid.specs.Explained.{IsTold}
 use Rattle.rpkivalid.specs.Found.{AreFound, IsFoundIn}
-use Rattle.rpkivalid.specs.Locators.{AreLocatorsIn, Holds, NamedParts}
+use Rattle.rpkivalid.specs.Locators.{AreLocatorsIn, Holds, NamedParts, once}
 use Rattle.rpkivalid.specs.Request.{Asked}
 
 -- the file lists these payloads
@@ -24,7 +24,7 @@ AreListedAt holds path vrps =
 pub record AreOurs (basis : KeyParts → Basis) (holds : Holds) (a : Asked) (vrps : List Vrp) (anchored : Bool)
     : Type 0 where
   pub locators : List NamedParts
-  pub there : AreLocatorsIn holds a.locators locators
+  pub there : AreLocatorsIn holds (once a.locators) locators
   pub found : List PayloadParts
   pub each : AreFound (IsFoundIn holds a.cache basis) locators found anchored
   pub shown : List PayloadParts

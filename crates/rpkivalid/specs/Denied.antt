@@ -7,6 +7,9 @@ use Rattle.rpki_locator.specs.declared.error.LocatorError.{LocatorError}
 use Rattle.rpki_locator.specs.declared.error.LocatorError.TheVariants as L
 use Rattle.rpki_payloads.specs.declared.exceptions_text.ExceptionsError.{ExceptionsError}
 use Rattle.rpki_payloads.specs.declared.exceptions_text.ExceptionsError.TheVariants as E
+use Rattle.rpki_payloads.specs.declared.exceptions_text.Member.{Member}
+use Rattle.rpki_payloads.specs.declared.exceptions_text.Member.TheVariants.{Version, Filters, PrefixFilters, KeyFilters}
+use Rattle.rpki_payloads.specs.declared.exceptions_text.Member.TheVariants.{Assertions, PrefixAssertions, KeyAssertions}
 use Rattle.rpki_payloads.specs.declared.payload_list.ListError.{ListError}
 use Rattle.rpki_payloads.specs.declared.payload_list.ListError.TheVariants as R
 use Rattle.rpki_payloads.specs.ExceptionsText.{member_name}
@@ -24,13 +27,31 @@ locator_text (L.OtherText n) = codes "line " ++ (decimal n ++ codes ": not base 
 locator_text (L.OtherKey n e) = codes "line " ++ (decimal n ++ (codes ": not a public key: " ++ error_text e))
 locator_text L.OutOfMemory = []
 
--- with local exceptions
+-- the section of RFC 8416 that says what a member is, and what that is
+abbrev pub member_section : Member → List ℕ
+member_section Version = codes "3.2"
+member_section Filters = codes "3.3"
+member_section PrefixFilters = codes "3.3.1"
+member_section KeyFilters = codes "3.3.2"
+member_section Assertions = codes "3.4"
+member_section PrefixAssertions = codes "3.4.1"
+member_section KeyAssertions = codes "3.4.2"
+
+abbrev pub member_due : Member → List ℕ
+member_due Version = codes "the number 1"
+member_due Filters = codes "an object of prefixFilters and bgpsecFilters"
+member_due Assertions = codes "an object of prefixAssertions and bgpsecAssertions"
+member_due m = codes "an array"
+
+-- with local exceptions: the rule, the member, and which element, counted from 0 on
 abbrev pub exceptions_text : ExceptionsError → List ℕ
-exceptions_text E.Json = codes "not JSON"
+exceptions_text E.Json = codes "3.1: not JSON"
 exceptions_text E.Members =
-    codes "not an object of slurmVersion, validationOutputFilters and locallyAddedAssertions"
-exceptions_text (E.Missing m) = codes "not such a member: " ++ member_name m
-exceptions_text (E.Element m i) = member_name m ++ (codes ": not such an element: number " ++ decimal i)
+    codes "3.2: not an object of slurmVersion, validationOutputFilters and locallyAddedAssertions"
+exceptions_text (E.Missing m) =
+    member_section m ++ (codes ": " ++ (member_name m ++ (codes " is not " ++ member_due m)))
+exceptions_text (E.Element m i) =
+    member_section m ++ (codes ": " ++ (member_name m ++ (codes "[" ++ (decimal i ++ codes "] is no such element"))))
 exceptions_text E.OutOfMemory = []
 
 -- with a list of payloads
@@ -52,21 +73,28 @@ abbrev pub unread_text : List ℕ → List ℕ
 unread_text name = codes "rpkivalid: " ++ (name ++ codes ": cannot be read\n")
 
 abbrev pub denial_text : Denial → (files : List (List ℕ)) → (exceptions compare : Option (List ℕ)) → List ℕ
-denial_text D.NoMoment files exceptions compare = codes "rpkivalid: no such moment\n"
-denial_text D.NoDepth files exceptions compare = codes "rpkivalid: no such depth\n"
-denial_text D.NoLeast files exceptions compare = codes "rpkivalid: --least wants a number below 4294967296\n"
+denial_text D.NoMoment files exceptions compare =
+    codes "rpkivalid: --at takes a moment such as 2026-11-27T12:00:00Z, or now\n"
+denial_text D.NoDepth files exceptions compare =
+    codes "rpkivalid: --depth takes a number below 4294967296\n"
+denial_text D.NoLeast files exceptions compare =
+    codes "rpkivalid: --least takes a number below 4294967296\n"
 denial_text D.NoAnchor files exceptions compare =
     codes "rpkivalid: no locator has a trust anchor: nothing is written\n"
 denial_text D.TooFew files exceptions compare =
     codes "rpkivalid: fewer route origins than --least asks for: nothing is written\n"
-denial_text D.NoUri files exceptions compare = codes "rpkivalid: not an rsync URI\n"
-denial_text D.NoRoute files exceptions compare = codes "rpkivalid: not a prefix and an AS number\n"
+denial_text D.NoUri files exceptions compare =
+    codes "rpkivalid: --explain takes an rsync URI, or a prefix with --as\n"
+denial_text D.NoRoute files exceptions compare =
+    codes "rpkivalid: --as takes an AS number, with --explain and a prefix\n"
 denial_text (D.NoFile i) files exceptions compare = unread_text (name_at files i)
 denial_text (D.NoLocator i e) files exceptions compare =
     codes "rpkivalid: " ++ (name_at files i ++ (codes ": RFC 8630 2.2: " ++ (locator_text e ++ codes "\n")))
+denial_text (D.SameName i) files exceptions compare =
+    codes "rpkivalid: " ++ (name_at files i ++ codes ": another locator has its name\n")
 denial_text D.NoExceptions files exceptions compare = unread_text (name_in exceptions)
 denial_text (D.OtherExceptions e) files exceptions compare =
-    codes "rpkivalid: " ++ (name_in exceptions ++ (codes ": RFC 8416 3: " ++ (exceptions_text e ++ codes "\n")))
+    codes "rpkivalid: " ++ (name_in exceptions ++ (codes ": RFC 8416 " ++ (exceptions_text e ++ codes "\n")))
 denial_text D.NoList files exceptions compare = unread_text (name_in compare)
 denial_text (D.OtherList e) files exceptions compare =
     codes "rpkivalid: " ++ (name_in compare ++ (codes ": " ++ (list_text e ++ codes "\n")))

@@ -12,7 +12,7 @@ use Rattle.rpkivalid.specs.declared.question.Question.TheVariants.{Object, Origi
 use Rattle.rpkivalid.specs.declared.walked.Walk.{Walk}
 use Rattle.rpkivalid.specs.Excepted.{AreShown}
 use Rattle.rpkivalid.specs.Found.{AreFound, IsFoundIn}
-use Rattle.rpkivalid.specs.Locators.{AreLocatorsIn, Holds, NamedParts}
+use Rattle.rpkivalid.specs.Locators.{AreLocatorsIn, Holds, NamedParts, once}
 use Rattle.rpkivalid.specs.Paths.{object_path}
 use Rattle.rpkivalid.specs.Refused.{AreRefusedIn}
 use Rattle.rpkivalid.specs.Request.{Asked}
@@ -55,14 +55,14 @@ AreTold R (l ∷ ls) text all =
 pub record IsTold (basis : KeyParts → Basis) (holds : Holds) (a : Asked) (question : Question) (text : List ℕ)
     (anchored : Bool) : Type 0 where
   pub locators : List NamedParts
-  pub there : AreLocatorsIn holds a.locators locators
+  pub there : AreLocatorsIn holds (once a.locators) locators
   pub told : AreTold (IsToldOf holds a.cache a.strictness basis question) locators text anchored
 
 -- what the payloads under the locators say of the route, with the local exceptions that are asked for (RFC 6811 2)
 pub record IsRouteTold (basis : KeyParts → Basis) (holds : Holds) (a : Asked) (route : Route) (text : List ℕ)
     (anchored : Bool) : Type 0 where
   pub locators : List NamedParts
-  pub there : AreLocatorsIn holds a.locators locators
+  pub there : AreLocatorsIn holds (once a.locators) locators
   pub found : List PayloadParts
   pub each : AreFound (IsFoundIn holds a.cache basis) locators found anchored
   pub shown : List PayloadParts

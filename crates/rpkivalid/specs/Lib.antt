@@ -2,6 +2,7 @@
 pub mod Words
 pub mod Arguments
 pub mod Request
+pub mod Complaint
 pub mod Denied
 pub mod Moment
 pub mod Enough
@@ -21,6 +22,7 @@ pub mod Explained
 pub mod Compared
 pub mod Run
 pub mod RequestView
+pub mod ComplaintView
 pub mod LocatorsView
 pub mod FoundView
 pub mod WalkedView

@@ -1,5 +1,6 @@
 -- The locators that are asked for.
-use Rattle.std.specs.Prelude.{◌≡◌, ℕ, List, [], ◌∷◌, map, Option, Some, IfSome}
+use Rattle.std.specs.Prelude.{◌≡◌, ℕ, Bool, List, [], ◌∷◌, bytes_eq, if◌then◌else◌, map, Option, Some, IfSome}
+use Rattle.std.specs.List.{list_any}
 use Rattle.std.specs.Path.{path_file_stem}
 use Rattle.std.specs.Option.{unwrap_or}
 use Rattle.rpki.specs.PublicKey.{KeyParts}
@@ -35,3 +36,14 @@ AreLocatorsIn holds [] [] = Unit {0}
 AreLocatorsIn holds [] (l ∷ ls) = ⊥
 AreLocatorsIn holds (path ∷ paths) [] = ⊥
 AreLocatorsIn holds (path ∷ paths) (l ∷ ls) = IsLocatorIn holds path l × AreLocatorsIn holds paths ls
+
+-- ---- each file once
+
+-- the file is among these
+abbrev pub is_among : (paths : List (List ℕ)) → List ℕ → Bool
+is_among paths path = list_any (λ one. bytes_eq one path) paths
+
+-- each of these once, where it is last
+abbrev pub once : List (List ℕ) → List (List ℕ)
+once [] = []
+once (path ∷ paths) = if is_among paths path then once paths else path ∷ once paths

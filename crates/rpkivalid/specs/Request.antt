@@ -2,6 +2,7 @@
 use Rattle.std.specs.Prelude.{ℕ, List, [], ◌∷◌, codes, Option, Some, None, Bool, true, false, if◌then◌else◌, bytes_eq}
 use Rattle.std.specs.Option.{unwrap_or, option_and_then, option_map}
 use Rattle.clap.specs.Words.{App, Row, Rule, all_of, fault_of, first_of, matches_of, new_app, new_rule, with_rule}
+use Rattle.clap.specs.Lexer.{usize_max}
 use Rattle.clap.specs.Simple.{on_top}
 use Rattle.clap.specs.Walk.{is_empty}
 use Rattle.clap.specs.declared.builder.action.ArgAction.TheVariants.{Append, SetTrue}
@@ -25,9 +26,13 @@ help_flag = record (new_rule (codes "help")) { short = Some 104; long = Some (co
 abbrev pub valued : List ℕ → Rule
 valued name = record (new_rule name) { long = Some name }
 
--- the option of this name, which takes a value each time that it is given
-abbrev pub repeated : List ℕ → Rule
-repeated name = record (new_rule name) { long = Some name; action = Some Append }
+-- the option of this name, which takes one value or more each time that it is given
+abbrev pub listed : List ℕ → Rule
+listed name = record (new_rule name) {
+  long = Some name;
+  action = Some Append;
+  range = Some (record { start_inclusive = 1; end_inclusive = usize_max });
+}
 
 -- the words don't begin with the program's name; `--help` and `--version` are flags as the others are
 abbrev pub command_alone : App
@@ -37,11 +42,11 @@ command_alone =
 abbrev pub command_app : App
 command_app =
     with_rule (with_rule (with_rule (with_rule (with_rule (with_rule (with_rule (with_rule (with_rule (with_rule
-    (with_rule (with_rule (with_rule (with_rule (with_rule command_alone help_flag) (flag (codes "version")))
-    (flag (codes "strict"))) (valued (codes "cache"))) (valued (codes "at"))) (valued (codes "form")))
-    (valued (codes "output"))) (valued (codes "depth"))) (valued (codes "exceptions"))) (valued (codes "metrics")))
-    (valued (codes "explain"))) (valued (codes "as"))) (valued (codes "compare"))) (valued (codes "least")))
-    (repeated (codes "tal"))
+    (with_rule (with_rule (with_rule (with_rule (with_rule (with_rule (with_rule command_alone help_flag)
+    (flag (codes "version"))) (flag (codes "strict"))) (flag (codes "quiet"))) (valued (codes "cache")))
+    (valued (codes "at"))) (valued (codes "form"))) (valued (codes "output"))) (valued (codes "log")))
+    (valued (codes "depth"))) (valued (codes "exceptions"))) (valued (codes "metrics"))) (valued (codes "explain")))
+    (valued (codes "as"))) (valued (codes "compare"))) (valued (codes "least"))) (listed (codes "tal"))
 
 -- what `clap` matches in the words; None where it finds a fault in them
 abbrev pub matched : List (List ℕ) → Option (List Row)
@@ -53,10 +58,9 @@ matched words = if is_empty (fault_of command_app words) then Some (matches_of c
 abbrev pub is_given : List ℕ → List Row → Bool
 is_given name rows = bytes_eq (unwrap_or (first_of name rows) []) (codes "true")
 
--- the form of this name; without a name it is csv
-abbrev pub form_of : Option (List ℕ) → Option Form
-form_of None = Some Csv
-form_of (Some word) =
+-- the form of this name
+abbrev pub form_named : List ℕ → Option Form
+form_named word =
     if bytes_eq word (codes "csv") then Some Csv
     else if bytes_eq word (codes "json") then Some Json
     else if bytes_eq word (codes "stayrtr") then Some StayRtr
@@ -65,6 +69,11 @@ form_of (Some word) =
     else if bytes_eq word (codes "bird") then Some Bird
     else if bytes_eq word (codes "rpki-client") then Some RpkiClient
     else None
+
+-- the same; without a name it is csv
+abbrev pub form_of : Option (List ℕ) → Option Form
+form_of None = Some Csv
+form_of (Some word) = form_named word
 
 -- the files, of which there is one at least
 abbrev pub some_files : Option (List (List ℕ)) → Option (List (List ℕ))

@@ -30,9 +30,19 @@ AskVersion words = wanted_of (map string_bytes words) ≡ Some version
 abbrev pub wanted_by : ArgMatches → Option Wanted
 wanted_by m = wanted_in (rows_in m)
 
--- P of what it asks for, if that is payloads
-abbrev pub Asks : ArgMatches → (Asked → Type 0) → Type 0
-Asks m P = (a : Asked) → wanted_by m ≡ Some (payloads a) → P a
+-- it asks for the help, for the version, or for nothing
+abbrev pub WantsHelp : ArgMatches → Type 0
+WantsHelp m = wanted_by m ≡ Some help
+
+abbrev pub WantsVersion : ArgMatches → Type 0
+WantsVersion m = wanted_by m ≡ Some version
+
+abbrev pub WantsNothing : ArgMatches → Type 0
+WantsNothing m = wanted_by m ≡ None
+
+-- it asks for payloads, and there is an exit status: P of it and of what is asked
+abbrev pub Asks : {E : Type 0} → ArgMatches → Result ℕ E → (ℕ → Asked → Type 0) → Type 0
+Asks m r P = (a : Asked) → wanted_by m ≡ Some (payloads a) → IfOk r (λ status. P status a)
 
 -- the words ask for payloads, and there is an exit status: P of it and of what is asked
 abbrev pub AskRun : {Z E : Type 0} → List (String Z) → Result ℕ E → (ℕ → Asked → Type 0) → Type 0

@@ -15,20 +15,23 @@ use Rattle.rpkivalid.specs.Enough.{IsLeast, some_anchored}
 use Rattle.rpkivalid.specs.Excepted.{AreShown}
 use Rattle.rpkivalid.specs.Explained.{IsExplanation}
 use Rattle.rpkivalid.specs.Found.{AreFound, IsFoundIn, basis_with}
-use Rattle.rpkivalid.specs.Locators.{AreLocatorsIn, Holds, NamedParts}
+use Rattle.rpkivalid.specs.Locators.{AreLocatorsIn, Holds, NamedParts, once}
 use Rattle.rpkivalid.specs.Moment.{IsDepth, IsMomentOf}
 use Rattle.rpkivalid.specs.Question.{IsQuestion}
 use Rattle.rpkivalid.specs.Request.{Asked}
-use Rattle.rpkivalid.specs.Words.{Prints}
+use Rattle.rpkivalid.specs.Words.{Prints, version_number}
 
 -- the status where all is written: 1 where a locator has no trust anchor, or a file could not be read
 abbrev pub status_of : (anchored read : Bool) → ℕ
 status_of anchored read = if anchored && read then 0 else 1
 
--- the metrics of what is written, where a file of them is asked for
-abbrev pub metrics_for : Option (List ℕ) → List PayloadParts → List ℕ
-metrics_for None shown = []
-metrics_for (Some file) shown = metrics_text shown
+-- the metrics of what is written, where a file of them is asked for: made at the clock's moment, after so many seconds;
+-- of these nothing is known but what the host says
+abbrev pub AreMetrics : Option (Option DateTime) → Option (List ℕ) → List PayloadParts → List ℕ → Type 0
+AreMetrics clock None shown metrics = metrics ≡ []
+AreMetrics clock (Some file) shown metrics =
+    (made : DateTime) × IsMomentOf clock None made × (seconds : ℕ)
+    × (metrics ≡ metrics_text version_number made seconds shown)
 
 -- The text of payloads in the form that is asked for, made at the clock's moment: there are as many route origins as
 -- are asked for.
@@ -51,7 +54,7 @@ pub record IsAnswer (basis : DateTime → ℕ → KeyParts → Basis) (holds : H
   pub depth : ℕ
   pub deep : IsDepth a.depth depth
   pub locators : List NamedParts
-  pub there : AreLocatorsIn holds a.locators locators
+  pub there : AreLocatorsIn holds (once a.locators) locators
   pub found : List PayloadParts
   pub anchored : Bool
   pub each : AreFound (IsFoundIn holds a.cache (basis at depth)) locators found anchored
@@ -59,7 +62,7 @@ pub record IsAnswer (basis : DateTime → ℕ → KeyParts → Basis) (holds : H
   pub excepted : AreShown holds a.exceptions found shown
   pub some : some_anchored found ≡ true
   pub written : IsWritten clock a shown text
-  pub metrics_are : metrics ≡ metrics_for a.metrics shown
+  pub metrics_are : AreMetrics clock a.metrics shown metrics
   pub read : Bool
   pub known : IfSome holds (λ files. read ≡ true)
   pub status_is : status ≡ status_of anchored read

@@ -12,6 +12,10 @@ Prints old new text wanted status =
 abbrev pub PrintsAlone : {A : Type 0} → (A → Option (List ℕ)) → A → A → List ℕ → ℕ → ℕ → Type 0 → Type 0
 PrintsAlone contents old new text wanted status Stays = Prints (contents old) (contents new) text wanted status × Stays
 
+-- the program's version
+abbrev pub version_number : List ℕ
+version_number = codes "0.2.0"
+
 abbrev pub memory_text : List ℕ
 memory_text = codes "rpkivalid: out of memory\n"
 
@@ -21,4 +25,5 @@ usage_text =
     codes "usage: rpkivalid --tal FILE.. --cache FOLDER [--at MOMENT] "
     ++ codes "[--form csv|json|stayrtr|rpki-client|openbgpd|openbgpd-origins|bird] "
     ++ codes "[--output FILE] [--least NUMBER] [--exceptions FILE] [--metrics FILE] "
-    ++ codes "[--depth N] [--strict] [--explain URI|PREFIX [--as NUMBER]] [--compare FILE]\n"
+    ++ codes "[--depth N] [--strict] [--quiet] [--log FILE] "
+    ++ codes "[--explain URI|PREFIX [--as NUMBER]] [--compare FILE]\n"

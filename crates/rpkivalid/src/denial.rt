@@ -1,14 +1,15 @@
 //! Why nothing is written.
 
 ghost use Rattle.std.specs.Prelude.{◌≡◌, IfOk, string_bytes};
-ghost use Rattle.rpkivalid.specs.Denied.{denial_text, exceptions_text, list_text, locator_text, name_at, name_in};
+ghost use Rattle.rpkivalid.specs.Denied.{denial_text, exceptions_text, list_text, locator_text, member_due};
+ghost use Rattle.rpkivalid.specs.Denied.{member_section, name_at, name_in};
 ghost use Rattle.rpkivalid.specs.Denied.{name_of, names_of, unread_text};
 
 use crate::texts::{
     NO_ANCHOR, NO_DEPTH, NO_LEAST, NO_MOMENT, NO_ROUTE, NO_URI, OUT_OF_MEMORY, TOO_FEW,
 };
 use rpki_locator::LocatorError;
-use rpki_payloads::{ExceptionsError, ListError};
+use rpki_payloads::{ExceptionsError, ListError, Member};
 use std::alloc::{AllocError, AllocFailed, Global};
 
 /// Why nothing is written.
@@ -32,6 +33,8 @@ pub enum Denial {
     NoFile(usize),
     /// What is in the file of this number is no locator.
     NoLocator(usize, LocatorError),
+    /// Another locator has the name of that in the file of this number.
+    SameName(usize),
     /// There is no file of local exceptions, or it can't be read.
     NoExceptions,
     /// What is in that file is no file of local exceptions.
@@ -92,24 +95,51 @@ fn file_at<'a>(files: &[&'a str], at: usize) -> &'a str
     }
 }
 
-/// What is wrong with local exceptions.
+/// The section of RFC 8416 that says what the member is.
+fn section_of(member: Member) -> &'static str
+    ensures { result.now ≡ member_section member }
+{
+    match member {
+        Member::Version => "3.2",
+        Member::Filters => "3.3",
+        Member::PrefixFilters => "3.3.1",
+        Member::KeyFilters => "3.3.2",
+        Member::Assertions => "3.4",
+        Member::PrefixAssertions => "3.4.1",
+        Member::KeyAssertions => "3.4.2",
+    }
+}
+
+/// What the member has to be.
+fn due_of(member: Member) -> &'static str
+    ensures { result.now ≡ member_due member }
+{
+    match member {
+        Member::Version => "the number 1",
+        Member::Filters => "an object of prefixFilters and bgpsecFilters",
+        Member::Assertions => "an object of prefixAssertions and bgpsecAssertions",
+        _ => "an array",
+    }
+}
+
+/// What is wrong with local exceptions: the rule, the member, and which element, counted from 0 on.
 fn deviation_of(alloc: Global, e: ExceptionsError) -> Result<String, AllocError>
     ensures { IfOk result (λ text. string_bytes text ≡ exceptions_text e) }
 {
     match e {
-        ExceptionsError::Json => String::from_str(alloc, "not JSON"),
+        ExceptionsError::Json => String::from_str(alloc, "3.1: not JSON"),
         ExceptionsError::Members => String::from_str(
             alloc,
-            "not an object of slurmVersion, validationOutputFilters and locallyAddedAssertions",
+            "3.2: not an object of slurmVersion, validationOutputFilters and locallyAddedAssertions",
         ),
-        ExceptionsError::Missing(member) => format!(in alloc;
-            "not such a member: {}",
-            member.name()
-        ),
-        ExceptionsError::Element(member, at) => format!(in alloc;
-            "{}: not such an element: number {at}",
-            member.name()
-        ),
+        ExceptionsError::Missing(member) => {
+            let (section, name, due) = (section_of(member), member.name(), due_of(member));
+            format!(in alloc; "{section}: {name} is not {due}")
+        }
+        ExceptionsError::Element(member, at) => {
+            let (section, name) = (section_of(member), member.name());
+            format!(in alloc; "{section}: {name}[{at}] is no such element")
+        }
         ExceptionsError::OutOfMemory => Err(AllocError),
     }
 }
@@ -175,11 +205,16 @@ impl Denial {
                 let text = format!(in alloc; "rpkivalid: {file}: RFC 8630 2.2: {fault}\n")?;
                 Ok(text.into_bytes())
             }
+            Denial::SameName(at) => {
+                let file = file_at(files, at);
+                let text = format!(in alloc; "rpkivalid: {file}: another locator has its name\n")?;
+                Ok(text.into_bytes())
+            }
             Denial::NoExceptions => unread(alloc, name_in(exceptions)),
             Denial::OtherExceptions(e) => {
                 let file = name_in(exceptions);
                 let fault = deviation_of(alloc, e)?;
-                let text = format!(in alloc; "rpkivalid: {file}: RFC 8416 3: {fault}\n")?;
+                let text = format!(in alloc; "rpkivalid: {file}: RFC 8416 {fault}\n")?;
                 Ok(text.into_bytes())
             }
             Denial::NoList => unread(alloc, name_in(compare)),

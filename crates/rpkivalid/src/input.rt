@@ -93,6 +93,16 @@ impl<'a> Copied<'a> {
         }
     }
 
+    /// The name of the first folder in it on the way to the path of a file, and the rest of the path.
+    pub fn parts_of<'p>(&self, path: &'p str) -> Option<(&'p str, &'p str)> {
+        if !self.has(path) {
+            return None;
+        }
+        path.strip_prefix(self.name)?
+            .strip_prefix('/')?
+            .split_once('/')
+    }
+
     /// Whether what a path of a file in it leads to, without links, is in it too.
     fn keeps(&self, real: &str) -> bool {
         match &self.real {

@@ -4,6 +4,7 @@
 mod arguments;
 mod cache;
 mod compared;
+mod complaint;
 mod counted;
 mod denial;
 mod enough;
@@ -14,6 +15,7 @@ mod gathered;
 mod host;
 mod input;
 mod locators;
+mod log;
 mod moment;
 mod output;
 mod paths;

@@ -1,9 +1,12 @@
-//! Where a run writes: standard output, or a file; and a file of metrics. Each is written whole or not at all.
+//! Where a run writes: standard output, or a file; and a file of metrics. Each is written whole or not at all. And what
+//! it tells.
 
 use crate::host::Host;
+use crate::log::Log;
 use crate::put::{Unwritten, are_one, is_writable, put, put_both};
 use crate::request::{Request, is_given, matched};
 use crate::run::run;
+use crate::sources::Sources;
 use rpki_digests::RsaProvider;
 use std::alloc::{AllocError, Global};
 use std::io::Write;
@@ -17,6 +20,10 @@ struct Files<'a> {
     output: Option<&'a str>,
     /// The metrics.
     metrics: Option<&'a str>,
+    /// Instead of standard error.
+    log: Option<&'a str>,
+    /// Whether standard error is told less.
+    is_quiet: bool,
 }
 
 /// The names that the words have. An explanation and a comparison have no metrics; `-` is standard output.
@@ -25,6 +32,8 @@ fn files_of<'a>(alloc: Global, words: &'a [String]) -> Result<Files<'a>, AllocEr
         cache: None,
         output: None,
         metrics: None,
+        log: None,
+        is_quiet: false,
     };
     let Some(matches) = matched(alloc, words)? else {
         return Ok(none);
@@ -40,6 +49,8 @@ fn files_of<'a>(alloc: Global, words: &'a [String]) -> Result<Files<'a>, AllocEr
         cache: Some(request.cache),
         output: request.output.filter(|name| *name != "-"),
         metrics: request.metrics.filter(|_| is_list),
+        log: matches.get_str("log"),
+        is_quiet: is_given(&matches, "quiet"),
     })
 }
 
@@ -58,9 +69,15 @@ fn fault_of<'a>(rt: &HostRuntime, files: &Files<'a>) -> Option<(&'a str, &'stati
             }
         }
     }
-    match (files.output, files.metrics) {
-        (Some(output), Some(metrics)) if are_one(rt, output, metrics) => {
+    match (files.output, files.metrics, files.log) {
+        (Some(output), Some(metrics), _) if are_one(rt, output, metrics) => {
             Some((metrics, "is the output's file too"))
+        }
+        (Some(output), _, Some(log)) if are_one(rt, output, log) => {
+            Some((log, "is the output's file too"))
+        }
+        (_, Some(metrics), Some(log)) if are_one(rt, metrics, log) => {
+            Some((log, "is the metrics' file too"))
         }
         _ => None,
     }
@@ -121,10 +138,13 @@ pub fn run_to(rt: &HostRuntime, words: &[String]) -> Result<u8, AllocError> {
     if let Some((name, why)) = fault_of(rt, &files) {
         return Ok(denied(rt, name, why));
     }
+    let Some(mut log) = Log::new(rt, files.log, files.is_quiet) else {
+        return Ok(denied(rt, files.log.unwrap_or(""), "cannot be written"));
+    };
     let host = Host::new(rt, files.cache)?;
     let mut text = Vec::new(alloc);
     let mut metrics = Vec::new(alloc);
-    let err = &mut rt.stderr();
+    let mut report = Vec::new(alloc);
     let status = run(
         alloc,
         words,
@@ -132,8 +152,13 @@ pub fn run_to(rt: &HostRuntime, words: &[String]) -> Result<u8, AllocError> {
         &RsaProvider,
         &mut text,
         &mut metrics,
-        err,
+        &mut report,
     )?;
+    let mut lines = host.said(alloc)?;
+    lines.extend_from_slice(report.as_slice())?;
+    if let Some(name) = log.tell(rt, host.now(), lines.as_slice(), status)? {
+        return Ok(denied(rt, name, "cannot be written"));
+    }
     if status > 1 {
         return Ok(status);
     }

@@ -3,7 +3,7 @@
 ghost use Rattle.std.specs.Prelude.{◌≡◌, ◌∷◌, ◌++◌, IfOk, string_bytes};
 ghost use Rattle.rpki_text.specs.RsyncText.{uri_of};
 ghost use Rattle.rpki_text.specs.Views.{rsync_text};
-ghost use Rattle.rpkivalid.specs.Paths.{joined, object_path, file_in, fetched_path, anchor_path};
+ghost use Rattle.rpkivalid.specs.Paths.{joined, host_folder, object_path, file_in, fetched_path};
 
 use rpki::uri::RsyncView;
 use std::alloc::{AllocError, Global};
@@ -34,6 +34,13 @@ fn joined(
     pair(alloc, folder, later.as_str())
 }
 
+/// The name of the folder of a host. That of `ta` is `ta.`, its absolute name: `ta` has what was fetched for locators.
+fn host_folder(host: &str) -> &str
+    ensures { result.now ≡ host_folder host.now }
+{
+    if host == "ta" { "ta." } else { host }
+}
+
 /// The path of the object at the URI, in the folder.
 pub fn object_path(alloc: Global, folder: &str, uri: &RsyncView<'_>) -> Result<String, AllocError>
     ensures { IfOk result (λ path. string_bytes path ≡ object_path folder.now (uri_of (rsync_text uri.now))) }
@@ -43,7 +50,7 @@ pub fn object_path(alloc: Global, folder: &str, uri: &RsyncView<'_>) -> Result<S
     joined(
         alloc,
         folder,
-        authority.as_str(),
+        host_folder(authority.as_str()),
         uri.module_name(),
         uri.path(),
     )
@@ -60,24 +67,14 @@ fn file_in(path: &str) -> &str
 }
 
 /// The path of what was fetched from this URI for the locator of this name, in the folder.
-fn fetched_path(alloc: Global, folder: &str, name: &str, text: &[u8]) -> Result<String, AllocError>
-    ensures { IfOk result (λ path. string_bytes path ≡ fetched_path folder.now name.now text.now) }
-{
-    let text = String::from_utf8_lossy(alloc, text)?;
-    joined(alloc, folder, "ta", name, file_in(text.as_str()))
-}
-
-/// The path of the trust anchor that was fetched from this URI for the locator of this name, in the folder.
-pub fn anchor_path(
+pub fn fetched_path(
     alloc: Global,
     folder: &str,
     name: &str,
     text: &[u8],
 ) -> Result<String, AllocError>
-    ensures { IfOk result (λ path. string_bytes path ≡ anchor_path folder.now name.now text.now) }
+    ensures { IfOk result (λ path. string_bytes path ≡ fetched_path folder.now name.now text.now) }
 {
-    match RsyncView::from_slice(text) {
-        Ok(uri) => object_path(alloc, folder, &uri),
-        Err(_) => fetched_path(alloc, folder, name, text),
-    }
+    let text = String::from_utf8_lossy(alloc, text)?;
+    joined(alloc, folder, "ta", name, file_in(text.as_str()))
 }

@@ -1,9 +1,9 @@
 //! What the words ask for.
 
-ghost use Rattle.std.specs.Prelude.{◌≡◌, map, codes, IfOk, false, option_map, string_bytes};
+ghost use Rattle.std.specs.Prelude.{◌≡◌, bytes_eq, map, codes, IfOk, false, option_map, string_bytes};
 ghost use Rattle.clap.specs.Words.{all_of, app_of, first_of, rule_of};
-ghost use Rattle.rpkivalid.specs.Request.{flag, help_flag, valued, repeated, command_app, matched, is_given};
-ghost use Rattle.rpkivalid.specs.Request.{form_of, some_files, strictness_of, request_of};
+ghost use Rattle.rpkivalid.specs.Request.{flag, help_flag, valued, listed, command_app, matched, is_given};
+ghost use Rattle.rpkivalid.specs.Request.{form_named, form_of, some_files, strictness_of, request_of};
 ghost use Rattle.rpkivalid.specs.RequestView.{asked_of, rows_in};
 
 use clap::error::ErrorKind;
@@ -70,12 +70,15 @@ fn valued<'a>(alloc: Global, name: &'a str) -> Arg<'a>
     Arg::new(alloc, name).long(name)
 }
 
-/// The option of this name, which takes a value each time that it is given.
-fn repeated<'a>(alloc: Global, name: &'a str) -> Arg<'a>
-    ensures rule { rule_of result ≡ repeated name.entry.now }
+/// The option of this name, which takes one value or more each time that it is given.
+fn listed<'a>(alloc: Global, name: &'a str) -> Arg<'a>
+    ensures rule { rule_of result ≡ listed name.entry.now }
     ensures local { result.global ≡ false }
 {
-    Arg::new(alloc, name).long(name).action(ArgAction::Append)
+    Arg::new(alloc, name)
+        .long(name)
+        .action(ArgAction::Append)
+        .num_args(1..)
 }
 
 /// What the program takes.
@@ -88,10 +91,12 @@ fn command<'a>(alloc: Global) -> Result<Command<'a>, AllocError>
         .arg(help_flag(alloc))?
         .arg(flag(alloc, "version"))?
         .arg(flag(alloc, "strict"))?
+        .arg(flag(alloc, "quiet"))?
         .arg(valued(alloc, "cache"))?
         .arg(valued(alloc, "at"))?
         .arg(valued(alloc, "form"))?
         .arg(valued(alloc, "output"))?
+        .arg(valued(alloc, "log"))?
         .arg(valued(alloc, "depth"))?
         .arg(valued(alloc, "exceptions"))?
         .arg(valued(alloc, "metrics"))?
@@ -99,7 +104,7 @@ fn command<'a>(alloc: Global) -> Result<Command<'a>, AllocError>
         .arg(valued(alloc, "as"))?
         .arg(valued(alloc, "compare"))?
         .arg(valued(alloc, "least"))?
-        .arg(repeated(alloc, "tal"))
+        .arg(listed(alloc, "tal"))
 }
 
 /// What is matched in the words. None if they are not as the program takes them.
@@ -128,36 +133,48 @@ pub fn is_given(matches: &ArgMatches<'_>, name: &str) -> bool
     }
 }
 
+/// Whether the two texts are the same.
+fn is(word: &[u8], text: &[u8]) -> bool
+    ensures { result ≡ bytes_eq word.now text.now }
+{
+    word == text
+}
+
+/// The form of this name. None if there is no such form.
+pub fn form_named(name: &[u8]) -> Option<Form>
+    ensures { result ≡ form_named name.now }
+{
+    if is(name, b"csv") {
+        return Some(Form::Csv);
+    }
+    if is(name, b"json") {
+        return Some(Form::Json);
+    }
+    if is(name, b"stayrtr") {
+        return Some(Form::StayRtr);
+    }
+    if is(name, b"openbgpd") {
+        return Some(Form::OpenBgpd);
+    }
+    if is(name, b"openbgpd-origins") {
+        return Some(Form::OpenBgpdOrigins);
+    }
+    if is(name, b"bird") {
+        return Some(Form::Bird);
+    }
+    if is(name, b"rpki-client") {
+        return Some(Form::RpkiClient);
+    }
+    None
+}
+
 /// The form of this name; without a name it is csv. None if there is no such form.
 fn form_of(name: Option<&str>) -> Option<Form>
     ensures { result ≡ form_of (option_map (λ name. name.now) name.entry) }
 {
     match name {
         None => Some(Form::Csv),
-        Some(name) => {
-            if name == "csv" {
-                return Some(Form::Csv);
-            }
-            if name == "json" {
-                return Some(Form::Json);
-            }
-            if name == "stayrtr" {
-                return Some(Form::StayRtr);
-            }
-            if name == "openbgpd" {
-                return Some(Form::OpenBgpd);
-            }
-            if name == "openbgpd-origins" {
-                return Some(Form::OpenBgpdOrigins);
-            }
-            if name == "bird" {
-                return Some(Form::Bird);
-            }
-            if name == "rpki-client" {
-                return Some(Form::RpkiClient);
-            }
-            None
-        }
+        Some(name) => form_named(name.as_bytes()),
     }
 }
 

@@ -1,30 +1,32 @@
 //! A run: words and files in, payloads out.
 
-ghost use Rattle.std.specs.Prelude.{◌≡◌, Some, None, IfOk, IfErr, IfSome, IfNone};
+ghost use Rattle.std.specs.Prelude.{◌≡◌, [], Some, None, IfOk, IfErr, IfSome, IfNone};
 ghost use Rattle.std.specs.Option.{option_map};
 ghost use Rattle.rpkivalid.specs.Arguments.{wordless_text};
+ghost use Rattle.rpkivalid.specs.ComplaintView.{complaint_of};
 ghost use Rattle.rpkivalid.specs.Denied.{IsDenied, text_of};
 ghost use Rattle.rpkivalid.specs.Moment.{IsDepth, IsMomentOf, IsNoDepth};
-ghost use Rattle.rpkivalid.specs.Request.{help, version};
-ghost use Rattle.rpkivalid.specs.RequestView.{asked_of, wanted_by, Asks, AskHelp, AskVersion, AskRun, AskNothing};
-ghost use Rattle.rpkivalid.specs.Run.{metrics_for, status_of, IsWritten, Runs};
+ghost use Rattle.rpkivalid.specs.RequestView.{asked_of, Asks, AskHelp, AskVersion, AskRun, AskNothing};
+ghost use Rattle.rpkivalid.specs.RequestView.{WantsHelp, WantsNothing, WantsVersion};
+ghost use Rattle.rpkivalid.specs.Run.{status_of, AreMetrics, IsWritten, Runs};
 ghost use Rattle.rpkivalid.specs.RunView.{AnswersTo, ComparesTo, Gives, RepliesTo, RespondsTo};
-ghost use Rattle.rpkivalid.specs.Words.{Prints, PrintsAlone, usage_text};
+ghost use Rattle.rpkivalid.specs.Words.{Prints, PrintsAlone};
 
 use crate::arguments::Wordless;
 use crate::compared::{Compared, compare};
+use crate::complaint::complaint;
 use crate::denial::Denial;
 use crate::enough::{least_of, some_anchored};
 use crate::excepted::{exceptions_in, shown_of};
 use crate::explained::{Explained, explain};
 use crate::found::{Found, both, found_under_all};
 use crate::locators::locators_in;
-use crate::moment::named_moment;
+use crate::moment::moment_at;
 use crate::question::question_of;
 use crate::report::push_counts;
 use crate::request::{Request, is_given, matched};
 use crate::sources::Sources;
-use crate::texts::{HELP, OUT_OF_MEMORY, USAGE, VERSION};
+use crate::texts::{HELP, NUMBER, OUT_OF_MEMORY, VERSION};
 use clap::ArgMatches;
 use rpki::der::write_whole;
 use rpki::repository::x509::Time;
@@ -32,16 +34,6 @@ use rpki_payloads::{Payloads, metrics_text, vrp_count};
 use rpki_rsa::PreparingProvider;
 use std::alloc::{AllocError, Global};
 use std::io::Write;
-
-/// The moment that is asked for; without a word the clock's. None if there is none.
-fn moment_at<S: Sources>(host: &S, word: Option<&str>) -> Option<Time>
-    ensures { IfSome result (IsMomentOf (S.clock host.now) (option_map (λ word. word.now) word.entry)) }
-{
-    match word {
-        Some(word) => named_moment(word),
-        None => host.now(),
-    }
-}
 
 /// How many authorities there are at most below a trust anchor; without a word 32. None if the word is no number below
 /// 2^32.
@@ -76,12 +68,29 @@ pub struct Answer {
     pub status: u8,
 }
 
+/// The metrics of what is written, made at the clock's moment.
+fn metrics_at<S: Sources>(alloc: Global, host: &S, shown: &[Payloads]) -> Result<Vec<u8>, Denial>
+    ensures { IfOk result (λ text. AreMetrics (S.clock host.now) (Some []) shown.now text.items) }
+{
+    let Some(now) = moment_at(host, None) else {
+        return Err(Denial::NoMoment);
+    };
+    let text = metrics_text(alloc, NUMBER, now, host.seconds(), shown)?;
+    Ok(text)
+}
+
 /// The metrics of what is written, where a file of them is asked for.
-fn metrics_of(alloc: Global, file: Option<&str>, shown: &[Payloads]) -> Result<Vec<u8>, AllocError>
-    ensures { IfOk result (λ text. text.items ≡ metrics_for (option_map (λ name. name.now) file.entry) shown.now) }
+fn metrics_of<S: Sources>(
+    alloc: Global,
+    host: &S,
+    file: Option<&str>,
+    shown: &[Payloads],
+) -> Result<Vec<u8>, Denial>
+    ensures { IfOk result (λ text. AreMetrics (S.clock host.now) (option_map (λ name. name.now) file.entry) shown.now
+        text.items) }
 {
     match file {
-        Some(_) => metrics_text(alloc, shown),
+        Some(_) => metrics_at(alloc, host, shown),
         None => Ok(Vec::new(alloc)),
     }
 }
@@ -147,7 +156,7 @@ fn answer_at<S: Sources, P: PreparingProvider>(
     }
     let shown = shown_of(alloc, local, payloads)?;
     let text = written(alloc, request, host, shown.as_slice())?;
-    let metrics = metrics_of(alloc, request.metrics, shown.as_slice())?;
+    let metrics = metrics_of(alloc, host, request.metrics, shown.as_slice())?;
     push_counts(report, shown.as_slice())?;
     let status = status_of(have_anchors, host.is_read());
     Ok(Answer {
@@ -273,6 +282,19 @@ fn print<W: Write>(text: &[u8], out: &mut W, status: u8) -> u8
     }
 }
 
+/// Writes to the faults what is wrong with words that ask for nothing, and how the program is used, and returns the
+/// exit status 2.
+///
+/// Returns `AllocError` if allocation fails; then nothing is written.
+fn complain<F: Write>(alloc: Global, words: &[String], err: &mut F) -> Result<u8, AllocError>
+    ensures said { IfOk result (λ n. Prints (F.contents err.old) (F.contents err.new)
+        (complaint_of words.now) 2 n) }
+    ensures kept { IfErr result (λ _. err.new ≡ err.old) }
+{
+    let text = complaint(alloc, words)?;
+    Ok(print(text.as_slice(), err, 2))
+}
+
 /// Writes to the faults why there are no words, and returns the exit status 2.
 pub fn say<F: Write>(wordless: Wordless, err: &mut F) -> u8
     ensures { Prints (F.contents err.old) (F.contents err.new) (wordless_text wordless) 2 result }
@@ -343,34 +365,37 @@ fn validate_all<S: Sources, P: PreparingProvider, W: Write, M: Write, F: Write>(
     }
 }
 
-/// Does what was asked for by these words, and returns the exit status.
+/// Does what was asked for by these words, in which this was matched, and returns the exit status.
 fn respond<S: Sources, P: PreparingProvider, W: Write, M: Write, F: Write>(
     alloc: Global,
+    words: &[String],
     matches: &ArgMatches<'_>,
     host: &S,
     crypto: &P,
     out: &mut W,
     sink: &mut M,
     err: &mut F,
-) -> u8
-    ensures help { wanted_by matches.now ≡ Some help → PrintsAlone W.contents out.old out.new
-        HELP.now 0 result ((sink.new ≡ sink.old) × (err.new ≡ err.old)) }
-    ensures version { wanted_by matches.now ≡ Some version → PrintsAlone W.contents out.old out.new
-        VERSION.now 0 result ((sink.new ≡ sink.old) × (err.new ≡ err.old)) }
-    ensures run { Asks matches.now (Runs P.rsa_of P.ecdsa_of P.sha1_of P.sha256_of crypto.now S.holds S.clock
-        host.now W.contents out.old out.new M.contents sink.old sink.new result) }
-    ensures usage { wanted_by matches.now ≡ None → PrintsAlone F.contents err.old err.new usage_text 2
-        result ((out.new ≡ out.old) × (sink.new ≡ sink.old)) }
+) -> Result<u8, AllocError>
+    ensures help { WantsHelp matches.now → IfOk result (λ n. PrintsAlone W.contents out.old out.new
+        HELP.now 0 n ((sink.new ≡ sink.old) × (err.new ≡ err.old))) }
+    ensures version { WantsVersion matches.now → IfOk result (λ n. PrintsAlone W.contents out.old out.new
+        VERSION.now 0 n ((sink.new ≡ sink.old) × (err.new ≡ err.old))) }
+    ensures run { Asks matches.now result (Runs P.rsa_of P.ecdsa_of P.sha1_of P.sha256_of crypto.now S.holds S.clock
+        host.now W.contents out.old out.new M.contents sink.old sink.new) }
+    ensures usage { WantsNothing matches.now → IfOk result (λ n. PrintsAlone F.contents err.old err.new
+        (complaint_of words.now) 2 n ((out.new ≡ out.old) × (sink.new ≡ sink.old))) }
+    ensures kept { IfErr result (λ _. (out.new ≡ out.old) × (sink.new ≡ sink.old)
+        × (err.new ≡ err.old)) }
 {
     if is_given(matches, "help") {
-        return print(HELP, out, 0);
+        return Ok(print(HELP, out, 0));
     }
     if is_given(matches, "version") {
-        return print(VERSION, out, 0);
+        return Ok(print(VERSION, out, 0));
     }
     match Request::of(matches) {
-        Some(request) => validate_all(alloc, &request, host, crypto, out, sink, err),
-        None => print(USAGE, err, 2),
+        Some(request) => Ok(validate_all(alloc, &request, host, crypto, out, sink, err)),
+        None => complain(alloc, words, err),
     }
 }
 
@@ -382,13 +407,13 @@ fn respond<S: Sources, P: PreparingProvider, W: Write, M: Write, F: Write>(
 /// order, in the form that is asked for; all of them or, where the output fails, a beginning. Before that their metrics
 /// go to the sink, where they are asked for. Where an object or a route is to be explained, or a file to be compared,
 /// it is that, in their place, without metrics. To the faults goes a line for each object that is rejected, or why
-/// there are no payloads. Of other words it is how the program is used.
+/// there are no payloads. Of other words it is what is wrong with them, and how the program is used.
 ///
 /// The status is 0 if all is written; 1 if all is, but a locator has no trust anchor, a file that is there could not be
 /// read, or a file that is compared lists other payloads; 2 for other words, without a moment or a locator, if
 /// allocation fails, if the output, the metrics or the faults fail, and where the file of local exceptions, or that to
-/// be compared, can't be read, or is none. Returns `AllocError` if there is no memory to read the words; then nothing
-/// is written.
+/// be compared, can't be read, or is none. Returns `AllocError` if there is no memory to read the words, or to say what
+/// is wrong with them; then nothing is written.
 pub fn run<S: Sources, P: PreparingProvider, W: Write, M: Write, F: Write>(
     alloc: Global,
     words: &[String],
@@ -405,13 +430,13 @@ pub fn run<S: Sources, P: PreparingProvider, W: Write, M: Write, F: Write>(
     ensures run { AskRun words.now result (Runs P.rsa_of P.ecdsa_of P.sha1_of P.sha256_of crypto.now S.holds
         S.clock host.now W.contents out.old out.new M.contents sink.old sink.new) }
     ensures usage { AskNothing words.now → IfOk result (λ n. PrintsAlone F.contents err.old err.new
-        usage_text 2 n ((out.new ≡ out.old) × (sink.new ≡ sink.old))) }
+        (complaint_of words.now) 2 n ((out.new ≡ out.old) × (sink.new ≡ sink.old))) }
     ensures kept { IfErr result (λ _. (out.new ≡ out.old) × (sink.new ≡ sink.old)
         × (err.new ≡ err.old)) }
 {
     match matched(alloc, words) {
-        Ok(Some(matches)) => Ok(respond(alloc, &matches, host, crypto, out, sink, err)),
-        Ok(None) => Ok(print(USAGE, err, 2)),
+        Ok(Some(matches)) => respond(alloc, words, &matches, host, crypto, out, sink, err),
+        Ok(None) => complain(alloc, words, err),
         Err(e) => Err(e),
     }
 }

@@ -31,6 +31,9 @@ pub trait Sources {
     fn is_read(&self) -> bool
         ensures { IfSome (holds self.now) (λ _. result ≡ true) };
 
+    /// How many seconds it took until now, whole ones.
+    fn seconds(&self) -> u64;
+
     /// The moment that the clock has. None where it has none of the years 0 to 9999.
     fn now(&self) -> Option<Time>
         ensures { IfSome (clock self.now) (λ at. result ≡ at) };

@@ -40,6 +40,10 @@ impl<S: Sources> Sources for Without<'_, S> {
         self.sources.is_read()
     }
 
+    fn seconds(&self) -> u64 {
+        self.sources.seconds()
+    }
+
     fn now(&self) -> Option<Time> {
         self.sources.now()
     }

@@ -1,24 +1,27 @@
-use Rattle.std.proofs.Common.{◌<◌, ◌≤◌, ◌∷◌, ℕ, List, [], length, get_or, arith, Bor, map, ◌∙◌, ap}
-use Rattle.std.proofs.lemmas.List.{get_or_default, map-append}
+use Rattle.std.proofs.Common.{◌≡◌, ◌<◌, ◌≤◌, ℕ, List, [], Bor, length, arith, map, ap, drop}
+use Rattle.std.proofs.lemmas.List.{drop_all}
 use Rattle.rpkivalid.specs.LocatorsView.{named_of}
-use Rattle.rpkivalid.proofs.LocatorLaws.{one-located, all-located}
+use Rattle.rpkivalid.proofs.LocatorLaws.{located-end, located-first}
 use Rattle.rpkivalid.proofs.locators.locators_in.Goals as goal
 
 -- what is read past the last file
 abbrev slot : Bor (List ℕ)
 slot = record { ref_ptr = (0, 0); now = [] }
 
-pub files-preserved : goal.files-preserved
-files-preserved g c =
+pub loop-at-preserved : goal.loop-at-preserved
+loop-at-preserved g c =
     let files = c.args.files.now in
-    let file = get_or files c.files.file-index slot in
-    let lt : c.files.file-index < length files = omega arith in
-    rw (ap (map named_of) c.in_ok-push.ensures.items ∙ map-append named_of c.files.all.items (c.in_ok-named.named ∷ []))
-    (one-located (λ file. file.now) _ files c.files.file-index file (map named_of c.files.all.items)
-    (named_of c.in_ok-named.named) lt (get_or_default files c.files.file-index slot file lt) c.files.invariant
-    c.in_ok-named.ensures)
+    let i = c.loop-at.at in
+    let lt : i < length files = omega arith in
+    located-first (g.S.Sources.holds c.args.sources.now) (map (λ file. file.now) files) (λ file. file.now) files i slot
+    c.loop-at.all.items _ lt (rw c.split_at.ensures.back at c.in_ok-add_first.ensures) c.loop-at.invariant
 
 pub returns : goal.returns
 returns g c =
-    let le : length c.args.files.now ≤ c.files.file-index = omega arith in
-    all-located (λ file. file.now) _ c.args.files.now c.files.file-index _ le c.files.invariant
+    let files = c.args.files.now in
+    let le : length files ≤ c.loop-at.at = omega arith in
+    let none : map (λ file. file.now) (drop c.loop-at.at files) ≡ [] =
+    ap (map (λ file. file.now)) (drop_all c.loop-at.at files le) in
+    located-end (g.S.Sources.holds c.args.sources.now) (map (λ file. file.now) files)
+    (map (λ file. file.now) (drop c.loop-at.at files)) (map named_of c.loop-at.all.items) (ap length none)
+    c.loop-at.invariant
