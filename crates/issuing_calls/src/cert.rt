@@ -1,0 +1,164 @@
+//! Certificates.
+
+use crate::signing::{Refusal, signed, to_sign};
+use crate::words::{
+    Text, bytes_of, digits, held_of, https_of, key_of, name_of, period_of, rsync_of, serial_of,
+    wanted,
+};
+use rpki_cert::CertRule;
+use rpki_digests::Digests;
+use rpki_issue::{CertExtensions, CertKind, Issuance, Repository, TbsCertBuilder};
+use std::alloc::Global;
+
+/// The name of a rule.
+fn rule_name(rule: CertRule) -> &'static str {
+    match rule {
+        CertRule::SerialNumber => "Rule SerialNumber",
+        CertRule::CriticalExtensions => "Rule CriticalExtensions",
+        CertRule::Issuer => "Rule Issuer",
+        CertRule::IssuerSize => "Rule IssuerSize",
+        CertRule::Validity => "Rule Validity",
+        CertRule::Subject => "Rule Subject",
+        CertRule::RouterSubject => "Rule RouterSubject",
+        CertRule::SubjectSize => "Rule SubjectSize",
+        CertRule::RouterSerialNumber => "Rule RouterSerialNumber",
+        CertRule::RsaKey => "Rule RsaKey",
+        CertRule::RouterKey => "Rule RouterKey",
+        CertRule::BasicConstraints => "Rule BasicConstraints",
+        CertRule::NoBasicConstraints => "Rule NoBasicConstraints",
+        CertRule::SubjectKeyIdentifier => "Rule SubjectKeyIdentifier",
+        CertRule::AuthorityKeyIdentifier => "Rule AuthorityKeyIdentifier",
+        CertRule::OwnAuthority => "Rule OwnAuthority",
+        CertRule::SelfIssued => "Rule SelfIssued",
+        CertRule::AuthorityUsage => "Rule AuthorityUsage",
+        CertRule::EndUsage => "Rule EndUsage",
+        CertRule::NoExtendedKeyUsage => "Rule NoExtendedKeyUsage",
+        CertRule::RouterPurpose => "Rule RouterPurpose",
+        CertRule::RevocationList => "Rule RevocationList",
+        CertRule::NoRevocationList => "Rule NoRevocationList",
+        CertRule::IssuerCertificate => "Rule IssuerCertificate",
+        CertRule::NoIssuerCertificate => "Rule NoIssuerCertificate",
+        CertRule::Repository => "Rule Repository",
+        CertRule::Manifest => "Rule Manifest",
+        CertRule::ManifestPlace => "Rule ManifestPlace",
+        CertRule::SignedObject => "Rule SignedObject",
+        CertRule::ObjectAccess => "Rule ObjectAccess",
+        CertRule::Notifications => "Rule Notifications",
+        CertRule::NoSubjectAccess => "Rule NoSubjectAccess",
+        CertRule::CertificatePolicies => "Rule CertificatePolicies",
+        CertRule::Resources => "Rule Resources",
+        CertRule::ResourceVersion => "Rule ResourceVersion",
+        CertRule::ResourceBlocks => "Rule ResourceBlocks",
+        CertRule::OwnResources => "Rule OwnResources",
+        CertRule::RouterNumbers => "Rule RouterNumbers",
+    }
+}
+
+/// `KIND SERIAL FROM TO SUBJECT ISSUER LIST CERTIFICATE BASE MANIFEST NOTIFICATION PRACTICES V4 V6 AS SIGNATURE`: what
+/// is to be signed where the signature is `_`, and else the certificate.
+pub fn certificate(alloc: Global, kind: &str, words: &[&str]) -> Text {
+    let [
+        serial,
+        from,
+        to,
+        subject,
+        issuer,
+        list,
+        certificate,
+        base,
+        manifest,
+        notification,
+        practices,
+        v4,
+        v6,
+        asn,
+        signature,
+    ] = words
+    else {
+        return Err("usage");
+    };
+    let subject = key_of(alloc, Some(subject))?;
+    let issuer = key_of(alloc, Some(issuer))?;
+    let list = rsync_of(alloc, list)?;
+    let certificate = rsync_of(alloc, certificate)?;
+    let base = rsync_of(alloc, base)?;
+    let manifest = rsync_of(alloc, manifest)?;
+    let notification = https_of(alloc, Some(notification))?;
+    let practices = https_of(alloc, Some(practices))?;
+    let held = held_of(alloc, Some(v4), Some(v6), Some(asn))?;
+    let subject_name = name_of(alloc, &subject)?;
+    let issuer_name = name_of(alloc, &issuer)?;
+    let serial_number = match serial_of(Some(serial)) {
+        Ok(serial) => serial,
+        Err(e) => return Err(e),
+    };
+    let validity = match period_of(Some(from), Some(to)) {
+        Ok(period) => period,
+        Err(e) => return Err(e),
+    };
+    let builder = TbsCertBuilder {
+        serial_number,
+        issuer: &issuer_name,
+        validity,
+        subject: &subject_name,
+        key: &subject,
+    };
+    let key = issuer.key_identifier(&Digests);
+    let kind = match kind {
+        "ta" => CertKind::Anchor(Repository {
+            base: wanted(&base)?,
+            manifest: wanted(&manifest)?,
+            notification: notification.as_ref(),
+        }),
+        "ca" => CertKind::Authority(
+            Issuance {
+                key,
+                list: wanted(&list)?,
+                certificate: wanted(&certificate)?,
+            },
+            Repository {
+                base: wanted(&base)?,
+                manifest: wanted(&manifest)?,
+                notification: notification.as_ref(),
+            },
+        ),
+        "ee" => CertKind::Object(
+            Issuance {
+                key,
+                list: wanted(&list)?,
+                certificate: wanted(&certificate)?,
+            },
+            wanted(&base)?,
+        ),
+        "detached" => CertKind::Detached(Issuance {
+            key,
+            list: wanted(&list)?,
+            certificate: wanted(&certificate)?,
+        }),
+        _ => CertKind::Router(Issuance {
+            key,
+            list: wanted(&list)?,
+            certificate: wanted(&certificate)?,
+        }),
+    };
+    let extensions = CertExtensions {
+        subject_key: subject.key_identifier(&Digests),
+        kind,
+        practices: practices.as_ref(),
+        ip: held.ip.as_ref(),
+        asn: held.asn.as_ref(),
+    };
+    let octets = match to_sign(alloc, &builder, &extensions) {
+        Ok(octets) => octets,
+        Err(Refusal::Rule(rule)) => return Err(rule_name(rule)),
+        Err(Refusal::Other(text)) => return Err(text),
+    };
+    if *signature == "_" {
+        return digits(alloc, octets.as_slice());
+    }
+    let signature = bytes_of(alloc, Some(signature))?;
+    match signed(alloc, octets, &issuer, signature) {
+        Ok(made) => digits(alloc, made.as_slice()),
+        Err(text) => Err(text),
+    }
+}

@@ -1,0 +1,8 @@
+-- Definitions: what the contracts say. They are trusted, and read against the standards.
+pub mod Contents
+pub mod Rows
+pub mod Extensions
+pub mod Tbs
+pub mod Issuing
+-- Lemmas that an impl cites.
+pub mod TagLaws
