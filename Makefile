@@ -21,6 +21,8 @@ RUN ?=
 
 VERSION := $(shell sed -n 's/^.define RPKI_VERSION_[A-Z]* \([0-9]*\)$$/\1/p' include/rpki.h | paste -s -d .)
 MAJOR := $(firstword $(subst ., ,$(VERSION)))
+# The number that the shared library's name and its names' version have: below 1.0 each minor number is another.
+SONUMBER := $(if $(filter 0,$(MAJOR)),0.$(word 2,$(subst ., ,$(VERSION))),$(MAJOR))
 ifneq ($(wildcard bindings/archive),)
 LIB ?= bindings/out$(if $(filter-out x86_64,$(TARGET)),/$(TARGET))
 BUILD ?= $(LIB)/build
@@ -96,9 +98,9 @@ endif
 # Its names are those that the header declares, and no others.
 $(SHARED): $(ARCHIVE) include/rpki.h
 	mkdir -p $(BUILD)
-	{ echo '{ global:'; sed -nE 's/^[a-z0-9_]+ (rpki_[a-z0-9_]+)\(.*/    \1;/p' include/rpki.h; echo 'local: *; };'; } \
+	{ echo 'RPKI_$(SONUMBER) { global:'; sed -nE 's/^[a-z0-9_]+ (rpki_[a-z0-9_]+)\(.*/    \1;/p' include/rpki.h; echo 'local: *; };'; } \
 	    > $(BUILD)/rpki.map
-	$(CC) -shared -Wl,-soname,librpki.so.$(MAJOR) -Wl,--version-script=$(BUILD)/rpki.map -Wl,-z,relro,-z,now,-z,defs \
+	$(CC) -shared -Wl,-soname,librpki.so.$(SONUMBER) -Wl,--version-script=$(BUILD)/rpki.map -Wl,-z,relro,-z,now,-z,defs \
 	    $(LDFLAGS) -o $@ -Wl,--whole-archive $(ARCHIVE) -Wl,--no-whole-archive
 
 # From a package, its files are compared with SHA256SUMS first; without a C compiler its programs alone are run.
@@ -129,7 +131,7 @@ check-library: all
 	$(COMPILE) examples/certificate/show.c $(ARCHIVE) -o $(BUILD)/show
 	$(RUN) $(BUILD)/show examples/certificate.der > $(BUILD)/shown
 	diff examples/certificate/expected.txt $(BUILD)/shown
-	ln -sf $(abspath $(SHARED)) $(BUILD)/librpki.so.$(MAJOR)
+	ln -sf $(abspath $(SHARED)) $(BUILD)/librpki.so.$(SONUMBER)
 	$(COMPILE) examples/certificate/show.c $(SHARED) -o $(BUILD)/show_shared
 	LD_LIBRARY_PATH=$(BUILD) $(RUN) $(BUILD)/show_shared examples/certificate.der > $(BUILD)/shown
 	diff examples/certificate/expected.txt $(BUILD)/shown
@@ -142,14 +144,14 @@ install: all
 	install -m 644 include/rpki.h $(DESTDIR)$(INCLUDEDIR)/rpki.h
 	install -m 644 $(ARCHIVE) $(INSTALLED)/librpki.a
 	install -m 755 $(SHARED) $(INSTALLED)/librpki.so.$(VERSION)
-	ln -sf librpki.so.$(VERSION) $(INSTALLED)/librpki.so.$(MAJOR)
-	ln -sf librpki.so.$(MAJOR) $(INSTALLED)/librpki.so
+	ln -sf librpki.so.$(VERSION) $(INSTALLED)/librpki.so.$(SONUMBER)
+	ln -sf librpki.so.$(SONUMBER) $(INSTALLED)/librpki.so
 	sed -e 's|@PREFIX@|$(PREFIX)|' -e 's|@INCLUDEDIR@|$(INCLUDEDIR)|' -e 's|@LIBDIR@|$(LIBDIR)|' \
 	    -e 's|@VERSION@|$(VERSION)|' bindings/rpki.pc.in > $(INSTALLED)/pkgconfig/rpki.pc
 
 uninstall:
 	rm -f $(DESTDIR)$(INCLUDEDIR)/rpki.h $(INSTALLED)/pkgconfig/rpki.pc $(INSTALLED)/librpki.a
-	rm -f $(INSTALLED)/librpki.so $(INSTALLED)/librpki.so.$(MAJOR) $(INSTALLED)/librpki.so.$(VERSION)
+	rm -f $(INSTALLED)/librpki.so $(INSTALLED)/librpki.so.$(SONUMBER) $(INSTALLED)/librpki.so.$(VERSION)
 	rm -f $(DESTDIR)$(MANDIR)/man3/rpki.3 $(DESTDIR)$(MANDIR)/man3/rpki_*.3
 
 ifneq ($(wildcard bindings/archive),)

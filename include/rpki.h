@@ -16,7 +16,7 @@
  * rpki_signed_data take up to 24 octets for each level of nesting, and 64 more. rpki_signed_data_write and
  * rpki_signed_data_make take that, and once it is freed as many octets as they write. The others that write values take
  * up to two octets for each that they read or write, and 512 more; rpki_base64_read of more than 128 octets takes up to
- * three for each that it reads, and 512 more. rpki_ip_settle, rpki_as_settle and rpki_roa_is_within take up to 192
+ * three for each that it reads, and 512 more. rpki_ip_settle, rpki_as_settle and rpki_roa_is_within take up to 384
  * octets for each block and prefix that they read or write, and 1,024 more. All others take none (those on names and
  * certificates, the others on resources, rpki_hex, rpki_base64_write, rpki_serial_decimal, those that count times on,
  * and the calls on URIs too), and so never return RPKI_OUT_OF_MEMORY.
@@ -35,8 +35,8 @@
  *  - malloc, realloc and free are of one allocator, and align a block to each power of two up to 16 that divides its
  *    size. Calls are not made from a signal handler, or between fork and exec of a process with threads.
  *
- * Calls may be made from several threads at once, on the same octets too. The stack that a call takes is small and does
- * not grow with the input, however deeply values are nested.
+ * Calls may be made from several threads at once, on the same octets too. A call takes at most 32,768 octets of stack,
+ * which do not grow with the input, however deeply values are nested.
  *
  * Link with librpki.a, or with librpki.so: -lrpki, or what `pkg-config --cflags --libs rpki` says. The library needs
  * malloc, realloc, free, memcpy, memmove and memset alone. Each call of librpki.a is a section of its own: with
@@ -49,11 +49,12 @@
  * the target will do.
  *
  * Versions. A program that was compiled with this header runs with the library of this major number and of this minor
- * number or a later one. Within a major number, 0 too from 0.2 on,
+ * number or a later one; below 1.0 with this minor number alone, and librpki.so, whose name and names have that number,
+ * is refused by the loader else. Within a major number, below 1.0 a minor one,
  *  - nothing changes of what is here: no call, type or constant goes away or gets another meaning, no call gets another
  *    parameter or a status that is not said of it here, no number of a status or another constant changes, and no
  *    struct gets another size, member, offset or order;
- *  - calls, structs, constants, and statuses of new calls may be added, with the next minor number;
+ *  - calls, structs, constants, and statuses of new calls may be added, with the next minor number from 1.0 on;
  *  - which octets a call accepts, and what it writes then, changes only where it was not what the standard says that is
  *    named with it. CHANGELOG.md names each such correction.
  */
@@ -480,7 +481,7 @@ enum {
 /* An extension of a certificate, or that there is none. */
 struct rpki_known_extension {
     struct rpki_span octets; /* the contents octets of its OCTET STRING; of size 0 where it isn't there */
-    bool is_there;           /* whether the extension is there */
+    bool is_there;           /* whether the extension is there; false in a struct of zeros that no call has filled */
     bool critical;           /* whether it is critical; false where it isn't there */
 };
 
@@ -698,7 +699,8 @@ rpki_status rpki_take(struct rpki_span *rest, uint8_t identifier, struct rpki_sp
 /*
  * Takes the value at the front of `rest` as rpki_take does, where it has the tag that `identifier` names: an element
  * that may be left out. `*is_there` becomes whether it has. Where it hasn't, or nothing remains, the status is RPKI_OK,
- * `rest` stays, and `contents` has size 0: the element has its default.
+ * `rest` stays, and `contents` has size 0: the element has its default. So it is too where octets remain that no header
+ * begins: a reader whose last elements may be left out has to see in the end that `rest.size` is 0.
  *
  * Where the tag is there the statuses are those of rpki_take: RPKI_UNEXPECTED says that the form is another one. Unless
  * RPKI_OK, `contents` and `*is_there` are left as they were.
@@ -896,7 +898,8 @@ rpki_status rpki_certificate_inspect(const uint8_t *octets, size_t size, uint8_t
  *
  * RPKI_NO_PROFILE: no profile has the number; then the octets are not looked at. Else, where the status is not 0, it is
  * the first that rpki_certificate, rpki_certificate_extensions and rpki_certificate_inspect have, in this order. Where
- * it is not 0 neither `parts` nor `extensions` is written to.
+ * it is not 0 neither `parts` nor `extensions` is written to. Nothing is verified: neither the signature, nor the
+ * period, nor that it isn't revoked.
  */
 rpki_status rpki_certificate_checked(const uint8_t *octets, size_t size, uint8_t profile, bool strict,
                                      struct rpki_certificate_parts *parts,
@@ -982,6 +985,9 @@ rpki_status rpki_crl_entry(struct rpki_span *rest, struct rpki_revoked_certifica
  * table of them by rpki_serials. Takes no memory. RPKI_CONTENT: the first bit of the serial number is set. Else the
  * status is that of the first that is no entry, a SEQUENCE of a serial number and a time and nothing else, as of the
  * calls that read values.
+ *
+ * No octets are no entries, so that nothing is revoked: those of a struct that rpki_crl hasn't filled too. So look at
+ * the status of rpki_crl first.
  */
 rpki_status rpki_crl_contains(const uint8_t *octets, size_t size, const uint8_t serial[20], bool *out) RPKI_CHECKED;
 
@@ -992,7 +998,7 @@ rpki_status rpki_crl_contains(const uint8_t *octets, size_t size, const uint8_t 
  *
  * RPKI_OK: `*count` of them were written, and the rest of the array is as it was. RPKI_TOO_SMALL: `*count` is how many
  * entries there are, and the array holds nothing of use. Else neither is written, and the status is that of the first
- * that is no entry, as of rpki_crl_contains.
+ * that is no entry, as of rpki_crl_contains. No octets are no entries here too.
  */
 rpki_status rpki_serials(const uint8_t *octets, size_t size, struct rpki_serial_number *serials, size_t capacity,
                          size_t *count) RPKI_CHECKED;
@@ -1097,7 +1103,8 @@ rpki_status rpki_roa(const uint8_t *octets, size_t size, bool strict, struct rpk
 /*
  * What is wrong with the malformed part. The status is that of rpki_roa. Where it is an RPKI_PART_ number, `*error`
  * becomes one of RPKI_TRUNCATED to RPKI_TRAILING: the leftmost error, as a reader of that part returns it; RPKI_CONTENT
- * also of a list of no families, of a third one, of one that is there twice, and of IPv6 in front if `strict`.
+ * also of a list of no families, of a third one, of one that is there twice, and of IPv6 in front if `strict`: of both
+ * after all of that family was read. Of a prefix of more bits than an address has, what follows the bits comes first.
  * RPKI_OK: the octets are an attestation, and `*error` is left as it was. Takes no memory.
  */
 rpki_status rpki_roa_error(const uint8_t *octets, size_t size, bool strict, rpki_status *error) RPKI_CHECKED;
@@ -1200,27 +1207,33 @@ rpki_status rpki_as_block_text(const struct rpki_as_block *block, uint8_t *out, 
 /* ---- What decides whether something is valid ---- */
 
 /*
- * Each call below returns RPKI_OK where all holds that it asks, and else the first that does not. An authority is a
- * certificate, its list, and the blocks that it has. To validate what an authority has issued, in this order:
+ * Each call below returns RPKI_OK where all holds that it asks, and else the first that does not; rpki_crl_contains and
+ * rpki_manifest_names answer by `*out`, which is to be looked at too. An authority is a certificate, its list, and the
+ * blocks that it has. The manifest comes first, since it lists the list, which may revoke the manifest's certificate:
  *
- *     rpki_crl_issued_by(list, .., authority, .., &now)                   once, of its list
  *     rpki_object_verify(object, .., strict)                              of a signed object, whose certificate is then
+ *     rpki_manifest_names(content, ..), rpki_manifest_file_is(digest, ..) of a manifest: no name twice, and each file
+ *     rpki_crl_issued_by(list, .., authority, .., &now)                   once, of its list
  *     rpki_certificate_checked(certificate, .., PROFILE, true, ..)        its profile: _CA, _EE or _ROUTER
  *     rpki_certificate_signed_by(certificate, .., authority, ..)          names, keys, signature
  *     rpki_validity_at(&parts.validity, &now)                             its period
- *     rpki_crl_contains(revoked_certs, .., parts.serial_number, &is)      not revoked
+ *     rpki_crl_contains(revoked_certs, .., parts.serial_number, &is)      whether it is revoked
  *     rpki_ip_settle(certificate, .., ip_blocks, ..), rpki_as_settle(..)  the blocks that it has
  *
  * and of what an object contains, by rpki_content_type:
  *
- *     rpki_manifest_inherits(certificate, ..), rpki_manifest_names(content, ..), rpki_manifest(content, ..)
+ *     rpki_manifest_inherits(certificate, ..), rpki_manifest(content, ..)
  *     rpki_validity_at(this update to the next, &now)                     it is current
- *     rpki_manifest_file_is(file.digest, ..)                              of each file
  *     rpki_roa_signer(certificate, ..), rpki_roa_is_within(content, .., ip_blocks of the certificate, ..)
  *     rpki_aspa_signer(certificate, ..), rpki_aspa_is_within(content, .., as_blocks of the certificate, ..)
  *
- * A trust anchor is of the profile _TA, rpki_anchor_verify accepts it, and it has the blocks that rpki_ip_blocks and
- * rpki_as_blocks read in its extensions. examples/validate does this of route origins.
+ * A certificate that a manifest lists is that of an authority where `is_ca` of rpki_known_extensions is true, and else
+ * of a router. An authority may certify itself, or one above it: go to none that is on the path already. A trust anchor
+ * is of the profile _TA, rpki_anchor_verify accepts it, its period holds, and it has the blocks that rpki_ip_blocks and
+ * rpki_as_blocks read in its extensions. The URIs of the list, the issuer and the object that certificates have are not
+ * looked at. Of a certificate that has both the extension of RFC 3779 and that of RFC 8360 for one kind of resources
+ * the calls below look at the first: rpki_certificate_checked refuses it (RPKI_RULE_RESOURCE_VERSION).
+ * examples/validate does all this of route origins.
  */
 
 /*
@@ -1980,6 +1993,166 @@ static inline const char *rpki_status_text(rpki_status status) {
         case RPKI_URI_EMPTY_SEGMENTS: return "URI with empty path segments";
         case RPKI_URI_LONG_SEGMENTS: return "one or more segments are longer than 255 characters";
         default: return "unknown status";
+    }
+}
+
+/*
+ * The name of a status, as "RPKI_RULE_ISSUER", for logs: static text. Of a sum it is that of the sum, as "RPKI_SECOND +
+ * RPKI_TRUNCATED". It is empty where no call returns the status.
+ */
+static inline const char *rpki_status_name(rpki_status status) {
+    switch ((unsigned)status) {
+        case RPKI_OK: return "RPKI_OK";
+        case RPKI_TRUNCATED: return "RPKI_TRUNCATED";
+        case RPKI_BAD_TAG: return "RPKI_BAD_TAG";
+        case RPKI_BAD_LENGTH: return "RPKI_BAD_LENGTH";
+        case RPKI_UNEXPECTED: return "RPKI_UNEXPECTED";
+        case RPKI_CONTENT: return "RPKI_CONTENT";
+        case RPKI_TRAILING: return "RPKI_TRAILING";
+        case RPKI_OUT_OF_MEMORY: return "RPKI_OUT_OF_MEMORY";
+        case RPKI_TOO_SMALL: return "RPKI_TOO_SMALL";
+        case RPKI_NO_ANSWER: return "RPKI_NO_ANSWER";
+        case RPKI_NO_PROFILE: return "RPKI_NO_PROFILE";
+        case RPKI_OTHER_ALGORITHM: return "RPKI_OTHER_ALGORITHM";
+        case RPKI_OTHER_PARTS: return "RPKI_OTHER_PARTS";
+        case RPKI_TOO_LONG: return "RPKI_TOO_LONG";
+        case RPKI_INVALID_SYMBOL: return "RPKI_INVALID_SYMBOL";
+        case RPKI_INVALID_LENGTH: return "RPKI_INVALID_LENGTH";
+        case RPKI_INVALID_LAST_SYMBOL: return "RPKI_INVALID_LAST_SYMBOL";
+        case RPKI_INVALID_PADDING: return "RPKI_INVALID_PADDING";
+        case RPKI_TOO_NEW: return "RPKI_TOO_NEW";
+        case RPKI_TOO_OLD: return "RPKI_TOO_OLD";
+        case RPKI_KEY_NOT_ACCEPTED: return "RPKI_KEY_NOT_ACCEPTED";
+        case RPKI_BAD_SIGNATURE: return "RPKI_BAD_SIGNATURE";
+        case RPKI_OTHER_DIGEST: return "RPKI_OTHER_DIGEST";
+        case RPKI_OTHER_TYPE: return "RPKI_OTHER_TYPE";
+        case RPKI_OTHER_SIGNER: return "RPKI_OTHER_SIGNER";
+        case RPKI_OTHER_KEY: return "RPKI_OTHER_KEY";
+        case RPKI_OTHER_RESOURCES: return "RPKI_OTHER_RESOURCES";
+        case RPKI_NOT_INHERITED: return "RPKI_NOT_INHERITED";
+        case RPKI_OTHER_ANCHOR: return "RPKI_OTHER_ANCHOR";
+        case RPKI_OTHER_KINDS: return "RPKI_OTHER_KINDS";
+        case RPKI_PART_CERTIFICATE: return "RPKI_PART_CERTIFICATE";
+        case RPKI_PART_SIGNED: return "RPKI_PART_SIGNED";
+        case RPKI_PART_ALGORITHM: return "RPKI_PART_ALGORITHM";
+        case RPKI_PART_SIGNATURE: return "RPKI_PART_SIGNATURE";
+        case RPKI_PART_TBS: return "RPKI_PART_TBS";
+        case RPKI_PART_VERSION: return "RPKI_PART_VERSION";
+        case RPKI_PART_SERIAL_NUMBER: return "RPKI_PART_SERIAL_NUMBER";
+        case RPKI_PART_TBS_ALGORITHM: return "RPKI_PART_TBS_ALGORITHM";
+        case RPKI_PART_ISSUER: return "RPKI_PART_ISSUER";
+        case RPKI_PART_VALIDITY: return "RPKI_PART_VALIDITY";
+        case RPKI_PART_SUBJECT: return "RPKI_PART_SUBJECT";
+        case RPKI_PART_PUBLIC_KEY: return "RPKI_PART_PUBLIC_KEY";
+        case RPKI_PART_EXTENSIONS: return "RPKI_PART_EXTENSIONS";
+        case RPKI_PART_EXTENSION_COUNT: return "RPKI_PART_EXTENSION_COUNT";
+        case RPKI_PART_EXTENSION_IDENTIFIERS: return "RPKI_PART_EXTENSION_IDENTIFIERS";
+        case RPKI_PART_SAME_ALGORITHM: return "RPKI_PART_SAME_ALGORITHM";
+        case RPKI_WRONG_BASIC_CONSTRAINTS: return "RPKI_WRONG_BASIC_CONSTRAINTS";
+        case RPKI_WRONG_SUBJECT_KEY_IDENTIFIER: return "RPKI_WRONG_SUBJECT_KEY_IDENTIFIER";
+        case RPKI_WRONG_AUTHORITY_KEY_IDENTIFIER: return "RPKI_WRONG_AUTHORITY_KEY_IDENTIFIER";
+        case RPKI_WRONG_KEY_USAGE: return "RPKI_WRONG_KEY_USAGE";
+        case RPKI_WRONG_CERTIFICATE_POLICIES: return "RPKI_WRONG_CERTIFICATE_POLICIES";
+        case RPKI_RULE_SERIAL_NUMBER: return "RPKI_RULE_SERIAL_NUMBER";
+        case RPKI_RULE_CRITICAL_EXTENSIONS: return "RPKI_RULE_CRITICAL_EXTENSIONS";
+        case RPKI_RULE_ISSUER: return "RPKI_RULE_ISSUER";
+        case RPKI_RULE_SUBJECT: return "RPKI_RULE_SUBJECT";
+        case RPKI_RULE_ROUTER_SUBJECT: return "RPKI_RULE_ROUTER_SUBJECT";
+        case RPKI_RULE_RSA_KEY: return "RPKI_RULE_RSA_KEY";
+        case RPKI_RULE_ROUTER_KEY: return "RPKI_RULE_ROUTER_KEY";
+        case RPKI_RULE_BASIC_CONSTRAINTS: return "RPKI_RULE_BASIC_CONSTRAINTS";
+        case RPKI_RULE_NO_BASIC_CONSTRAINTS: return "RPKI_RULE_NO_BASIC_CONSTRAINTS";
+        case RPKI_RULE_SUBJECT_KEY_IDENTIFIER: return "RPKI_RULE_SUBJECT_KEY_IDENTIFIER";
+        case RPKI_RULE_AUTHORITY_KEY_IDENTIFIER: return "RPKI_RULE_AUTHORITY_KEY_IDENTIFIER";
+        case RPKI_RULE_AUTHORITY_USAGE: return "RPKI_RULE_AUTHORITY_USAGE";
+        case RPKI_RULE_END_USAGE: return "RPKI_RULE_END_USAGE";
+        case RPKI_RULE_NO_EXTENDED_KEY_USAGE: return "RPKI_RULE_NO_EXTENDED_KEY_USAGE";
+        case RPKI_RULE_ROUTER_PURPOSE: return "RPKI_RULE_ROUTER_PURPOSE";
+        case RPKI_RULE_REVOCATION_LIST: return "RPKI_RULE_REVOCATION_LIST";
+        case RPKI_RULE_NO_REVOCATION_LIST: return "RPKI_RULE_NO_REVOCATION_LIST";
+        case RPKI_RULE_ISSUER_CERTIFICATE: return "RPKI_RULE_ISSUER_CERTIFICATE";
+        case RPKI_RULE_NO_ISSUER_CERTIFICATE: return "RPKI_RULE_NO_ISSUER_CERTIFICATE";
+        case RPKI_RULE_REPOSITORY: return "RPKI_RULE_REPOSITORY";
+        case RPKI_RULE_MANIFEST: return "RPKI_RULE_MANIFEST";
+        case RPKI_RULE_SIGNED_OBJECT: return "RPKI_RULE_SIGNED_OBJECT";
+        case RPKI_RULE_NO_SUBJECT_ACCESS: return "RPKI_RULE_NO_SUBJECT_ACCESS";
+        case RPKI_RULE_CERTIFICATE_POLICIES: return "RPKI_RULE_CERTIFICATE_POLICIES";
+        case RPKI_RULE_RESOURCES: return "RPKI_RULE_RESOURCES";
+        case RPKI_RULE_ROUTER_NUMBERS: return "RPKI_RULE_ROUTER_NUMBERS";
+        case RPKI_RULE_OBJECT_ACCESS: return "RPKI_RULE_OBJECT_ACCESS";
+        case RPKI_RULE_VALIDITY: return "RPKI_RULE_VALIDITY";
+        case RPKI_RULE_OWN_AUTHORITY: return "RPKI_RULE_OWN_AUTHORITY";
+        case RPKI_RULE_SELF_ISSUED: return "RPKI_RULE_SELF_ISSUED";
+        case RPKI_RULE_RESOURCE_VERSION: return "RPKI_RULE_RESOURCE_VERSION";
+        case RPKI_RULE_RESOURCE_BLOCKS: return "RPKI_RULE_RESOURCE_BLOCKS";
+        case RPKI_RULE_OWN_RESOURCES: return "RPKI_RULE_OWN_RESOURCES";
+        case RPKI_RULE_MANIFEST_PLACE: return "RPKI_RULE_MANIFEST_PLACE";
+        case RPKI_RULE_NOTIFICATIONS: return "RPKI_RULE_NOTIFICATIONS";
+        case RPKI_RULE_ISSUER_SIZE: return "RPKI_RULE_ISSUER_SIZE";
+        case RPKI_RULE_SUBJECT_SIZE: return "RPKI_RULE_SUBJECT_SIZE";
+        case RPKI_RULE_ROUTER_SERIAL_NUMBER: return "RPKI_RULE_ROUTER_SERIAL_NUMBER";
+        case RPKI_PART_THIS_UPDATE: return "RPKI_PART_THIS_UPDATE";
+        case RPKI_PART_NEXT_UPDATE: return "RPKI_PART_NEXT_UPDATE";
+        case RPKI_PART_REVOKED_CERTS: return "RPKI_PART_REVOKED_CERTS";
+        case RPKI_PART_OBJECT: return "RPKI_PART_OBJECT";
+        case RPKI_PART_OBJECT_TYPE: return "RPKI_PART_OBJECT_TYPE";
+        case RPKI_PART_SIGNED_DATA: return "RPKI_PART_SIGNED_DATA";
+        case RPKI_PART_OBJECT_VERSION: return "RPKI_PART_OBJECT_VERSION";
+        case RPKI_PART_DIGEST_ALGORITHMS: return "RPKI_PART_DIGEST_ALGORITHMS";
+        case RPKI_PART_CONTENT: return "RPKI_PART_CONTENT";
+        case RPKI_PART_CERTIFICATES: return "RPKI_PART_CERTIFICATES";
+        case RPKI_PART_SIGNERS: return "RPKI_PART_SIGNERS";
+        case RPKI_PART_SIGNER: return "RPKI_PART_SIGNER";
+        case RPKI_PART_SIGNER_VERSION: return "RPKI_PART_SIGNER_VERSION";
+        case RPKI_PART_SIGNER_IDENTIFIER: return "RPKI_PART_SIGNER_IDENTIFIER";
+        case RPKI_PART_SIGNER_DIGEST: return "RPKI_PART_SIGNER_DIGEST";
+        case RPKI_PART_SIGNED_ATTRIBUTES: return "RPKI_PART_SIGNED_ATTRIBUTES";
+        case RPKI_PART_SIGNATURE_ALGORITHM: return "RPKI_PART_SIGNATURE_ALGORITHM";
+        case RPKI_PART_OBJECT_SIGNATURE: return "RPKI_PART_OBJECT_SIGNATURE";
+        case RPKI_PART_MANIFEST: return "RPKI_PART_MANIFEST";
+        case RPKI_PART_MANIFEST_NUMBER: return "RPKI_PART_MANIFEST_NUMBER";
+        case RPKI_PART_MANIFEST_THIS_UPDATE: return "RPKI_PART_MANIFEST_THIS_UPDATE";
+        case RPKI_PART_MANIFEST_NEXT_UPDATE: return "RPKI_PART_MANIFEST_NEXT_UPDATE";
+        case RPKI_PART_HASH_ALGORITHM: return "RPKI_PART_HASH_ALGORITHM";
+        case RPKI_PART_FILE_LIST: return "RPKI_PART_FILE_LIST";
+        case RPKI_PART_UPDATE_ORDER: return "RPKI_PART_UPDATE_ORDER";
+        case RPKI_PART_ROA: return "RPKI_PART_ROA";
+        case RPKI_PART_AS_ID: return "RPKI_PART_AS_ID";
+        case RPKI_PART_ADDRESS_BLOCKS: return "RPKI_PART_ADDRESS_BLOCKS";
+        case RPKI_PART_ASPA: return "RPKI_PART_ASPA";
+        case RPKI_PART_ASPA_VERSION: return "RPKI_PART_ASPA_VERSION";
+        case RPKI_PART_CUSTOMER: return "RPKI_PART_CUSTOMER";
+        case RPKI_PART_PROVIDERS: return "RPKI_PART_PROVIDERS";
+        case RPKI_NO_ISSUER: return "RPKI_NO_ISSUER";
+        case RPKI_OTHER_ISSUER: return "RPKI_OTHER_ISSUER";
+        case RPKI_OTHER_AUTHORITY: return "RPKI_OTHER_AUTHORITY";
+        case RPKI_URI_INVALID_CHARACTERS: return "RPKI_URI_INVALID_CHARACTERS";
+        case RPKI_URI_BAD_URI: return "RPKI_URI_BAD_URI";
+        case RPKI_URI_LONG_URI: return "RPKI_URI_LONG_URI";
+        case RPKI_URI_BAD_SCHEME: return "RPKI_URI_BAD_SCHEME";
+        case RPKI_URI_DOT_SEGMENTS: return "RPKI_URI_DOT_SEGMENTS";
+        case RPKI_URI_EMPTY_SEGMENTS: return "RPKI_URI_EMPTY_SEGMENTS";
+        case RPKI_URI_LONG_SEGMENTS: return "RPKI_URI_LONG_SEGMENTS";
+        case RPKI_MISSING_COMMON_NAME: return "RPKI_MISSING_COMMON_NAME";
+        case RPKI_SECOND_COMMON_NAME: return "RPKI_SECOND_COMMON_NAME";
+        case RPKI_SECOND_SERIAL_NUMBER: return "RPKI_SECOND_SERIAL_NUMBER";
+        case RPKI_SECOND_ORGANIZATION_NAME: return "RPKI_SECOND_ORGANIZATION_NAME";
+        case RPKI_STRING_NOT_PERMITTED: return "RPKI_STRING_NOT_PERMITTED";
+        case RPKI_ATTRIBUTE_NOT_PERMITTED: return "RPKI_ATTRIBUTE_NOT_PERMITTED";
+        case RPKI_SECOND + RPKI_TRUNCATED: return "RPKI_SECOND + RPKI_TRUNCATED";
+        case RPKI_SECOND + RPKI_BAD_TAG: return "RPKI_SECOND + RPKI_BAD_TAG";
+        case RPKI_SECOND + RPKI_BAD_LENGTH: return "RPKI_SECOND + RPKI_BAD_LENGTH";
+        case RPKI_SECOND + RPKI_UNEXPECTED: return "RPKI_SECOND + RPKI_UNEXPECTED";
+        case RPKI_SECOND + RPKI_CONTENT: return "RPKI_SECOND + RPKI_CONTENT";
+        case RPKI_SECOND + RPKI_TRAILING: return "RPKI_SECOND + RPKI_TRAILING";
+        case RPKI_SECOND + RPKI_URI_INVALID_CHARACTERS: return "RPKI_SECOND + RPKI_URI_INVALID_CHARACTERS";
+        case RPKI_SECOND + RPKI_URI_BAD_URI: return "RPKI_SECOND + RPKI_URI_BAD_URI";
+        case RPKI_SECOND + RPKI_URI_LONG_URI: return "RPKI_SECOND + RPKI_URI_LONG_URI";
+        case RPKI_SECOND + RPKI_URI_BAD_SCHEME: return "RPKI_SECOND + RPKI_URI_BAD_SCHEME";
+        case RPKI_SECOND + RPKI_URI_DOT_SEGMENTS: return "RPKI_SECOND + RPKI_URI_DOT_SEGMENTS";
+        case RPKI_SECOND + RPKI_URI_EMPTY_SEGMENTS: return "RPKI_SECOND + RPKI_URI_EMPTY_SEGMENTS";
+        case RPKI_SECOND + RPKI_URI_LONG_SEGMENTS: return "RPKI_SECOND + RPKI_URI_LONG_SEGMENTS";
+        default: return "";
     }
 }
 

@@ -1,7 +1,7 @@
 //! Links the library, as `librpki.a` or, where only that is installed, as `librpki.so`: from the folder that
 //! `RPKI_ARCHIVE_DIR` names, or else from this package, where it has the digest that is said there, or else from a
 //! folder beside it, or else from where pkg-config finds it. A library of another major number than this package, or of
-//! an earlier minor number, is not linked.
+//! an earlier minor number, is not linked; nor, below 1.0, of a later one.
 
 mod digest;
 
@@ -18,11 +18,11 @@ fn numbers(version: &str) -> Option<(u32, u32)> {
     Some((parts.next()??, parts.next()??))
 }
 
-/// Whether this package can call a library of this version: one of its own major number, and of its own minor number or
-/// a later one.
+/// Whether this package can call a library of this version: one of its own major number, and of its own minor number or,
+/// from 1.0 on, a later one.
 fn fits(version: &str) -> bool {
     let own = numbers(env!("CARGO_PKG_VERSION")).expect("the version of a package");
-    numbers(version).map_or(false, |(major, minor)| major == own.0 && minor >= own.1)
+    numbers(version).map_or(false, |(major, minor)| major == own.0 && (minor == own.1 || major > 0 && minor > own.1))
 }
 
 /// The version that the file beside an archive names, where there is one that does.
@@ -94,7 +94,7 @@ fn hold(version: &str, found: &Path) {
     if !fits(version) {
         let (major, minor) = numbers(env!("CARGO_PKG_VERSION")).expect("the version of a package");
         let found = format!("the library in {} is of version {version}", found.display());
-        stop(&[found, format!("this package wants {major}.{minor} or a later one of {major}")]);
+        stop(&[found, format!("this package wants {major}.{minor} or, from 1.0 on, a later one of {major}")]);
     }
 }
 

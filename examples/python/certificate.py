@@ -1,12 +1,12 @@
 """Opens a certificate and prints what a relying party looks at first, over librpki.so by ctypes alone.
 
-usage: certificate.py FILE      (LD_LIBRARY_PATH names the folder of librpki.so.0 where it isn't installed)
+usage: certificate.py FILE      (LD_LIBRARY_PATH names the folder of librpki.so.0.2 where it isn't installed)
 """
 import ctypes
 import sys
 from ctypes import POINTER, Structure, byref, c_bool, c_char_p, c_int32, c_int64, c_size_t, c_uint8, c_uint32, c_void_p
 
-RPKI = ctypes.CDLL("librpki.so.0")
+RPKI = ctypes.CDLL("librpki.so.0.2")
 TOO_SMALL, CONTEXT, NO_PARENT = 9, 2, ctypes.c_size_t(-1).value
 NOT_OF_PROFILE = range(32, 38)  # RPKI_MISSING_COMMON_NAME to RPKI_ATTRIBUTE_NOT_PERMITTED
 

@@ -102,6 +102,17 @@ bool identifiers(void) {
     return well && rpki_oid_text(uuid, sizeof uuid, text, sizeof text) == RPKI_OK && !strcmp(text, uuid_text);
 }
 
+/* Each status has a name of its own, that of its constant, and no other number has one. */
+static bool is_named(unsigned one, bool is_second) {
+    const char *name = rpki_status_name((rpki_status)one), *prefix = is_second ? "RPKI_SECOND + RPKI_" : "RPKI_";
+    unsigned other;
+    bool well = (*name != 0) == (strcmp(rpki_status_text((rpki_status)one), "unknown status") != 0);
+    for (other = 0; other < one && *name != 0; other++) {
+        well = well && strcmp(name, rpki_status_name((rpki_status)other));
+    }
+    return well && (*name == 0 || !strncmp(name, prefix, strlen(prefix)));
+}
+
 /* Each status has a text of its own, and no other number has one. */
 bool texts_differ(void) {
     unsigned one, other;
@@ -111,6 +122,7 @@ bool texts_differ(void) {
         bool is_second =
             (one > RPKI_SECOND && one <= RPKI_SECOND + RPKI_TRAILING) ||
             (one >= RPKI_SECOND + RPKI_URI_INVALID_CHARACTERS && one <= RPKI_SECOND + RPKI_URI_LONG_SEGMENTS);
+        well = well && is_named(one, is_second);
         for (other = 0; other < one && !is_second && strcmp(text, "unknown status"); other++) {
             well = well && strcmp(text, rpki_status_text((rpki_status)other));
         }

@@ -62,9 +62,10 @@ pub(crate) fn version() -> u32 {
 }
 
 /// Whether the declarations are those of a library of this version: of the header's major number, and of its minor
-/// number or a later one.
+/// number or, from 1.0 on, a later one.
 pub(crate) fn fits(version: u32) -> bool {
-    version >> 16 == VERSION_MAJOR && version >> 8 & 0xFF >= VERSION_MINOR
+    let (major, minor) = (version >> 16, version >> 8 & 0xFF);
+    major == VERSION_MAJOR && (minor == VERSION_MINOR || major > 0 && minor > VERSION_MINOR)
 }
 
 /// Whether the version of the library was compared.
@@ -85,7 +86,7 @@ fn compare() {
     assert!(
         fits(version),
         "the library that is linked is of version {major}.{minor}.{patch}, and not of {VERSION_MAJOR}.{VERSION_MINOR} \
-         or a later one of {VERSION_MAJOR}"
+         or, from 1.0 on, a later one"
     );
     COMPARED.store(true, Ordering::Relaxed);
 }
@@ -1030,7 +1031,8 @@ mod tests {
         let number = |major: u32, minor: u32, patch: u32| major << 16 | minor << 8 | patch;
         assert!(fits(version()));
         assert!(fits(number(VERSION_MAJOR, VERSION_MINOR, 0)) && fits(number(VERSION_MAJOR, VERSION_MINOR, 255)));
-        assert!(fits(number(VERSION_MAJOR, VERSION_MINOR + 1, 0)));
+        let is_stable = number(VERSION_MAJOR, 0, 0) >= number(1, 0, 0);
+        assert_eq!(fits(number(VERSION_MAJOR, VERSION_MINOR + 1, 0)), is_stable);
         assert!(!fits(number(VERSION_MAJOR, VERSION_MINOR - 1, 255)));
         assert!(!fits(number(VERSION_MAJOR + 1, VERSION_MINOR, 0)) && !fits(number(7, 255, 0)));
     }

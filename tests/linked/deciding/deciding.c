@@ -5,6 +5,8 @@
  *
  * usage: deciding ROWS
  */
+#define _XOPEN_SOURCE 600 /* for ucontext.h */
+
 #include "../judging.h"
 #include "../memory.h"
 #include "../octets.h"
@@ -12,6 +14,7 @@
 #include <stdio.h>
 #include <stdlib.h>
 #include <string.h>
+#include <ucontext.h>
 
 #include "rpki.h"
 
@@ -104,10 +107,39 @@ static void ask(const struct question *q, size_t capacity, struct answer *out) {
     }
 }
 
+/* A function on a stack of its own, of which it uses no more than rpki.h says of a call. */
+static struct {
+    void (*run)(void);
+    ucontext_t own, back;
+} there;
+
+static void on_stack(void (*run)(void)) {
+    enum { WHOLE = 1 << 17, MOST = 1 << 15 };
+    static uint8_t stack[WHOLE];
+    memset(stack, FILL, sizeof stack);
+    there.run = run;
+    if (getcontext(&there.own) != 0) exit(2);
+    there.own.uc_stack.ss_sp = stack;
+    there.own.uc_stack.ss_size = sizeof stack;
+    there.own.uc_link = &there.back;
+    makecontext(&there.own, run, 0);
+    if (swapcontext(&there.back, &there.own) != 0) exit(2);
+    judge(line, "the stack", untouched(stack, WHOLE - MOST));
+}
+
 static bool is_unwritten(const struct answer *answer) {
     return answer->count == UNWRITTEN && untouched(answer->ip, sizeof answer->ip) &&
            untouched(answer->as, sizeof answer->as);
 }
+
+/* The same call on a stack of its own. */
+static struct {
+    const struct question *q;
+    size_t capacity;
+    struct answer *out;
+} question;
+
+static void ask_there(void) { ask(question.q, question.capacity, question.out); }
 
 /* Refuses each allocation of the call in turn: then allocation fails, nothing is written, and all is freed. */
 static void refuse_each(const struct question *q, size_t capacity, size_t many) {
@@ -132,12 +164,15 @@ static void ask_well(const struct question *q, size_t capacity, rpki_status stat
     struct answer answer;
     size_t wanted, at, many;
     bool well, freed;
+    question.q = q;
+    question.capacity = capacity;
+    question.out = &answer;
     count_allocations(NONE_REFUSED);
-    ask(q, capacity, &answer);
+    on_stack(ask_there);
     many = allocations(&freed);
     judge(line, "the status", answer.status == status);
     judge(line, "what was allocated is freed", freed);
-    judge(line, "the memory that is promised", most_octets() <= 192 * (q->count + MOST_BLOCKS) + 1024);
+    judge(line, "the memory that is promised", most_octets() <= 384 * (q->count + MOST_BLOCKS) + 1024);
     if (q->kind == 'r') {
         refuse_each(q, capacity, many);
         return;
@@ -186,6 +221,30 @@ static rpki_status ask_of_list(const struct question *q, long long seconds) {
     return rpki_crl_issued_by(q->octets.at, q->octets.size, q->others.at, q->others.size, &moment);
 }
 
+/* What is asked of a call that takes no memory, and what it returns. */
+static struct {
+    const char *word;
+    const struct question *q;
+    long long seconds;
+    unsigned found;
+} asked;
+
+static void ask_one(void) {
+    const struct question *q = asked.q;
+    if (!strcmp(asked.word, "anchor"))
+        asked.found = rpki_anchor_verify(q->octets.at, q->octets.size, q->others.at, q->others.size);
+    if (!strcmp(asked.word, "signed"))
+        asked.found = rpki_certificate_signed_by(q->octets.at, q->octets.size, q->others.at, q->others.size);
+    if (!strcmp(asked.word, "list")) asked.found = ask_of_list(q, asked.seconds);
+    if (!strcmp(asked.word, "object")) asked.found = rpki_object_verify(q->octets.at, q->octets.size, q->strict);
+    if (!strcmp(asked.word, "aspa")) asked.found = rpki_aspa_is_within(q->octets.at, q->octets.size, q->as, q->count);
+    if (!strcmp(asked.word, "manifest")) asked.found = rpki_manifest_inherits(q->octets.at, q->octets.size);
+    if (!strcmp(asked.word, "roasigner")) asked.found = rpki_roa_signer(q->octets.at, q->octets.size);
+    if (!strcmp(asked.word, "aspasigner")) asked.found = rpki_aspa_signer(q->octets.at, q->octets.size);
+    if (!strcmp(asked.word, "file")) asked.found = rpki_manifest_file_is(q->octets.at, q->others.at, q->others.size);
+    if (!strcmp(asked.word, "type")) asked.found = rpki_content_type(q->octets.at, q->octets.size);
+}
+
 /* The row of these words, of which the first is a call that takes no memory. */
 static void ask_without_memory(const char *word, struct question *q, char *rest) {
     long long status = 0, seconds = 0;
@@ -195,20 +254,54 @@ static void ask_without_memory(const char *word, struct question *q, char *rest)
     status = next_number(&rest);
     if (!strcmp(word, "aspa")) q->count = as_blocks_of(&rest, q->as);
     count_allocations(0);
-    if (!strcmp(word, "anchor")) found = rpki_anchor_verify(q->octets.at, q->octets.size, q->others.at, q->others.size);
-    if (!strcmp(word, "signed"))
-        found = rpki_certificate_signed_by(q->octets.at, q->octets.size, q->others.at, q->others.size);
-    if (!strcmp(word, "list")) found = ask_of_list(q, seconds);
-    if (!strcmp(word, "object")) found = rpki_object_verify(q->octets.at, q->octets.size, q->strict);
-    if (!strcmp(word, "aspa")) found = rpki_aspa_is_within(q->octets.at, q->octets.size, q->as, q->count);
-    if (!strcmp(word, "manifest")) found = rpki_manifest_inherits(q->octets.at, q->octets.size);
-    if (!strcmp(word, "roasigner")) found = rpki_roa_signer(q->octets.at, q->octets.size);
-    if (!strcmp(word, "aspasigner")) found = rpki_aspa_signer(q->octets.at, q->octets.size);
-    if (!strcmp(word, "file")) found = rpki_manifest_file_is(q->octets.at, q->others.at, q->others.size);
-    if (!strcmp(word, "type")) found = rpki_content_type(q->octets.at, q->octets.size);
+    asked.word = word;
+    asked.q = q;
+    asked.seconds = seconds;
+    on_stack(ask_one);
+    found = asked.found;
     judge(line, "memory", took_none());
     if (found != status) printf("found %u, wanted %lld: ", found, status);
     judge(line, word, found == status);
+}
+
+/* Whether no more memory was held at once than rpki.h says of so many blocks and prefixes, and it is freed. */
+static bool took_little(size_t many) {
+    bool freed;
+    return allocations(&freed) > 0 && freed && most_octets() <= 384 * many + 1024;
+}
+
+static void within(char *rest) {
+    struct octets content = octets_spelt(next_word(&rest));
+    size_t count = (size_t)next_number(&rest);
+    struct rpki_ip_block blocks[2] = {{{10}, {10, 255, 255, 255}, RPKI_IPV4, false}, {{12}, {12}, RPKI_IPV4, false}};
+    count_allocations(NONE_REFUSED);
+    judge_status(line, "the status", rpki_roa_is_within(content.at, content.size, true, blocks, 2), RPKI_OK);
+    judge(line, "the memory of rpki_roa_is_within", took_little(count + 2));
+    free(content.at);
+}
+
+static void settled(char *rest) {
+    struct octets cert = octets_spelt(next_word(&rest));
+    size_t count = (size_t)next_number(&rest), each, found = 0;
+    struct rpki_ip_block *ips = calloc(count, sizeof *ips), own;
+    struct rpki_as_block *numbers = calloc(count, sizeof *numbers), number;
+    if (ips == NULL || numbers == NULL) exit(2);
+    for (each = 0; each < count; each++) {
+        ips[each].family = RPKI_IPV4;
+        ips[each].low[0] = ips[each].high[0] = 10;
+        ips[each].low[1] = ips[each].high[1] = (uint8_t)(each >> 8);
+        ips[each].low[2] = ips[each].high[2] = (uint8_t)each;
+        numbers[each].low = numbers[each].high = 2 * (uint32_t)each + 2;
+    }
+    count_allocations(NONE_REFUSED);
+    judge_status(line, "the status", rpki_ip_settle(cert.at, cert.size, ips, count, &own, 1, &found), RPKI_OK);
+    judge(line, "the memory of rpki_ip_settle", took_little(count + 2) && found == 1);
+    count_allocations(NONE_REFUSED);
+    judge_status(line, "the status", rpki_as_settle(cert.at, cert.size, numbers, count, &number, 1, &found), RPKI_OK);
+    judge(line, "the memory of rpki_as_settle", took_little(count + 2) && found == 1 && number.low == 2);
+    free(cert.at);
+    free(ips);
+    free(numbers);
 }
 
 static void row(unsigned number, char *rest) {
@@ -223,6 +316,10 @@ static void row(unsigned number, char *rest) {
     if (!strcmp(word, "section")) {
         long long status = next_number(&rest);
         judge(line, word, !strncmp(rest, rpki_rule_text((rpki_status)status), strlen(rest)));
+        return;
+    }
+    if (!strcmp(word, "within") || !strcmp(word, "settled")) {
+        (*word == 'w' ? within : settled)(rest);
         return;
     }
     q.kind = word[0] == 'a' && word[1] == 's' && word[2] == 0 ? 'a' : word[0] == 'a' ? 'p' : word[0];

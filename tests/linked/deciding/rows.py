@@ -16,6 +16,8 @@ usage: rows.py > FILE
     manifest CERTIFICATE STATUS
     roasigner CERTIFICATE STATUS
     aspasigner CERTIFICATE STATUS
+    within CONTENT COUNT                 of so many prefixes, each within the first of two blocks
+    settled CERTIFICATE COUNT            of one block of each kind, under an issuer of so many blocks
     file DIGEST FILE STATUS
     type IDENTIFIER NUMBER
     seconds SECONDS STATUS YEAR MONTH DAY HOUR MINUTE SECOND
@@ -412,6 +414,15 @@ def sections():
     assert not numbers_of_rules, numbers_of_rules
 
 
+def sizes(own, top):
+    """Sizes right after those at which lists have doubled."""
+    one = certificate(own, top, addresses(resources.addresses("10.0.0.0/32")), numbers(resources.numbers(2)))
+    for count in 1, 17, 258, 17737:
+        prefixes = [(f"10.{each // 250}.{each % 250}.0/24",) for each in range(count)]
+        row("within", payloads.roa(64496, payloads.family(4, prefixes)), count)
+        row("settled", one, count)
+
+
 def main():
     with tempfile.TemporaryDirectory() as folder:
         top, own, other, small = (Authority(folder, *key) for key in enumerate((2048, 2048, 3072, 1024)))
@@ -419,6 +430,7 @@ def main():
     revocation_lists(top, other, small, anchor)
     signed_objects(top, own, other, small)
     settling(own, top)
+    sizes(own, top)
     contents()
     manifests(own, top)
     signers(own, top)
