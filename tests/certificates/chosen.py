@@ -9,7 +9,7 @@ import os
 import kinds
 import repository
 import sections
-from fields import PROFILES, UNASKED, verdict
+from fields import PROFILES, UNASKED, UNREVOKED, verdict
 from issuers import line
 from makers import authority, objects, payloads, records, signing
 from openssl import certify, openssl
@@ -91,7 +91,7 @@ def next_key(program, folder):
     config = write(folder, "chosen.cnf", b"[extensions]\n" + AUTHORITY.encode())
     certify(path, anchor, "6", "-outform", "DER", "-out", path + ".der", config=config)
     seen = ran(program, "--check", "--profile", "auto", "--issuer", anchor + ".der", path + ".der")
-    yield "chosen: the next key of an anchor", seen, (0, line(path + ".der", "OK"), b"")
+    yield "chosen: the next key of an anchor", seen, (0, line(path + ".der", UNREVOKED), b"")
 
 
 def names(program, folder):

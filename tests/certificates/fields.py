@@ -8,7 +8,7 @@ from openssl import key_identifier, said_of, text_of
 
 PROFILES = ["ta", "ca", "ee", "detached", "router"]
 TYPES = {"ta": "ca_cert", "ca": "ca_cert", "router": "router_key"}
-OK, UNASKED = "OK", "OK, issuer not checked"
+OK, UNASKED, UNREVOKED = "OK", "OK, issuer not checked", "OK, revocation not checked"
 EXTENSIONS = {
     "X509v3 Basic Constraints": "basicConstraints",
     "X509v3 Key Usage": "keyUsage",
@@ -25,8 +25,10 @@ EXTENSIONS = {
 
 
 def lines_of(output):
-    """The fields of a text, in order."""
-    return [tuple(line.split(": ", 1)) for line in output.decode().splitlines()]
+    """The fields of a text, in order: each record ends with an empty line, and has no other."""
+    records = output.decode().split("\n\n")
+    assert records[-1] == "" and all(record.startswith("File: ") for record in records[:-1]), output[-300:]
+    return [tuple(line.split(": ", 1)) for record in records for line in record.splitlines()]
 
 
 def size(path):

@@ -10,6 +10,7 @@ from programs import octets_of, ran, write
 
 MOST = 4000000
 # What is said of octets, and of a text, that begin as no object, and have none in PEM: why they are no locator either.
+NO_PEM = "not one certificate or list in PEM"
 NO_LOCATOR = "neither DER nor PEM of an object, nor a trust anchor locator: "
 OTHER, NOTHING = NO_LOCATOR + "line 1: not a URI of a trust anchor", NO_LOCATOR + "line 1: no URI"
 
@@ -19,7 +20,7 @@ def others(program, folder):
     paths = authority.paths(folder)
     der, pem = (octets_of(paths["ca"] + ending) for ending in (".der", ".pem"))
     key = openssl("x509", "-inform", "DER", "-in", paths["ca"] + ".der", "-noout", "-pubkey")
-    malformed, none = "malformed PEM", "not a certificate: "
+    malformed, none = NO_PEM, "not a certificate: "
     end = b"-----END CERTIFICATE-----\n"
     rows = [
         ("empty", b"", 1, "empty"),
@@ -130,15 +131,15 @@ def bundles(program, folder):
     lines += f"{paths['ta']}.der: OK\n"
     yield "a bundle and a file", seen, (0, lines.encode(), b"")
     seen = ran(program, "--check", "--issuer", path, paths["ca"] + ".der")
-    yield "a bundle as issuer", seen, (2, b"", f"rpkicert: {path}: malformed PEM\n".encode())
+    yield "a bundle as issuer", seen, (2, b"", f"rpkicert: {path}: {NO_PEM}\n".encode())
     good, none = octets["ta"], b"-----BEGIN CERTIFICATE-----\nBQA=\n-----END CERTIFICATE-----\n"
     cut = good[: good.index(b"-----END")]
     rows = [("two", good + good, ["OK", "OK"]), ("behind a text", b"two\n" + good + b"and\n" + good, ["OK", "OK"]),
-            ("malformed first", good.replace(b"\nMII", b"\n*II", 1) + good, ["malformed PEM", "OK"]),
+            ("malformed first", good.replace(b"\nMII", b"\n*II", 1) + good, [NO_PEM, "OK"]),
             ("none in the middle", good + none + good, ["OK", "not a certificate: unexpected value", "OK"]),
-            ("without an end", cut + good + cut, ["malformed PEM", "OK", "malformed PEM"]),
+            ("without an end", cut + good + cut, [NO_PEM, "OK", NO_PEM]),
             ("a key between", good + b"-----BEGIN X-----\nAA==\n-----END X-----\n" + good, ["OK", "OK"]),
-            ("a first line in a line", good + b"x-----BEGIN CERTIFICATE-----", ["OK", "malformed PEM"])]
+            ("a first line in a line", good + b"x-----BEGIN CERTIFICATE-----", ["OK", NO_PEM])]
     for name, text, said in rows:
         path = write(folder, "bundle.pem", text)
         lines = "".join(f"{path} ({place + 1}): {what}\n" for place, what in enumerate(said))

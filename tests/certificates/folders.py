@@ -64,6 +64,14 @@ def recursive(program, folder):
     line = f"{broken}: cannot be read: No such file or directory\n".encode()
     yield "a link to nothing", (status, line in output), (2, True)
     os.remove(broken)
+    special = os.path.join(top, "zz")
+    for name, put in [("a FIFO", lambda: os.mkfifo(special)),
+                      ("a link to a device", lambda: os.symlink("/dev/zero", special))]:
+        put()
+        status, output, _ = ran(program, "-r", "--check", top)
+        line = f"{special}: cannot be read: Not a regular file\n".encode()
+        yield f"{name} in a folder", (status, line in output), (2, True)
+        os.remove(special)
 
 
 def unreadable(program, folder):

@@ -9,7 +9,7 @@ from datetime import datetime, timedelta, timezone
 
 import repository
 from arguments import USAGE
-from fields import OK, UNASKED
+from fields import OK, UNASKED, UNREVOKED
 from makers import authority, objects, payloads, signing
 from openssl import certify, openssl, said_of, text_of
 from programs import ran
@@ -33,7 +33,7 @@ def fault(path, issuer, kind="x509", clause=OF_CERTIFICATE):
         return clause + BAD
     if said_of(path, "-issuer", kind=kind) != said_of(issuer, "-subject"):
         return valued(clause + NAME, said_of(path, "-issuer", *NAMED, kind=kind), said_of(issuer, "-subject", *NAMED))
-    return OK
+    return OK if kind == "crl" else UNREVOKED
 
 
 def valued(said, found, expected):
@@ -65,12 +65,12 @@ def issued(program, folder):
                 said = OF_CERTIFICATE + BAD  # RFC 7935 3: issuers have keys of RSA
             for ending in (".der", ".pem"):
                 seen = ran(program, "--check", "--issuer", of_issuer + ending, path + ".der")
-                status = 0 if said == OK else 1
+                status = 0 if said == UNREVOKED else 1
                 yield f"{name} by {issuer}{ending}", seen, (status, line(path + ".der", said), b"")
     with open(paths["ta"] + ".pem", "rb") as file:
         octets = file.read()
     seen = ran(program, "--check", "--issuer", "-", paths["ca"] + ".der", octets=octets)
-    yield "an issuer as input", seen, (0, line(paths["ca"] + ".der", OK), b"")
+    yield "an issuer as input", seen, (0, line(paths["ca"] + ".der", UNREVOKED), b"")
     path = paths["ca"] + ".der"
     plain, marked = ran(program, path)[1].splitlines(), ran(program, "--issuer", paths["ta"] + ".der", path)
     yield "a field", (marked[0], marked[1].splitlines(), marked[2]), (
@@ -78,7 +78,7 @@ def issued(program, folder):
     yield "without an issuer", plain[2], b"Signature: not checked"
     status, output, faults = ran(program, "--json", "--issuer", paths["ta"] + ".der", path)
     yield "a member", (status, json.loads(output)["signature"], faults), (0, "good", b"")
-    verdicts = {"ta": {"signature": "good", "verdict": OK},
+    verdicts = {"ta": {"signature": "good", "verdict": UNREVOKED},
                 "ca": {"signature": BAD, "verdict": OF_CERTIFICATE + BAD}}
     for issuer, told in verdicts.items():
         status, output, faults = ran(program, "--json", "--check", "--issuer", paths[issuer] + ".der", path)
@@ -108,7 +108,7 @@ def issued(program, folder):
         ("file", path), ("signature", "not checked"), ("verdict", EARLY), ("found", "1999-12-31 00:00:00Z"),
         ("expected", iso(period(path)[0]))], b"")
     many = [paths[name] + ".der" for name in ("ee", "ca", "router")]
-    wanted = line(many[0], OK) + line(many[1], OF_CERTIFICATE + BAD) + line(many[2], OK)
+    wanted = line(many[0], UNREVOKED) + line(many[1], OF_CERTIFICATE + BAD) + line(many[2], UNREVOKED)
     yield "several", ran(program, "--check", "--issuer", paths["ca"] + ".der", *many), (1, wanted, b"")
 
 
@@ -172,7 +172,7 @@ def published(program, folder):
         for issuer, certificate in issuers.items():
             said = fault(cert, certificate) if cert else fault(path, certificate, "crl", OF_LIST)
             seen = ran(program, "--check", "--issuer", certificate, path)
-            yield f"{os.path.basename(path)} by {issuer}", seen, (0 if said == OK else 1, line(path, said), b"")
+            yield f"{os.path.basename(path)} by {issuer}", seen, (int(not said.startswith(OK)), line(path, said), b"")
     first, last = "2026-01-01T00:00:00Z", "2036-01-01T00:00:00Z"
     before, after = "2025-12-31T23:59:59Z", "2036-01-01T00:00:01Z"
     for path, cert in rows:
@@ -251,7 +251,7 @@ def moments(program, folder):
         issuer = os.path.join(folder, "ta.der")
         seen = ran(program, "--check", f"--at={moment}", "--issuer", issuer, path)
         yield f"{moment} and an issuer", seen, (
-            0 if said == "OK" else 1, line(path, said), b"")
+            0 if said == "OK" else 1, line(path, UNREVOKED if said == "OK" else said), b"")
     seconds = str(int(first.timestamp()))
     checked = openssl("verify", "-attime", seconds, "-partial_chain", "-ignore_critical", "-trusted",
                       os.path.join(folder, "ta.pem"), os.path.join(folder, "ca.pem"))
@@ -292,7 +292,7 @@ def now(program, folder):
         for words in ["--at", "now"], ["--at=now"], ["--issuer", anchor, "--at", "now"]:
             status, _, faults = of_now(program, *words, name)
             yield f"{name} {words}", (status, faults), (0 if holds else 1, late)
-            good = line(name, OK if "--issuer" in words else UNASKED)
+            good = line(name, UNREVOKED if "--issuer" in words else UNASKED)
             violated = line(name, "violates the profile: RFC 5280 4.1.2.5: period ends before it begins")
             yield f"{name} {words}, checked", ran(program, "--check", *words, name), (
                 0 if holds else 1, good if holds else violated, b"")
@@ -350,7 +350,7 @@ def none(program, folder):
         file.write(b"-----BEGIN CERTIFICATE-----\n")
     lost = os.path.join(folder, "lost")
     rows = [(lost, "cannot be read: No such file or directory"), (folder, "cannot be read: Is a directory"),
-            (crl, "not a certificate"), (text, "malformed PEM")]
+            (crl, "not a certificate"), (text, "not one certificate or list in PEM")]
     for issuer, said in rows:
         for words in ["--issuer", issuer, path], ["--check", path, f"--issuer={issuer}"], \
                 ["--json", "--at", "2026-01-01T00:00:00Z", "--issuer", issuer, path, path]:

@@ -84,11 +84,11 @@ def files_beside(path):
 
 
 def as_text(fields, listing):
-    """The lines."""
+    """The lines, and an empty one at the end."""
     label, items = listing
     lines = [f"{name}: {value}" for name, value in fields]
     lines += [f"{label}: " + ", ".join(f"{name} {value}" for name, value in item) for item in items]
-    return "".join(line + "\n" for line in lines).encode()
+    return "".join(line + "\n" for line in [*lines, ""]).encode()
 
 
 def as_pairs(fields, listing):

@@ -9,7 +9,7 @@ import os
 import kinds
 import repository
 from der import set_of
-from fields import OK, UNASKED
+from fields import OK, UNASKED, UNREVOKED
 from issuers import BAD, EARLY, OF_CERTIFICATE, OF_LIST, iso, line, period, valued
 from lax import head, places_in
 from makers import authority, objects, payloads, records, signing
@@ -105,7 +105,7 @@ def octets_of_objects(program, folder):
     for name in ("roa.roa", "ca.mft", "aspa.asa"):
         path = os.path.join(place, repository.SIGNED[name][0], name)
         octets = octets_of(path)
-        yield f"{name} as it is", ran(program, "--check", "--issuer", issuer, path), (0, line(path, OK), b"")
+        yield f"{name} as it is", ran(program, "--check", "--issuer", issuer, path), (0, line(path, UNREVOKED), b"")
         yield f"{name} by itself", ran(program, "--check", path), (0, line(path, UNASKED), b"")
         where = {at: part for part, places in of_object(octets).items() for at in places}
         said = verdicts(program, folder, octets, "--check", "--issuer", issuer)
@@ -128,7 +128,7 @@ def octets_of_others(program, folder):
         octets = octets_of(base, name)
         words = "--issuer", os.path.join(base, issuer)
         seen = ran(program, "--check", *words, os.path.join(base, name))
-        yield f"{name} as it is", seen, (0, line(os.path.join(base, name), OK), b"")
+        yield f"{name} as it is", seen, (0, line(os.path.join(base, name), OK if clause == OF_LIST else UNREVOKED), b"")
         said = verdicts(program, folder, octets, *words)
         yield f"{name}: so many", len(said) - said.count(None), len(octets)
         for at, told in enumerate(said):
@@ -159,12 +159,13 @@ def keys(program, folder):
     for name, clause in (("ca/roa.roa", OF_CERTIFICATE), ("ca/ca.mft", OF_CERTIFICATE), ("ca/ca.crl", OF_LIST)):
         path = os.path.join(base, name)
         right = os.path.join(base, "ta/ca.cer")
-        for issuer, said, signature in ((right, OK, "good"), (other, clause + BAD, BAD)):
+        good = OK if clause == OF_LIST else UNREVOKED
+        for issuer, said, signature in ((right, good, "good"), (other, clause + BAD, BAD)):
             seen = ran(program, "--check", "--issuer", issuer, path)
-            yield f"{name} by {issuer}", seen, (0 if said == OK else 1, line(path, said), b"")
+            yield f"{name} by {issuer}", seen, (0 if said == good else 1, line(path, said), b"")
             status, output, _ = ran(program, "--json", "--check", "--issuer", issuer, path)
             told = {"file": path, "signature": signature, "verdict": said}
-            yield f"{name} by {issuer} as JSON", (status, json.loads(output)), (0 if said == OK else 1, told)
+            yield f"{name} by {issuer} as JSON", (status, json.loads(output)), (0 if said == good else 1, told)
         status, output, _ = ran(program, "--issuer", right, path)
         yield f"{name}, a field", (status, b"Signature: good\n" in output), (0, True)
 

@@ -7,7 +7,6 @@ use Rattle.std.specs.Prelude.{◌⊎◌, codes, Bool, true, false, is_some, Opti
 use Rattle.std.specs.Prelude.{IfSome}
 use Rattle.rpki_fields.specs.ObjectType.{kind_of}
 use Rattle.rpki_fields.specs.Field.{field_parts}
-use Rattle.rpki_fields.specs.Rendering.{rendering}
 use Rattle.rpki_fields.specs.Sheet.{SheetParts, sheet_behind}
 use Rattle.rpki_fields.specs.Object.{objection_to}
 use Rattle.rpki_fields.specs.declared.object.Object.{Object}
@@ -23,7 +22,8 @@ use Rattle.rpkicert.specs.declared.signature.Signature.{Signature}
 use Rattle.rpkicert.specs.Signature.{signature_found}
 use Rattle.rpkicert.specs.Request.{Asked}
 use Rattle.rpkicert.specs.Requirements.{TermParts, term_parts, no_terms}
-use Rattle.rpkicert.specs.Output.{file_text, hashed, marked, IsTextOf, OutputParts, shown_parts, IsOutput, IsSeen}
+use Rattle.rpkicert.specs.Output.{file_text, hashed, marked, record_text, IsTextOf, OutputParts, shown_parts, IsOutput}
+use Rattle.rpkicert.specs.Output.{IsSeen}
 use Rattle.rpkicert.specs.Output.{IsChecked, checked_other, fault_line, status_in}
 use Rattle.rpkicert.specs.Output.{LacksMemory, AreSeen, outputs, faults, worst, IsRun}
 use Rattle.rpkicert.specs.Locator.{name_of, ReadsLocator}
@@ -50,7 +50,7 @@ use Rattle.jiff.proofs.Family.{same_datetime}
 pub one-text-of : (form : Form) (signature : Signature) (name octets : List ℕ) (x : Object) (text other : List ℕ)
     → IsTextOf form signature name octets x text → IsTextOf form signature name octets x other → text ≡ other
 one-text-of form signature name octets x text other g h =
-    g.2 ∙ ap (λ (s : SheetParts). rendering form
+    g.2 ∙ ap (λ (s : SheetParts). record_text form
     (sheet_behind (field_parts (codes "File") (file_text form name))
     (hashed octets (marked signature s)))) (one-sheet octets x g.0 h.0 g.1 h.1) ∙ sym h.2
 

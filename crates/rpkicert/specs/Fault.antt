@@ -17,7 +17,7 @@ use Rattle.rpki_fields.specs.declared.part.Part.{Part}
 use Rattle.std.specs.declared.io.ErrorKind.{ErrorKind}
 use Rattle.std.specs.declared.io.ErrorKind.TheVariants.{NotFound, PermissionDenied, IsADirectory}
 use Rattle.rpkicert.specs.declared.fault.Cause.{Cause}
-use Rattle.rpkicert.specs.declared.fault.Cause.TheVariants.{Absent, Denied, Folder, Other}
+use Rattle.rpkicert.specs.declared.fault.Cause.TheVariants.{Absent, Denied, Folder, Other, Special}
 use Rattle.rpkicert.specs.declared.fault.Fault.{Fault}
 use Rattle.rpkicert.specs.declared.fault.Fault.TheVariants.{Unreadable, TooLarge, OutOfMemory, Malformed, Refused}
 use Rattle.rpkicert.specs.declared.fault.Fault.TheVariants.{Empty, Neither, NoLocator}
@@ -42,6 +42,7 @@ abbrev pub unreadable_text : Cause → List ℕ
 unreadable_text Absent = codes "cannot be read: No such file or directory"
 unreadable_text Denied = codes "cannot be read: Permission denied"
 unreadable_text Folder = codes "cannot be read: Is a directory"
+unreadable_text Special = codes "cannot be read: Not a regular file"
 unreadable_text Other = codes "cannot be read"
 
 -- the section of what has to hold of an object
@@ -88,7 +89,7 @@ fault_text OutOfMemory = codes "out of memory"
 fault_text Empty = codes "empty"
 fault_text Neither = codes "neither DER nor PEM of an object"
 fault_text (NoLocator e) = codes "neither DER nor PEM of an object, nor a trust anchor locator: " ++ line_text e
-fault_text Malformed = codes "malformed PEM"
+fault_text Malformed = codes "not one certificate or list in PEM"
 fault_text (Refused kind place e) = codes "not a " ++ kind_text kind ++ codes ": " ++ text_of_part place ++ error_text e
 fault_text (Violated v) = codes "violates the profile: " ++ violation_text v
 fault_text (Unverified clause e) = clause_told clause (text_in e)

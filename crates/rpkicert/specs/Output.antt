@@ -27,7 +27,7 @@ use Rattle.rpkicert.specs.declared.signature.Signature.TheVariants.{Unchecked}
 use Rattle.rpkicert.specs.declared.violation.Violation.{Violation}
 use Rattle.rpkicert.specs.Violation.{violation_text}
 use Rattle.rpkicert.specs.Broken.{AreViolations}
-use Rattle.rpkicert.specs.Signature.{signature_text, good_text, signature_of, signature_in, signature_found}
+use Rattle.rpkicert.specs.Signature.{signature_text, signature_of, signature_in, signature_found, well_text}
 use Rattle.rpkicert.specs.Requirements.{TermParts}
 use Rattle.rpkicert.specs.Values.{ToldParts, AreTold, told_text, values_fields, values_found, values_of}
 use Rattle.rpkicert.specs.Words.{memory_text}
@@ -64,11 +64,16 @@ hash_text octets = encode_of standard (sha256 octets)
 abbrev pub hashed : (octets : List ℕ) → SheetParts → SheetParts
 hashed octets s = sheet_behind (field_parts (codes "Hash ID") (hash_text octets)) s
 
+-- a sheet as it is shown: lines, and an empty one; or an object of JSON on a line
+abbrev pub record_text : Form → SheetParts → List ℕ
+record_text Text s = rendering Text s ++ 10 ∷ []
+record_text Json s = rendering Json s
+
 -- the text of the object that these octets are: its file and the digest, and then its sheet, in one form or the other
 abbrev pub IsTextOf : Form → Signature → List ℕ → List ℕ → Object → List ℕ → Type 0
 IsTextOf form signature name octets x text =
     (s : SheetParts) × IsSheet octets x s
-    × (text ≡ rendering form (sheet_behind (field_parts (codes "File") (file_text form name))
+    × (text ≡ record_text form (sheet_behind (field_parts (codes "File") (file_text form name))
     (hashed octets (marked signature s))))
 
 -- a sheet of the name of a file, of what was checked of the signatures, of the verdict, and of these fields
@@ -100,9 +105,9 @@ abbrev pub objected : Form → Signature → (name said : List ℕ) → OutputPa
 objected form signature name said = shown_parts (verdict form signature name said) [] 1
 
 -- the same; or that all is well
-abbrev pub checked_parts : Form → Signature → (name : List ℕ) → Option (List ℕ) → OutputParts
-checked_parts form signature name None = shown_parts (verdict form signature name (good_text signature)) [] 0
-checked_parts form signature name (Some said) = objected form signature name said
+abbrev pub checked_parts : Form → Signature → (well name : List ℕ) → Option (List ℕ) → OutputParts
+checked_parts form signature well name None = shown_parts (verdict form signature name well) [] 0
+checked_parts form signature well name (Some said) = objected form signature name said
 
 -- the verdict on a fault: what is wrong, and the two values that disagree, which JSON has as members of their own
 abbrev pub fault_verdict : Form → (name : List ℕ) → Fault → Option ToldParts → List ℕ
@@ -143,7 +148,9 @@ violated Json name first all =
 -- of the rules that it breaks; where it is of an algorithm that the RPKI doesn't use, which one.
 abbrev pub IsChecked : Form → TermParts → (name : List ℕ) → Object → Option Fault → OutputParts → Type 0
 IsChecked form terms name x None s =
-    s ≡ checked_parts form (signature_of (is_some terms.issuer) x) name (objection_to x)
+    s
+    ≡ checked_parts form (signature_of (is_some terms.issuer) x) (well_text (is_some terms.issuer) x) name
+    (objection_to x)
 IsChecked form terms name x (Some (Violated v)) s =
     (all : List Violation) × AreViolations terms.inspection x all
     × (s ≡ shown_parts (violated form name v all) [] (status_of (Violated v)))
@@ -188,7 +195,8 @@ locator_verdict = codes "OK, certificate not checked"
 abbrev pub locator_shown : (check : Bool) → Form → (name text : List ℕ) → SheetParts → List ℕ
 locator_shown true form name text s = verdict form Unchecked name locator_verdict
 locator_shown false form name text s =
-    rendering form (sheet_behind (field_parts (codes "File") (file_text form name)) (hashed text (marked Unchecked s)))
+    record_text form
+    (sheet_behind (field_parts (codes "File") (file_text form name)) (hashed text (marked Unchecked s)))
 
 -- a locator as it is shown, and a fault as of an object
 abbrev pub IsLocatorOutput : (check : Bool) → Form → TermParts → (name text : List ℕ) → Result SheetParts Fault

@@ -1,5 +1,5 @@
 -- What is said of an object's signatures: what was checked of them.
-use Rattle.std.specs.Prelude.{ℕ, Bool, true, false, if◌then◌else◌, List, codes, Option, Some, None}
+use Rattle.std.specs.Prelude.{◌&&◌, ℕ, Bool, true, false, if◌then◌else◌, List, codes, Option, Some, None}
 use Rattle.rpki_cert.specs.Cert.{CertParts}
 use Rattle.rpki_fields.specs.declared.object.Object.{Object}
 use Rattle.rpki_fields.specs.declared.object.Object.TheVariants.{Certificate, Crl, Manifest, Roa}
@@ -56,6 +56,16 @@ signature_alone (OtherCertificate c) = Unchecked
 abbrev pub signature_of : (issued : Bool) → Object → Signature
 signature_of true x = Good
 signature_of false x = signature_alone x
+
+-- the certificate that the object is, or that of its signer, can be revoked by its issuer
+abbrev pub is_revocable : Object → Bool
+is_revocable (Crl l) = false
+is_revocable x = true
+
+-- that all is well with an object that holds, and is of the issuer, if one is asked for, whose revocation list isn't
+abbrev pub well_text : (issued : Bool) → Object → List ℕ
+well_text issued x =
+    if issued && is_revocable x then codes "OK, revocation not checked" else good_text (signature_of issued x)
 
 -- what was checked before this clause was found broken, with this error
 abbrev pub checked_at : Clause → Bool → Signature

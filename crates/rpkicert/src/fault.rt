@@ -28,6 +28,8 @@ pub enum Cause {
     Denied,
     /// It is a folder.
     Folder,
+    /// It is no regular file: a device, or what waits for a writer.
+    Special,
     /// The host says something else.
     Other,
 }
@@ -53,6 +55,7 @@ impl Cause {
             Cause::Absent => "cannot be read: No such file or directory",
             Cause::Denied => "cannot be read: Permission denied",
             Cause::Folder => "cannot be read: Is a directory",
+            Cause::Special => "cannot be read: Not a regular file",
             Cause::Other => "cannot be read",
         }
     }
@@ -230,7 +233,7 @@ impl Fault {
             Fault::Empty => String::from_str(alloc, "empty"),
             Fault::Neither => String::from_str(alloc, "neither DER nor PEM of an object"),
             Fault::NoLocator(e) => no_locator_text(alloc, e),
-            Fault::Malformed => String::from_str(alloc, "malformed PEM"),
+            Fault::Malformed => String::from_str(alloc, "not one certificate or list in PEM"),
             Fault::Refused(kind, place, e) => refused_text(alloc, kind, place, e),
             Fault::Violated(violation) => violated_text(alloc, violation),
             Fault::Unverified(clause, e) => unverified_text(alloc, clause, e),

@@ -8,7 +8,7 @@ ghost use Rattle.rpkicert.specs.OutputView.{parts_of};
 ghost use Rattle.rpkicert.specs.RequirementsView.{terms_of};
 
 use crate::fault::Fault;
-use crate::output::{Output, file_text, hashed, marked, show, verdict};
+use crate::output::{Output, file_text, hashed, marked, record, show, verdict};
 use crate::profile::names_profile;
 use crate::requirements::Requirements;
 use crate::signature::Signature;
@@ -104,7 +104,7 @@ fn locator_shown(
     let own = marked(alloc, Signature::Unchecked, sheet)?;
     let told = hashed(alloc, text, own)?;
     let all = told.behind(alloc, b"File", file.as_slice())?;
-    form.render(alloc, &all)
+    record(alloc, form, &all)
 }
 
 /// What is shown of a locator of this sheet.

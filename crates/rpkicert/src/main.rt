@@ -42,7 +42,7 @@ fn main(rt: HostRuntime) -> ExitCode {
         Ok(words) => match run(
             rt.alloc(),
             words.as_slice(),
-            &Host { rt: &rt },
+            &Host::new(&rt),
             &mut rt.stdout(),
             &mut rt.stderr(),
         ) {

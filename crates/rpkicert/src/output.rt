@@ -5,7 +5,7 @@ ghost use Rattle.rpki_fields.specs.declared.rendering.Form.TheVariants.{Json};
 ghost use Rattle.rpkicert.specs.Output.{name_octet, visible, line, file_text, marked, hash_text, hashed, verdict};
 ghost use Rattle.rpkicert.specs.Output.{verdict_sheet, objected, IsTextOf, IsOutput, IsChecked, checked_parts};
 ghost use Rattle.rpkicert.specs.Output.{checked_fault, checked_other, fault_line, fault_verdict, status_in};
-ghost use Rattle.rpkicert.specs.Output.{verdict_over, IsCheckedFault};
+ghost use Rattle.rpkicert.specs.Output.{record_text, verdict_over, IsCheckedFault};
 ghost use Rattle.rpki_fields.specs.Object.{objection_to};
 ghost use Rattle.rpkicert.specs.OutcomeView.{found_of, finding_of};
 ghost use Rattle.rpkicert.specs.OutputView.{parts_of};
@@ -19,7 +19,7 @@ use crate::broken::violations;
 use crate::fault::Fault;
 use crate::outcome::Outcome;
 use crate::requirements::Requirements;
-use crate::signature::{Signature, signature_found, signature_in, signature_of};
+use crate::signature::{Signature, signature_found, signature_in, signature_of, well_text};
 use crate::told::{Told, told_text, values_fields};
 use crate::values::{tell, tell_found};
 use crate::violation::Violation;
@@ -120,6 +120,22 @@ pub fn hashed(alloc: Global, octets: &[u8], sheet: Sheet) -> Result<Sheet, Alloc
     sheet.behind(alloc, b"Hash ID", text.as_bytes())
 }
 
+/// The sheet as it is shown in this form: lines, and an empty one; or an object of JSON on a line.
+///
+/// Returns `AllocError` if allocation fails.
+pub fn record(alloc: Global, form: Form, sheet: &Sheet) -> Result<Vec<u8>, AllocError>
+    ensures { IfOk result (λ text. text.items ≡ record_text form sheet.now) }
+{
+    match form {
+        Form::Text => {
+            let mut text = Form::Text.render(alloc, sheet)?;
+            text.push(b'\n')?;
+            Ok(text)
+        }
+        Form::Json => Form::Json.render(alloc, sheet),
+    }
+}
+
 /// The text of an object of whose signatures this was checked, in this form.
 fn text_of(
     alloc: Global,
@@ -136,7 +152,7 @@ fn text_of(
     let own = marked(alloc, signature, sheet)?;
     let told = hashed(alloc, found.octets.as_slice(), own)?;
     let all = told.behind(alloc, b"File", file.as_slice())?;
-    form.render(alloc, &all)
+    record(alloc, form, &all)
 }
 
 /// The verdict on a file as a line.
@@ -226,20 +242,22 @@ fn objected(
     })
 }
 
-/// The verdict on an object of whose signatures this was checked: that it is well, or what the RPKI doesn't use of it.
+/// The verdict on an object of whose signatures this was checked: that it is well, in these words, or what the RPKI
+/// doesn't use of it.
 fn checked(
     alloc: Global,
     form: Form,
     signature: Signature,
+    well: &[u8],
     name: &str,
     object: &Object,
 ) -> Result<Output, AllocError>
-    ensures { IfOk result (λ s. parts_of s ≡ checked_parts form signature name.now (objection_to object.now)) }
+    ensures { IfOk result (λ s. parts_of s ≡ checked_parts form signature well.now name.now (objection_to object.now)) }
 {
     match object.objection(alloc)? {
         Some(said) => objected(alloc, form, signature, name, said.as_slice()),
         None => {
-            let output = verdict(alloc, form, signature, name, signature.verdict())?;
+            let output = verdict(alloc, form, signature, name, well)?;
             let faults = Vec::new(alloc);
             Ok(Output {
                 output,
@@ -399,8 +417,17 @@ fn checked_found(
     match found.fault {
         Some(fault) => checked_wrong(alloc, form, terms, name, found.object.as_ref(), fault),
         None => {
-            let signature = signature_of(terms.issuer.is_some(), found.object.as_ref());
-            checked(alloc, form, signature, name, found.object.as_ref())
+            let issued = terms.issuer.is_some();
+            let object = found.object.as_ref();
+            let signature = signature_of(issued, object);
+            checked(
+                alloc,
+                form,
+                signature,
+                well_text(issued, object),
+                name,
+                object,
+            )
         }
     }
 }

@@ -2,7 +2,7 @@
 
 ghost use Rattle.std.specs.Prelude.{◌≡◌, IfOk};
 ghost use Rattle.rpkicert.specs.Signature.{signature_text, good_text, of_certificate, signature_alone, signature_of};
-ghost use Rattle.rpkicert.specs.Signature.{checked_at, signature_in, signature_found};
+ghost use Rattle.rpkicert.specs.Signature.{checked_at, is_revocable, signature_in, signature_found, well_text};
 
 use crate::fault::{Clause, Fault, is_bad_signature};
 use crate::signed::is_self_issued;
@@ -37,7 +37,7 @@ impl Signature {
     }
 
     /// The verdict on an object that holds, and of whose signatures this was checked.
-    pub fn verdict(self) -> &'static [u8]
+    fn verdict(self) -> &'static [u8]
         ensures { result.now ≡ good_text self }
     {
         match self {
@@ -79,6 +79,26 @@ pub fn signature_of(issued: bool, object: &Object) -> Signature
         return Signature::Good;
     }
     signature_alone(object)
+}
+
+/// Whether the certificate that the object is, or that of its signer, can be revoked by its issuer.
+fn is_revocable(object: &Object) -> bool
+    ensures { result ≡ is_revocable object.now }
+{
+    match object {
+        Object::Crl(_) => false,
+        _ => true,
+    }
+}
+
+/// The verdict on an object that holds, and is of the issuer, if one was asked for.
+pub fn well_text(issued: bool, object: &Object) -> &'static [u8]
+    ensures { result.now ≡ well_text issued object.now }
+{
+    if issued && is_revocable(object) {
+        return b"OK, revocation not checked";
+    }
+    signature_of(issued, object).verdict()
 }
 
 /// What was checked before this clause was found broken, by a bad signature or not.

@@ -6,6 +6,7 @@ use crate::input::read_whole;
 use jiff::SignedDuration;
 use rpki::repository::x509::Time;
 use std::alloc::{AllocError, Global};
+use std::cell::Cell;
 use std::fs;
 use std::time::{SystemTime, UNIX_EPOCH};
 
@@ -48,8 +49,33 @@ pub trait Sources {
 /// The files of the host, of which `-` is standard input, and its clock.
 #[derive(Drop)]
 pub struct Host<'a> {
+    rt: &'a HostRuntime,
+    /// Whether files were found in folders. Of these regular ones are opened alone, since opening a FIFO waits for a
+    /// writer; who names one waits for it.
+    is_listed: Cell<bool>,
+}
+
+impl<'a> Host<'a> {
     /// The host.
-    pub rt: &'a HostRuntime,
+    pub fn new(rt: &'a HostRuntime) -> Host<'a> {
+        Host {
+            rt,
+            is_listed: Cell::new(false),
+        }
+    }
+
+    /// Why what is at this name isn't opened.
+    fn fault_at(&self, name: &str) -> Option<Cause> {
+        if !self.is_listed.get() {
+            return None;
+        }
+        match fs::metadata(self.rt, name) {
+            Ok(it) if it.is_file() => None,
+            Ok(it) if it.is_dir() => Some(Cause::Folder),
+            Ok(_) => Some(Cause::Special),
+            Err(e) => Some(Cause::of(e.kind())),
+        }
+    }
 }
 
 impl Sources for Host<'_> {
@@ -65,6 +91,9 @@ impl Sources for Host<'_> {
         if name == "-" {
             return read_whole(alloc, &mut self.rt.stdin());
         }
+        if let Some(cause) = self.fault_at(name) {
+            return Err(Fault::Unreadable(cause));
+        }
         match fs::open(self.rt, name) {
             Ok(mut file) => read_whole(alloc, &mut file),
             Err(e) => Err(Fault::Unreadable(Cause::of(e.kind()))),
@@ -72,6 +101,7 @@ impl Sources for Host<'_> {
     }
 
     fn under(&self, alloc: Global, name: &str) -> Result<Vec<String>, AllocError> {
+        self.is_listed.set(true);
         files_under(alloc, self.rt, name)
     }
 

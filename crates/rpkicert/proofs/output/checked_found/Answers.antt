@@ -6,8 +6,8 @@ use Rattle.rpkicert.proofs.output.checked_found.Goals as goal
 
 pub returns-in-None : goal.returns-in-None
 returns-in-None c =
-    let issued : c.is_some.result ≡ is_some (terms_of c.args.terms.now).issuer =
-    c.is_some.ensures ∙ some-mapped _ c.args.terms.now.issuer in
+    let issued : c.is_some-issued.result ≡ is_some (terms_of c.args.terms.now).issuer =
+    c.is_some-issued.ensures ∙ some-mapped _ c.args.terms.now.issuer in
     rw c.in-None.is
-    (rw (c.signature_of-signature.ensures, issued, c.as_ref-in-None.ensures, c.as_ref-in-None-2.ensures)
+    (rw (c.signature_of-signature.ensures, c.well_text.ensures, issued, c.as_ref-object.ensures)
     at c.checked.ensures)

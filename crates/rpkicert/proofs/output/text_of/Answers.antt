@@ -4,7 +4,7 @@ use Rattle.rpkicert.proofs.output.text_of.Goals as goal
 
 pub returns : goal.returns
 returns c =
-    IfOk-weaker c.render.result _ _ (λ text e. (
+    IfOk-weaker c.record.result _ _ (λ text e. (
       c.in_ok-sheet.sheet,
       rw (c.as_slice.ensures.value, c.as_ref.ensures) at c.in_ok-sheet.ensures,
       e ∙ rw (
@@ -15,4 +15,4 @@ returns c =
         c.as_slice-2.ensures.value,
         c.in_ok-own.ensures,
       ) refl,
-    )) c.render.ensures
+    )) c.record.ensures
