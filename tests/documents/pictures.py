@@ -146,7 +146,7 @@ def layers():
         return max((row(use) + 1 for use in uses[name] if use in uses), default=0)
     rows = {}
     for name in uses:
-        if not name.endswith("_tests") and name not in ("hostile_calls", "rsa_rows", "rpki_examples"):
+        if not name.endswith(("_tests", "_calls")) and name not in ("rsa_rows", "rpki_examples"):
             rows.setdefault(row(name), []).append(name)
     highest, width = max(rows), 20 + 140 * max(map(len, rows.values()))
     picture = Picture("Each crate rests on crates of the rows below it", width, 66 + 46 * highest)

@@ -42,6 +42,7 @@ NEEDS = [
     Need("/usr/sbin/bgpd", "openbgpd", ("certificates",)),
     Need("stayrtr", "stayrtr", ("certificates",)),
     Need("rtrdump", "rtr-tools", ("certificates",)),
+    Need("/usr/lib/python3/dist-packages/prometheus_client", "python3-prometheus-client", ("certificates",)),
     *(Need(f"the crate {crate}", f"librust-{crate.replace('_', '-')}-dev", ("c", "package", "documents"))
       for crate in ("bytes", "chrono", "openssl", "serde", "serde_json")),
     Need("valgrind", "valgrind", ()),

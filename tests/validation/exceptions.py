@@ -38,6 +38,24 @@ KEY = ("MFkwEwYHKoZIzj0CAQYIKoZIzj0DAQcDQgAEwqoGcakZncFZEfn0k3LTgg2h+qvnTxWG4D8e
        "2icQfJUSn8cPzw==")
 
 
+# Texts that aren't JSON, and the line from which on they aren't; where they only end too soon the last.
+LINES = (("", 1), ("{", 1), ("{\n\n", 3), ("x\n", 1), ("{\n\n\"slurmVersion\": 1,\n,", 4), ("{}\n\n{}\n", 3),
+         (json.dumps(slurm(), indent=1).replace("[]\n", "[\n", 1), 6),
+         (json.dumps(slurm(), indent=1).replace("1,\n", "1\n", 1), 3),
+         (json.dumps(slurm([{"comment": "y"}], [{"comment": "Q"}]), indent=1).replace("Q", "\n"), 11),
+         (json.dumps(slurm([{"comment": "y"}], [{"comment": "Q"}]), indent=1).replace("Q", "\udcff"), 11),
+         ("{" + "\n" * 5000 + ":" + "\n" * 5000, 5001))
+
+
+# Where a member is twice, and the text of it, once and twice.
+TWICE = (("a member of the whole", '"slurmVersion": 1', '"slurmVersion": 1, "slurmVersion": 1'),
+         ("one that would be right alone", '"slurmVersion": 1', '"slurmVersion": 2, "slurmVersion": 1'),
+         ("a member of the filters", '"bgpsecFilters": []', '"bgpsecFilters": [], "bgpsecFilters": []'),
+         ("a member of an element", '"asn": 1', '"asn": 1, "asn": 1'),
+         ("one that is spelled by escapes", '"asn": 1', '"asn": 1, "\\u0061s\\u006e": 1'),
+         ("a comment", '"comment": "x"', '"comment": "x", "comment": "y"'))
+
+
 # A name, and a text that is no file of local exceptions.
 def deviations():
     def without(*path):
@@ -51,6 +69,8 @@ def deviations():
     yield "not JSON", "{"
     yield "not an object", "[]"
     yield "octets that aren't UTF-8", b"\xff"
+    for name, old, new in TWICE:
+        yield f"twice: {name}", json.dumps(slurm([{"asn": 1, "comment": "x"}])).replace(old, new)
     for path in (("slurmVersion",), ("validationOutputFilters",), ("locallyAddedAssertions",),
                  ("validationOutputFilters", "prefixFilters"), ("validationOutputFilters", "bgpsecFilters"),
                  ("locallyAddedAssertions", "prefixAssertions"), ("locallyAddedAssertions", "bgpsecAssertions")):
@@ -104,7 +124,10 @@ def exceptions(program, maker):
     program.holds("exceptions: prefixes that are added", folder, [*left, *ASSERTED], 0, *words)
     key_exceptions(program, folder, file)
     other = {**slurm(), "validationOutputFilters": {"prefixFilters": {}, "bgpsecFilters": []}}
-    for text, said in (("", "3.1: not JSON"), ({**slurm(), "slurmVersion": 2}, "3.2: slurmVersion is not the number 1"),
+    for text, said in (*((text, f"3.1: line {number}: not JSON") for text, number in LINES),
+                       (json.dumps(slurm(), indent=1).replace(": 1", ": 1, \"slurmVersion\": 1"),
+                        "3.1: a member twice in an object"),
+                       ({**slurm(), "slurmVersion": 2}, "3.2: slurmVersion is not the number 1"),
                        ({**slurm(), "validationOutputFilters": []},
                         "3.3: validationOutputFilters is not an object of prefixFilters and bgpsecFilters"),
                        ({**slurm(), "locallyAddedAssertions": []},
@@ -114,7 +137,7 @@ def exceptions(program, maker):
                        (slurm(key_filters=[{}]), "3.3.2: bgpsecFilters[0] is no such element"),
                        (slurm(assertions=[{}]), "3.4.1: prefixAssertions[0] is no such element"),
                        (slurm(key_assertions=[{}]), "3.4.2: bgpsecAssertions[0] is no such element")):
-        edit(file, json.dumps(text).encode() if text else b"")
+        edit(file, (text if isinstance(text, str) else json.dumps(text)).encode("utf-8", "surrogateescape"))
         _, _, faults = program.run(folder, *words)
         holds(f"exceptions: told: {said}", faults == f"rpkivalid: {file}: RFC 8416 {said}\n", faults)
     for name, text in deviations():
@@ -122,8 +145,77 @@ def exceptions(program, maker):
         status, output, faults = program.run(folder, *words)
         holds(f"exceptions: {name}", status == 2 and not output and "local.json: RFC 8416 3." in faults,
               (status, output[:50], faults[:200]))
+    several(program, maker, folder, left)
     status, output, faults = program.run(folder, "--exceptions", os.path.join(maker.room, "none.json"))
     holds("exceptions: no file", status == 2 and not output and "none.json: cannot be read" in faults, faults)
+
+
+def added_key(asn):
+    return {"asn": asn, "SKI": url_safe(bytes(20)), "routerPublicKey": url_safe(base64.b64decode(KEY))}
+
+
+# A name, what two files have, and what is said of the two, or None where they are used (RFC 8416 4.2).
+PAIRS = (("other prefixes", {"filters": [{"prefix": "192.0.2.0/24"}]}, {"assertions": ASSERTIONS[:1]}, None),
+         ("other families", {"filters": [{"prefix": "0.0.0.0/0"}]}, {"assertions": ASSERTIONS[1:2]}, None),
+         ("one AS number of filters without a prefix", {"filters": [{"asn": 64999}]}, {"filters": [{"asn": 64999}]},
+          None),
+         ("one AS number of prefixes that are added", {"assertions": [{"asn": 64500, "prefix": "198.51.100.0/25"}]},
+          {"assertions": [{"asn": 64500, "prefix": "198.51.100.128/25"}]}, None),
+         ("one AS number of filters and of keys", {"filters": [{"asn": 64999}]}, {"key_filters": [{"asn": 64999}]},
+          None),
+         ("identifiers alone", {"key_filters": [{"SKI": url_safe(bytes(20))}]},
+          {"key_assertions": [added_key(64999)]}, None),
+         ("one prefix", {"filters": [{"prefix": "192.0.2.0/24"}]}, {"filters": [{"prefix": "192.0.2.0/24"}]},
+          "192.0.2.0/24 and 192.0.2.0/24 overlap"),
+         ("a prefix that covers", {"filters": [{"prefix": "192.0.0.0/16"}]},
+          {"assertions": [{"asn": 1, "prefix": "192.0.2.0/24"}]}, "192.0.0.0/16 and 192.0.2.0/24 overlap"),
+         ("a prefix that is covered", {"assertions": [{"asn": 1, "prefix": "2001:db8:1::/48"}]},
+          {"filters": [{"prefix": "192.0.2.0/24"}, {"prefix": "2001:db8::/32", "asn": 2}]},
+          "2001:db8:1::/48 and 2001:db8::/32 overlap"),
+         ("prefixes that are added", {"assertions": [{"asn": 1, "prefix": "198.51.100.0/24"}]},
+          {"assertions": [{"asn": 2, "prefix": "198.51.100.64/26"}]}, "198.51.100.0/24 and 198.51.100.64/26 overlap"),
+         ("an AS number of keys", {"key_filters": [{"asn": 64999}]},
+          {"key_filters": [{"asn": 1}, {"asn": 64999, "SKI": url_safe(bytes(20))}]},
+          "both have router keys of AS64999"),
+         ("an AS number of a key that is added", {"key_filters": [{"asn": 64999}]},
+          {"key_assertions": [added_key(64998), added_key(64999)]}, "both have router keys of AS64999"))
+
+
+def several(program, maker, folder, left):
+    """Several files: their union; and where two are in conflict, none is used."""
+    first, second, third = (os.path.join(maker.room, name) for name in ("one.json", "two.json", "three.json"))
+    edit(first, json.dumps(slurm([{"asn": 64529}], assertions=ASSERTIONS[:1])).encode())
+    edit(second, json.dumps(slurm([{"prefix": "10.0.4.0/24"}], assertions=ASSERTIONS[1:2])).encode())
+    edit(third, json.dumps(slurm()).encode())
+    lines = [line for line in left if not line.split(",")[1].startswith("10.0.4.")]
+    added = [line.replace("local", name) for line, name in zip(ASSERTED, ("one", "two"))]
+    for name, words in (("by one option", ("--exceptions", first, second, third)),
+                        ("by several", ("--exceptions", first, "--exceptions", second, f"--exceptions={third}"))):
+        program.holds(f"exceptions: several files, {name}", folder, [*lines, *added], 0, *words)
+    program.holds("exceptions: several files, the other way", folder, [*lines, *reversed(added)], 0, "--exceptions",
+                  second, first)
+    for name, one, other, said in PAIRS:
+        edit(first, json.dumps(slurm(**one)).encode())
+        edit(third, json.dumps(slurm(**other)).encode())
+        edit(second, json.dumps(slurm()).encode())
+        status, output, faults = program.run(folder, "--exceptions", first, second, third)
+        if said is None:
+            holds(f"exceptions: two files: {name}", status == 0 and output, (status, faults[:300]))
+            continue
+        told = f"rpkivalid: {first} and {third}: RFC 8416 4.2: {said}\n"
+        holds(f"exceptions: two files: {name}", (status, output, faults[-len(told):]) == (2, "", told), faults[-300:])
+    same = os.path.join(maker.room, "same", "one.json")
+    os.makedirs(os.path.dirname(same), exist_ok=True)
+    edit(same, json.dumps(slurm()).encode())
+    edit(first, json.dumps(slurm()).encode())
+    for name, file in (("a file twice", first), ("two files of one name", same)):
+        status, output, faults = program.run(folder, "--exceptions", first, file)
+        told = f"rpkivalid: {first} and {file}: both have one name\n"
+        holds(f"exceptions: {name}", (status, output, faults[-len(told):]) == (2, "", told), faults[-300:])
+    edit(third, b"{")
+    status, output, faults = program.run(folder, "--exceptions", first, third)
+    holds("exceptions: the second file",
+          status == 2 and not output and f"{third}: RFC 8416 3.1: line 1: not JSON\n" in faults, faults)
 
 
 def key_exceptions(program, folder, file):

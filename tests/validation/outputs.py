@@ -8,12 +8,12 @@ import shutil
 import subprocess
 import time
 
-from alterations import removed
+from alterations import other_octet, removed
 from compared import compared
 from counting import holds
 from exceptions import slurm
 from programs import octets_of
-from repositories import AT, AUTHORITIES, ORIGINS, TITLES, below, edit, payloads, router_key, url_safe
+from repositories import AT, AUTHORITIES, ORIGINS, STALE_LIST, TITLES, below, edit, payloads, router_key, url_safe
 
 
 def since(text):
@@ -117,11 +117,14 @@ def twice(program, maker):
     holds("ends with exceptions", status == 0 and output.split("\n") == wanted, output[-300:])
 
 
+REASONS = ("missing", "digest", "malformed", "stale", "expired", "revoked", "invalid")
+
+
 def families(name, anchor, counts, rejected, end=FOREVER):
-    """The metrics of one locator: its trust anchor, payloads by kind, points and objects that are rejected, and the
-    first end, where there are route origins."""
+    """The metrics of one locator: its trust anchor, payloads by kind, points and objects that are rejected, each for
+    the same reason, and the first end, where there are route origins."""
     kinds = zip(("origin", "provider", "router_key"), counts)
-    parts = zip(("point", "object"), rejected)
+    parts, why = zip(("point", "object"), rejected), (*rejected, "")[2]
     return "\n".join([
         "# TYPE rpkivalid_trust_anchor gauge",
         "# HELP rpkivalid_trust_anchor Whether the locator has a trust anchor.",
@@ -131,6 +134,10 @@ def families(name, anchor, counts, rejected, end=FOREVER):
         "# TYPE rpkivalid_rejected gauge",
         "# HELP rpkivalid_rejected How many points and objects are rejected.",
         *(f'rpkivalid_rejected{{ta="{name}",type="{part}"}} {count}' for part, count in parts),
+        "# TYPE rpkivalid_rejected_reasons gauge",
+        "# HELP rpkivalid_rejected_reasons How many points and objects are rejected, by reason.",
+        *(f'rpkivalid_rejected_reasons{{ta="{name}",reason="{reason}"}} {sum(rejected[:2]) if reason == why else 0}'
+          for reason in REASONS),
         "# TYPE rpkivalid_first_end_seconds gauge", "# UNIT rpkivalid_first_end_seconds seconds",
         "# HELP rpkivalid_first_end_seconds When the first route origin ends, since 1970.",
         *([f'rpkivalid_first_end_seconds{{ta="{name}"}} {end}'] if counts[0] else []), ""])
@@ -149,6 +156,30 @@ def of_the_run(name, seen, begun):
     is_run = bool(run) and begun <= int(run[2]) <= now and int(run[3]) <= now - begun + 1
     holds(f"metrics of the run: {name}", told and is_run, rest)
     return families_of, run[1] if run else None
+
+
+# A program for the interpreter that has Prometheus's own parser of OpenMetrics: the samples of a file, as JSON.
+PARSER = """import json, sys
+from prometheus_client.openmetrics.parser import text_string_to_metric_families
+with open(sys.argv[1]) as file:
+    families = list(text_string_to_metric_families(file.read()))
+json.dump([[it.name, sorted(it.labels.items()), it.value] for family in families for it in family.samples], sys.stdout)
+"""
+
+
+def samples_of(file):
+    """What Prometheus's parser reads, or what is wrong."""
+    ended = subprocess.run(["/usr/bin/python3", "-c", PARSER, file], capture_output=True, check=False)
+    return json.loads(ended.stdout) if ended.returncode == 0 else ended.stderr.decode()[-300:]
+
+
+def wanted_samples(file):
+    """The samples of a file, by its lines: names without a quotation mark or a comma."""
+    found = []
+    for name, labels, value in re.findall(r"^(\w+)(?:\{(.*)\})? (\d+)$", octets_of(file).decode(), re.MULTILINE):
+        pairs = [list(pair) for pair in re.findall(r'(\w+)="([^"]*)"', labels)]
+        found.append([name, sorted(pairs), int(value)])
+    return found
 
 
 def lone(program, maker, file):
@@ -178,8 +209,13 @@ def metrics(program, maker):
             ("providers and routers", None, {"ASPA": "1", "ROUTER": "1"}, 0,
              (1, (origins, 2 * AUTHORITIES, AUTHORITIES), (0, 0))),
             ("a route origin is missing", removed(AUTHORITIES, "r0.roa"), {}, 0,
-             (1, (origins - ORIGINS, 0, 0), (1, 0))),
-            ("malformed objects", None, {"BADROA": "1"}, 0, (1, (origins, 0, 0), (0, AUTHORITIES))),
+             (1, (origins - ORIGINS, 0, 0), (1, 0, "missing"))),
+            ("another octet", other_octet(AUTHORITIES, "r1.roa"), {}, 0,
+             (1, (origins - ORIGINS, 0, 0), (1, 0, "digest"))),
+            ("a stale list", None, STALE_LIST, 0, (1, (0, 0, 0), (1, 0, "stale"))),
+            ("a manifest of tomorrow", None, {"MANIFESTFROM": "20261201000000Z"}, 0,
+             (1, (0, 0, 0), (1, 0, "stale"))),
+            ("malformed objects", None, {"BADROA": "1"}, 0, (1, (origins, 0, 0), (0, AUTHORITIES, "malformed"))),
             ("an early end", None, {"LISTUNTIL": "261201000000Z", "LISTOF": "4"}, 0,
              (1, (origins, 0, 0), (0, 0), SOON))):
         folder = maker.changed(change, **variant)
@@ -189,6 +225,8 @@ def metrics(program, maker):
         said = subprocess.run([program.path, "--version"], capture_output=True, check=True).stdout.decode()
         holds(f"metrics: the version: {name}", said == f"rpkivalid {version}\n", (said, version))
         holds(f"metrics: {name}", ended == status and seen == families("example", *wanted), (ended, seen))
+        parsed = samples_of(file)
+        holds(f"metrics for Prometheus: {name}", parsed == wanted_samples(file), parsed)
         holds(f"payloads beside metrics: {name}", len(output.split("\n")) == wanted[1][0] + 2, output[:99])
     folder = maker.changed(None)
     locator = os.path.join(folder, f"{odd}.tal")
@@ -197,6 +235,8 @@ def metrics(program, maker):
     subprocess.run(words, stdout=subprocess.DEVNULL, stderr=subprocess.DEVNULL, check=True)
     wanted = families('a \\"name\\" \\\\', 1, (origins, 0, 0), (0, 0))
     holds("metrics: a name that is escaped", octets_of(file).decode().startswith(wanted), octets_of(file)[:300])
+    told = {dict(labels).get("ta", odd) for _, labels, _ in samples_of(file)}
+    holds("metrics for Prometheus: a name that is escaped", told == {odd}, told)
     os.remove(file)
     lone(program, maker, file)
     ended, output, faults = program.run(maker.repository(), "--metrics", os.path.join(maker.room, "none", "it"))

@@ -1,9 +1,10 @@
 -- Payloads with local exceptions, under one locator after another.
 use Rattle.std.proofs.Common.{◌≡◌, ◌↔◌, ℕ, ◌+◌, ◌<◌, List, [], ◌∷◌, ◌++◌, length, get_or, take, sym, subst}
+use Rattle.std.proofs.Common.{◌∙◌, ap, append-nil, append_assoc}
 use Rattle.std.proofs.lemmas.List.{take_more}
 use Rattle.std.specs.Prelude.{Option}
 use Rattle.std.specs.List.{Contains}
-use Rattle.rpki_payloads.specs.declared.exceptions.Exceptions.{Exceptions}
+use Rattle.rpki_payloads.specs.declared.exceptions.NamedExceptions.{NamedExceptions}
 use Rattle.rpki_payloads.specs.declared.filters.PrefixFilter.{PrefixFilter}
 use Rattle.rpki_payloads.specs.declared.key_filters.KeyFilter.{KeyFilter}
 use Rattle.rpki_payloads.specs.declared.router_key.RouterKey.{RouterKey}
@@ -11,7 +12,7 @@ use Rattle.rpki_payloads.specs.declared.tally.Tally.{Tally}
 use Rattle.rpki_payloads.specs.declared.timed.TimedVrp.{TimedVrp}
 use Rattle.rpki_payloads.specs.declared.vap.CustomerProvider.{CustomerProvider}
 use Rattle.rpki_payloads.specs.declared.vrp.Vrp.{Vrp}
-use Rattle.rpki_payloads.specs.Exceptions.{AreEach, IsWithout}
+use Rattle.rpki_payloads.specs.Exceptions.{AreAdded, AreEach, IsAsserted, IsWithout}
 use Rattle.rpki_payloads.specs.Filtered.{IsKept, IsKeptTimed, left_by_all}
 use Rattle.rpki_payloads.specs.Payloads.{PayloadParts, payload_parts}
 use Rattle.rpki_payloads.specs.RouterKey.{key_cmp}
@@ -46,15 +47,16 @@ left-set filters filters2 keys keys2 left new e f is set =
     (subst (λ (ks : List RouterKey). IsSetOf key_cmp (Contains (left_by_all filters ks)) new) f
     (subst (λ (ks : List RouterKey). IsSetOf key_cmp (Contains ks) new) is set))
 
-pub is-without : (e : Exceptions) (old new : PayloadParts) (name : List ℕ) (vrps : List Vrp) (timed : List TimedVrp)
+pub is-without : (filters : List PrefixFilter) (identifiers : List KeyFilter) (old new : PayloadParts)
+    (name : List ℕ) (vrps : List Vrp) (timed : List TimedVrp)
     (pairs : List CustomerProvider) (keys : List RouterKey) (tally : Option Tally)
     → new ≡ payload_parts name vrps timed pairs keys tally
-    → name ≡ old.name → IsSetOf vrp_cmp (IsKept e.prefix_filters.items old.vrps) vrps
-    → IsSetOf timed_cmp (IsKeptTimed e.prefix_filters.items old.timed) timed → pairs ≡ old.pairs
-    → IsSetOf key_cmp (Contains (left_by_all e.key_filters.items old.keys)) keys → tally ≡ old.tally
-    → IsWithout e old new
-is-without e old new name vrps timed pairs keys tally is named kept ends same left counted =
-    subst (λ (p : PayloadParts). IsWithout e old p) (sym is)
+    → name ≡ old.name → IsSetOf vrp_cmp (IsKept filters old.vrps) vrps
+    → IsSetOf timed_cmp (IsKeptTimed filters old.timed) timed → pairs ≡ old.pairs
+    → IsSetOf key_cmp (Contains (left_by_all identifiers old.keys)) keys → tally ≡ old.tally
+    → IsWithout filters identifiers old new
+is-without filters identifiers old new name vrps timed pairs keys tally is named kept ends same left counted =
+    subst (λ (p : PayloadParts). IsWithout filters identifiers old p) (sym is)
     (record { name = named; vrps = kept; timed = ends; pairs = same; keys = left; tally = counted })
 
 -- one more
@@ -71,3 +73,16 @@ pub each-next : {A B : Type 0} (R : A → B → Type 0) (all : List A) (ys : Lis
 each-next {A} {B} R all ys i x y lt is before one =
     subst (λ (w : List A). AreEach R w (ys ++ y ∷ [])) (sym (take_more all i x lt))
     (each-more R (take i all) ys (get_or all i x) y before (subst (λ (z : A). R z y) is one))
+
+-- what files add, in sequence
+pub added-none : (old : List PayloadParts) → AreAdded [] old old
+added-none old = ([], tt, sym (append-nil old))
+
+pub added-next : (files : List NamedExceptions) (i : ℕ) (x : NamedExceptions) (old new : List PayloadParts)
+    (one : PayloadParts) → i < length files → x ≡ get_or files i x → AreAdded (take i files) old new → IsAsserted x one
+    → AreAdded (take (i + 1) files) old (new ++ one ∷ [])
+added-next files i x old new one lt is h asserts = (
+  h.0 ++ one ∷ [],
+  each-next IsAsserted files h.0 i x one lt is h.1 asserts,
+  ap (λ (ps : List PayloadParts). ps ++ one ∷ []) h.2 ∙ append_assoc old h.0 (one ∷ []),
+)

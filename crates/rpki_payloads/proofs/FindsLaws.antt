@@ -194,6 +194,7 @@ array-fault R m d values seen same there (E.Element n i) h = (
   first-map view R values i (subst (λ (vs : List Value). IsFirstOther (λ v. R (view v)) vs i) same h.1),
 )
 array-fault R m d values seen same there E.OutOfMemory h = tt
-array-fault R m d values seen same there E.Json h = absurd h
+array-fault R m d values seen same there (E.Json n) h = absurd h
+array-fault R m d values seen same there E.Twice h = absurd h
 array-fault R m d values seen same there E.Members h = absurd h
 array-fault R m d values seen same there (E.Missing n) h = absurd h

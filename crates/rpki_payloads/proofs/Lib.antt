@@ -4,15 +4,17 @@
 -- there is nothing else: FindsLaws.
 -- That payloads which compare as equal are one, and which are among converted ones: OrderLaws. The providers of a
 -- customer together: VapLaws.
--- What is among a list, one by one: AmongLaws. The latest end of a payload: TimedLaws. Local exceptions, and how many
--- members an object of JSON has: ExceptionLaws, MemberLaws. Texts of metrics: MetricLaws.
+-- What is among a list, one by one: AmongLaws. What is looked for there, and files in conflict: ConflictLaws. The
+-- latest end of a payload: TimedLaws. Local exceptions, and how many members an object of JSON has: ExceptionLaws,
+-- MemberLaws. Texts of metrics: MetricLaws.
 
 mod AloneLaws
 mod AmongLaws
+mod ConflictLaws
 pub mod ExceptionLaws
 mod FindsLaws
 mod ListedLaws
-mod MemberLaws
+pub mod MemberLaws
 mod MetricLaws
 mod OrderLaws
 mod TimedLaws

@@ -1,7 +1,10 @@
 -- Local exceptions (RFC 8416): filters take payloads away, and assertions are added.
-use Rattle.std.specs.Prelude.{◌≡◌, ◌++◌, ℕ, List, [], ◌∷◌, Option, Some, None, MatchOption, map, slice_get, take}
-use Rattle.std.specs.List.{Contains}
-use Rattle.rpki_payloads.specs.declared.exceptions.Exceptions.{Exceptions}
+use Rattle.std.specs.Prelude.{◌≡◌, ◌++◌, List, [], ◌∷◌, Option, Some, None, MatchOption, map, slice_get, take}
+use Rattle.std.specs.Prelude.{ℕ, string_bytes}
+use Rattle.std.specs.List.{Contains, flat_map}
+use Rattle.rpki_payloads.specs.declared.exceptions.NamedExceptions.{NamedExceptions}
+use Rattle.rpki_payloads.specs.declared.filters.PrefixFilter.{PrefixFilter}
+use Rattle.rpki_payloads.specs.declared.key_filters.KeyFilter.{KeyFilter}
 use Rattle.rpki_payloads.specs.Filtered.{IsKept, IsKeptTimed, left_by_all}
 use Rattle.rpki_payloads.specs.Payloads.{PayloadParts}
 use Rattle.rpki_payloads.specs.RouterKey.{key_cmp}
@@ -9,22 +12,30 @@ use Rattle.rpki_payloads.specs.Sets.{IsSetOf}
 use Rattle.rpki_payloads.specs.Timed.{endless, timed_cmp}
 use Rattle.rpki_payloads.specs.Vrp.{vrp_cmp}
 
--- The payloads under a locator that no filter matches. There are no filters of providers.
-pub record IsWithout (e : Exceptions) (old new : PayloadParts) : Type 0 where
+-- The union of the filters of several files (4.2).
+abbrev pub prefix_filters_of : List NamedExceptions → List PrefixFilter
+prefix_filters_of files = flat_map (λ (f : NamedExceptions). f.exceptions.prefix_filters.items) files
+
+abbrev pub key_filters_of : List NamedExceptions → List KeyFilter
+key_filters_of files = flat_map (λ (f : NamedExceptions). f.exceptions.key_filters.items) files
+
+-- The payloads under a locator that none of these filters matches. There are no filters of providers.
+pub record IsWithout (prefixes : List PrefixFilter) (identifiers : List KeyFilter) (old new : PayloadParts)
+    : Type 0 where
   pub name : new.name ≡ old.name
-  pub vrps : IsSetOf vrp_cmp (IsKept e.prefix_filters.items old.vrps) new.vrps
-  pub timed : IsSetOf timed_cmp (IsKeptTimed e.prefix_filters.items old.timed) new.timed
+  pub vrps : IsSetOf vrp_cmp (IsKept prefixes old.vrps) new.vrps
+  pub timed : IsSetOf timed_cmp (IsKeptTimed prefixes old.timed) new.timed
   pub pairs : new.pairs ≡ old.pairs
-  pub keys : IsSetOf key_cmp (Contains (left_by_all e.key_filters.items old.keys)) new.keys
+  pub keys : IsSetOf key_cmp (Contains (left_by_all identifiers old.keys)) new.keys
   pub tally : new.tally ≡ old.tally
 
--- what is added, under this name, with no end
-pub record IsAsserted (e : Exceptions) (name : List ℕ) (p : PayloadParts) : Type 0 where
-  pub name_is : p.name ≡ name
-  pub vrps : IsSetOf vrp_cmp (Contains e.vrps.items) p.vrps
+-- what a file adds, under its name, with no end
+pub record IsAsserted (f : NamedExceptions) (p : PayloadParts) : Type 0 where
+  pub name : p.name ≡ string_bytes f.name
+  pub vrps : IsSetOf vrp_cmp (Contains f.exceptions.vrps.items) p.vrps
   pub timed : p.timed ≡ map endless p.vrps
   pub pairs : p.pairs ≡ []
-  pub keys : IsSetOf key_cmp (Contains e.keys.items) p.keys
+  pub keys : IsSetOf key_cmp (Contains f.exceptions.keys.items) p.keys
   pub tally : p.tally ≡ None
 
 -- R is true of the elements of two lists, one by one
@@ -46,8 +57,13 @@ pub record IsFirstOther {A B : Type 0} (R : A → B → Type 0) (all : List A) (
   pub there : slice_get all i ≡ Some other
   pub none : (y : B) → R other y → ⊥
 
--- the rest under each locator, and then what is added
-abbrev pub AreExcepted : Exceptions → List ℕ → List PayloadParts → List PayloadParts → Type 0
-AreExcepted e name old new =
-    (left : List PayloadParts) × (added : PayloadParts) × AreEach (IsWithout e) old left × IsAsserted e name added
-    × (new ≡ left ++ added ∷ [])
+-- what each file adds comes after these
+abbrev pub AreAdded : List NamedExceptions → (old new : List PayloadParts) → Type 0
+AreAdded files old new = (added : List PayloadParts) × AreEach IsAsserted files added × (new ≡ old ++ added)
+
+-- The payloads with the exceptions of these files: what the union of their filters leaves under each locator, and then
+-- the union of their assertions (4.1, 4.2), those of each file under its name. No filter takes an assertion away.
+abbrev pub AreExcepted : List NamedExceptions → (old new : List PayloadParts) → Type 0
+AreExcepted files old new =
+    (left : List PayloadParts) × AreEach (IsWithout (prefix_filters_of files) (key_filters_of files)) old left
+    × AreAdded files left new

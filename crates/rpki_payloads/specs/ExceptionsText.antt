@@ -4,6 +4,8 @@ use Rattle.std.specs.Prelude.{◌⊎◌, ⊤, if◌then◌else◌, IfSome, IsSom
 use Rattle.std.specs.Option.{unwrap_or, is_some}
 use Rattle.base64.specs.Engines.{url_safe_no_pad}
 use Rattle.base64.specs.GeneralPurpose.{decode_of}
+use Rattle.json.specs.Json.{Json, document}
+use Rattle.json.specs.Strict.{HasUniqueKeys}
 use Rattle.serde_json.specs.Data.{Data, Members, no_members, member}
 use Rattle.serde_json.specs.Find.{as_array, as_number, as_object, as_str, as_u64, get}
 use Rattle.serde_json.specs.Read.{read as read_text}
@@ -35,7 +37,7 @@ member_name Assertions = codes "locallyAddedAssertions"
 member_name PrefixAssertions = codes "prefixAssertions"
 member_name KeyAssertions = codes "bgpsecAssertions"
 
--- how many members there are: each name has one, the last that the text has of it
+-- how many members there are
 abbrev pub size : Members → ℕ
 size no_members = 0
 size (member name d ms) = suc (size ms)
@@ -176,9 +178,17 @@ pub record AreExceptionsIn (d : Data) (e : Exceptions) : Type 0 where
   pub assertions_there : get (codes "locallyAddedAssertions") d ≡ Some assertions
   pub assertions_are : AreAssertions assertions e.vrps.items e.keys.items
 
--- the octets are the text of an object, in UTF-8, that says these exceptions
+-- no object of the text, at any depth, has a name twice
+abbrev pub HasNamesOnce : List ℕ → Type 0
+HasNamesOnce octets = (j : Json) × (document octets ≡ Some j) × HasUniqueKeys j
+
+-- the octets are the text of a value, in UTF-8, in which none has
+abbrev pub IsTextOf : List ℕ → Data → Type 0
+IsTextOf octets d = IsUtf8 octets × (read_text octets ≡ Some d) × HasNamesOnce octets
+
+-- the octets are the text of an object that says these exceptions
 abbrev pub AreExceptions : List ℕ → Exceptions → Type 0
-AreExceptions octets e = IsUtf8 octets × (d : Data) × (read_text octets ≡ Some d) × AreExceptionsIn d e
+AreExceptions octets e = (d : Data) × IsTextOf octets d × AreExceptionsIn d e
 
 -- ---- what is wrong with other octets; where memory fails, nothing is said of them
 
@@ -232,8 +242,14 @@ IsExceptionsFault d e =
     ((HasMembers d → ⊥) × (e ≡ E.Members))
     ⊎ (HasMembers d × (((IsVersionOne d → ⊥) × (e ≡ E.Missing Version)) ⊎ (IsVersionOne d × IsObjectsFault d e)))
 
+-- the octets are no JSON, by the reading of values or by that of names; or an object has a name twice. Nothing is said
+-- of the line that is told
+abbrev pub IsJsonFault : List ℕ → ExceptionsError → Type 0
+IsJsonFault octets (E.Json n) = IsUtf8 octets → (read_text octets ≡ None) ⊎ (document octets ≡ None)
+IsJsonFault octets E.Twice =
+    IsUtf8 octets × (j : Json) × (document octets ≡ Some j) × (HasUniqueKeys j → ⊥)
+IsJsonFault octets E.OutOfMemory = ⊤
+IsJsonFault octets e = ⊥
+
 abbrev pub IsTextFault : List ℕ → ExceptionsError → Type 0
-IsTextFault octets e =
-    ((e ≡ E.Json) × (IsUtf8 octets → read_text octets ≡ None))
-    ⊎ ((e ≡ E.OutOfMemory)
-    ⊎ (IsUtf8 octets × (d : Data) × (read_text octets ≡ Some d) × IsExceptionsFault d e))
+IsTextFault octets e = IsJsonFault octets e ⊎ ((d : Data) × IsTextOf octets d × IsExceptionsFault d e)

@@ -8,6 +8,7 @@ pub mod Payloads
 pub mod Covered
 pub mod Filtered
 pub mod Exceptions
+pub mod Conflict
 pub mod ExceptionsText
 pub mod Listed
 pub mod Quoted

@@ -3,6 +3,7 @@ use Rattle.std.specs.Prelude.{◌==◌, ◌||◌, ◌++◌, ℕ, Bool, List, [],
 use Rattle.std.specs.Prelude.{if◌then◌else◌, nat_lt}
 use Rattle.std.specs.List.{flat_map}
 use Rattle.jiff.specs.Types.{DateTime}
+use Rattle.rpki_payloads.specs.declared.tally.Reasons.{Reasons}
 use Rattle.rpki_payloads.specs.declared.tally.Tally.{Tally}
 use Rattle.rpki_payloads.specs.declared.timed.TimedVrp.{TimedVrp}
 use Rattle.rpki_payloads.specs.Made.{seconds_text}
@@ -71,6 +72,33 @@ rejected_in name (Some t) = tally_samples name t
 abbrev pub rejected_samples : PayloadParts → List ℕ
 rejected_samples p = rejected_in p.name p.tally
 
+-- for which reasons they are
+abbrev pub reason_sample : List ℕ → (reason : List ℕ) → ℕ → List ℕ
+reason_sample name reason n = sample (codes "rpkivalid_rejected_reasons") name reason n
+
+unfoldable pub file_samples : List ℕ → Reasons → List ℕ
+file_samples name r =
+    reason_sample name (codes ",reason=\"missing\"") r.missing
+    ++ reason_sample name (codes ",reason=\"digest\"") r.digest
+    ++ reason_sample name (codes ",reason=\"malformed\"") r.malformed
+
+unfoldable pub path_samples : List ℕ → Reasons → List ℕ
+path_samples name r =
+    reason_sample name (codes ",reason=\"stale\"") r.stale
+    ++ reason_sample name (codes ",reason=\"expired\"") r.expired
+    ++ reason_sample name (codes ",reason=\"revoked\"") r.revoked
+    ++ reason_sample name (codes ",reason=\"invalid\"") r.invalid
+
+unfoldable pub reason_samples : List ℕ → Reasons → List ℕ
+reason_samples name r = file_samples name r ++ path_samples name r
+
+abbrev pub reasons_in : List ℕ → Option Tally → List ℕ
+reasons_in name None = []
+reasons_in name (Some t) = reason_samples name t.reasons
+
+abbrev pub counted_samples : PayloadParts → List ℕ
+counted_samples p = reasons_in p.name p.tally
+
 -- ---- families, each under its type and what it says
 
 abbrev pub anchor_titles : List ℕ
@@ -83,6 +111,11 @@ payload_titles = codes "# TYPE rpkivalid_payloads gauge\n# HELP rpkivalid_payloa
 abbrev pub rejected_titles : List ℕ
 rejected_titles =
     codes "# TYPE rpkivalid_rejected gauge\n# HELP rpkivalid_rejected How many points and objects are rejected.\n"
+
+abbrev pub reason_titles : List ℕ
+reason_titles =
+    codes "# TYPE rpkivalid_rejected_reasons gauge\n"
+    ++ codes "# HELP rpkivalid_rejected_reasons How many points and objects are rejected, by reason.\n"
 
 abbrev pub end_titles : List ℕ
 end_titles =
@@ -97,6 +130,12 @@ payload_family all = payload_titles ++ flat_map payload_samples all
 
 unfoldable pub rejected_family : List PayloadParts → List ℕ
 rejected_family all = rejected_titles ++ flat_map rejected_samples all
+
+unfoldable pub reason_family : List PayloadParts → List ℕ
+reason_family all = reason_titles ++ flat_map counted_samples all
+
+unfoldable pub rejection_families : List PayloadParts → List ℕ
+rejection_families all = rejected_family all ++ reason_family all
 
 unfoldable pub end_family : List PayloadParts → List ℕ
 end_family all = end_titles ++ flat_map end_samples all
@@ -129,7 +168,7 @@ unfoldable pub run_families : (version : List ℕ) → (made : DateTime) → (se
 run_families version made seconds = version_family version ++ made_family made ++ duration_family seconds
 
 unfoldable pub locator_families : List PayloadParts → List ℕ
-locator_families all = anchor_family all ++ payload_family all ++ rejected_family all ++ end_family all
+locator_families all = anchor_family all ++ payload_family all ++ rejection_families all ++ end_family all
 
 abbrev pub metrics_text : (version : List ℕ) → (made : DateTime) → (seconds : ℕ) → List PayloadParts → List ℕ
 metrics_text version made seconds all =

@@ -1,6 +1,7 @@
 //! Files of local exceptions, as they are read (RFC 8416 3).
 
 ghost use Rattle.std.specs.Prelude.{◌≡◌, ◌↔◌, true, false, [], ◌∷◌, ◌++◌, IfOk, IfErr, IfSome, IfNone, IsTrue, None};
+ghost use Rattle.std.specs.Prelude.{OnOk};
 ghost use Rattle.std.specs.Prelude.{codes, option_and_then, option_map};
 ghost use Rattle.serde_json.specs.Find.{as_array, get};
 ghost use Rattle.serde_json.specs.View.{view, items_view};
@@ -9,6 +10,7 @@ ghost use Rattle.rpki_payloads.specs.ExceptionsText.{AreListed, IsKeyAssertion, 
 ghost use Rattle.rpki_payloads.specs.ExceptionsText.{IsInfoIn, IsMember, IsPrefixFilter, IsVersionOne, IsVrpWith};
 ghost use Rattle.rpki_payloads.specs.ExceptionsText.{IsArrayFault, IsAssertionsFault, IsElementFault};
 ghost use Rattle.rpki_payloads.specs.ExceptionsText.{IsExceptionsFault, IsFiltersFault, IsTextFault, member_name};
+ghost use Rattle.rpki_payloads.specs.ExceptionsText.{HasNamesOnce, IsJsonFault, IsTextOf};
 ghost use Rattle.rpki_payloads.specs.declared.exceptions_text.Member.TheVariants.{KeyAssertions, KeyFilters};
 ghost use Rattle.rpki_payloads.specs.declared.exceptions_text.Member.TheVariants.{PrefixAssertions, PrefixFilters};
 ghost use Rattle.rpki_payloads.specs.Exceptions.{AreEach, Finds};
@@ -18,6 +20,7 @@ use crate::covered::width_of;
 use crate::exceptions::Exceptions;
 use crate::filters::PrefixFilter;
 use crate::key_filters::KeyFilter;
+use crate::line::line_of;
 use crate::members::{
     asn_at, asn_in, has_comment, has_only_four, has_only_three, has_only_two, identifier_at,
     identifier_in, info_of, longest_in, prefix_at, prefix_in,
@@ -25,6 +28,7 @@ use crate::members::{
 use crate::router_key::RouterKey;
 use crate::vrp::Vrp;
 use bytes::Bytes;
+use json::{Error as JsonError, Scratch, Value as Json};
 use rpki::crypto::keys::KeyIdentifier;
 use rpki_resources::Prefix;
 use serde_json::Value;
@@ -69,8 +73,10 @@ impl Member {
 /// Why a text is no file of local exceptions.
 #[derive(Clone, Copy, Debug, Drop, PartialEq, Eq)]
 pub enum ExceptionsError {
-    /// It is not JSON (RFC 8259), in UTF-8.
-    Json,
+    /// It is not JSON (RFC 8259), in UTF-8, from the line of this number on, which counts from 1.
+    Json(usize),
+    /// An object of it has a name twice.
+    Twice,
     /// It is no object of the three members (RFC 8416 3.2).
     Members,
     /// The member is missing, or is none of this kind.
@@ -445,26 +451,55 @@ fn exceptions_of(alloc: Global, value: &Value) -> Result<Exceptions, ExceptionsE
     })
 }
 
+/// Whether no object of the text has a name twice: `Twice` if one has.
+fn check_names(alloc: Global, octets: &[u8]) -> Result<(), ExceptionsError>
+    ensures ok { OnOk result (HasNamesOnce octets.now) }
+    ensures err { IfErr result (IsJsonFault octets.now) }
+{
+    let Ok(text) = str::from_utf8(octets) else {
+        return Err(ExceptionsError::Json(1));
+    };
+    let mut scratch = Scratch::new(alloc);
+    match Json::parse_strict(alloc, text, &mut scratch) {
+        Ok(_) => Ok(()),
+        Err(JsonError::DuplicateKey) => Err(ExceptionsError::Twice),
+        Err(JsonError::OutOfMemory) => Err(ExceptionsError::OutOfMemory),
+        Err(JsonError::Invalid | JsonError::TooLong) => Err(ExceptionsError::Json(1)),
+    }
+}
+
+/// The value that the text is.
+fn value_in(alloc: Global, octets: &[u8]) -> Result<Value, ExceptionsError>
+    ensures ok { IfOk result (λ value. IsTextOf octets.now (view value)) }
+    ensures err { IfErr result (IsJsonFault octets.now) }
+{
+    match Value::from_slice(alloc, octets) {
+        Ok(value) => {
+            check_names(alloc, octets)?;
+            Ok(value)
+        }
+        Err(e) => {
+            if e.is_memory() {
+                return Err(ExceptionsError::OutOfMemory);
+            }
+            Err(ExceptionsError::Json(line_of(alloc, octets)?))
+        }
+    }
+}
+
 impl Exceptions {
     /// Reads a file of local exceptions (RFC 8416 3): an object of JSON of the version, the filters and the assertions,
-    /// in which no member is missing, and there is no other, except for comments. A name that the text has twice in an
-    /// object counts as its last.
+    /// in which no member is missing or there twice, and there is no other, except for comments.
     ///
-    /// Returns `Json` if the octets are no JSON; `Members` for another object; `Missing` or `Element` for the first
-    /// member or element of an array that is none of its kind: the version, then whether both objects are there, then
-    /// the filters, then the assertions; `OutOfMemory` if allocation fails.
+    /// Returns `Json` if the octets are no JSON; `Twice` if an object has a name twice, at any depth; `Members` for
+    /// another object; `Missing` or `Element` for the first member or element of an array that is none of its kind: the
+    /// version, then whether both objects are there, then the filters, then the assertions; `OutOfMemory` if allocation
+    /// fails.
     pub fn read(alloc: Global, octets: &[u8]) -> Result<Exceptions, ExceptionsError>
         ensures ok { IfOk result (AreExceptions octets.now) }
         ensures err { IfErr result (IsTextFault octets.now) }
     {
-        match Value::from_slice(alloc, octets) {
-            Ok(value) => exceptions_of(alloc, &value),
-            Err(e) => {
-                if e.is_memory() {
-                    return Err(ExceptionsError::OutOfMemory);
-                }
-                Err(ExceptionsError::Json)
-            }
-        }
+        let value = value_in(alloc, octets)?;
+        exceptions_of(alloc, &value)
     }
 }

@@ -6,7 +6,7 @@ ghost use Rattle.rpki_payloads.specs.Form.{IsTextIn};
 use crate::bird::bird_text;
 use crate::client::client_text;
 use crate::csv_lines::csv_text;
-use crate::json::json_text;
+use crate::json_form::json_text;
 use crate::openbgpd::openbgpd_text;
 use crate::order::{united, united_pairs};
 use crate::payloads::Payloads;

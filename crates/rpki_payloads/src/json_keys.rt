@@ -5,7 +5,7 @@ ghost use Rattle.std.specs.List.{flat_map};
 ghost use Rattle.rpki_payloads.specs.Json.{json_identifier, json_info, json_key, json_number_alone, json_numbers};
 ghost use Rattle.rpki_payloads.specs.Json.{json_range};
 
-use crate::json::push_name;
+use crate::json_form::push_name;
 use crate::router_key::RouterKey;
 use rpki_text::util::base_64::Slurm;
 use std::alloc::{AllocError, Global};

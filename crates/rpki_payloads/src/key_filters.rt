@@ -116,7 +116,7 @@ fn left_by(
 }
 
 /// Copies of keys.
-fn copied(alloc: Global, keys: &[RouterKey]) -> Result<Vec<RouterKey>, AllocError>
+pub(crate) fn copied(alloc: Global, keys: &[RouterKey]) -> Result<Vec<RouterKey>, AllocError>
     ensures { IfOk result (λ copies. copies.items ≡ keys.now) }
 {
     let mut copies = Vec::new(alloc);

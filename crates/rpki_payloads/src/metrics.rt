@@ -6,11 +6,13 @@ ghost use Rattle.rpki_payloads.specs.Metrics.{anchor_family, anchor_samples, bit
 ghost use Rattle.rpki_payloads.specs.Metrics.{payload_family, payload_samples, rejected_family, rejected_samples};
 ghost use Rattle.rpki_payloads.specs.Metrics.{earlier, end_family, end_samples, first_end, kind_samples, sample};
 ghost use Rattle.rpki_payloads.specs.Metrics.{tally_samples, duration_family, locator_families, made_family};
-ghost use Rattle.rpki_payloads.specs.Metrics.{run_families, version_family};
+ghost use Rattle.rpki_payloads.specs.Metrics.{run_families, version_family, rejection_families, reason_family};
+ghost use Rattle.rpki_payloads.specs.Metrics.{counted_samples, file_samples, path_samples, reason_sample};
+ghost use Rattle.rpki_payloads.specs.Metrics.{reason_samples};
 
 use crate::made::seconds_text;
 use crate::payloads::Payloads;
-use crate::tally::Tally;
+use crate::tally::{Reasons, Tally};
 use crate::timed::TimedVrp;
 use rpki::repository::x509::Time;
 use std::alloc::{AllocError, Global};
@@ -151,6 +153,61 @@ fn push_tally(text: &mut Vec<u8>, name: &[u8], tally: Tally) -> Result<(), Alloc
     Ok(())
 }
 
+/// Adds how many are rejected for a reason.
+fn push_reason(
+    text: &mut Vec<u8>,
+    name: &[u8],
+    reason: &[u8],
+    count: usize,
+) -> Result<(), AllocError>
+    ensures { OnOk result (text.new.items ≡ text.old.items ++ reason_sample name.now reason.now count) }
+{
+    push_sample(text, b"rpkivalid_rejected_reasons", name, reason, count)
+}
+
+/// Adds how many are rejected for what files are.
+#[tactic(auto, unfolding(crate::specs::Metrics::file_samples))]
+fn push_file_reasons(text: &mut Vec<u8>, name: &[u8], reasons: Reasons) -> Result<(), AllocError>
+    ensures { OnOk result (text.new.items ≡ text.old.items ++ file_samples name.now reasons) }
+{
+    push_reason(text, name, b",reason=\"missing\"", reasons.missing)?;
+    push_reason(text, name, b",reason=\"digest\"", reasons.digest)?;
+    push_reason(text, name, b",reason=\"malformed\"", reasons.malformed)?;
+    Ok(())
+}
+
+/// Adds how many are rejected for what certificates, manifests and lists say.
+#[tactic(auto, unfolding(crate::specs::Metrics::path_samples))]
+fn push_path_reasons(text: &mut Vec<u8>, name: &[u8], reasons: Reasons) -> Result<(), AllocError>
+    ensures { OnOk result (text.new.items ≡ text.old.items ++ path_samples name.now reasons) }
+{
+    push_reason(text, name, b",reason=\"stale\"", reasons.stale)?;
+    push_reason(text, name, b",reason=\"expired\"", reasons.expired)?;
+    push_reason(text, name, b",reason=\"revoked\"", reasons.revoked)?;
+    push_reason(text, name, b",reason=\"invalid\"", reasons.invalid)?;
+    Ok(())
+}
+
+/// Adds how many are rejected by reason.
+#[tactic(auto, unfolding(crate::specs::Metrics::reason_samples))]
+fn push_reasons(text: &mut Vec<u8>, name: &[u8], reasons: Reasons) -> Result<(), AllocError>
+    ensures { OnOk result (text.new.items ≡ text.old.items ++ reason_samples name.now reasons) }
+{
+    push_file_reasons(text, name, reasons)?;
+    push_path_reasons(text, name, reasons)?;
+    Ok(())
+}
+
+/// Adds why something is rejected, where it was counted.
+fn push_counted(text: &mut Vec<u8>, one: &Payloads) -> Result<(), AllocError>
+    ensures { OnOk result (text.new.items ≡ text.old.items ++ counted_samples one.now) }
+{
+    match one.tally() {
+        Some(tally) => push_reasons(text, one.name(), tally.reasons),
+        None => Ok(()),
+    }
+}
+
 /// Adds how much is rejected, where it was counted.
 fn push_rejected(text: &mut Vec<u8>, one: &Payloads) -> Result<(), AllocError>
     ensures { OnOk result (text.new.items ≡ text.old.items ++ rejected_samples one.now) }
@@ -255,6 +312,16 @@ fn push_all_rejected(text: &mut Vec<u8>, all: &[Payloads]) -> Result<(), AllocEr
     Ok(())
 }
 
+/// Adds why something is rejected under each locator.
+fn push_all_counted(text: &mut Vec<u8>, all: &[Payloads]) -> Result<(), AllocError>
+    ensures { OnOk result (text.new.items ≡ text.old.items ++ flat_map counted_samples all.now) }
+{
+    'all: for one in all {
+        push_counted(text, one)?;
+    }
+    Ok(())
+}
+
 /// Adds the family that says which locators have a trust anchor.
 #[tactic(auto, unfolding(crate::specs::Metrics::anchor_family))]
 fn push_anchor_family(text: &mut Vec<u8>, all: &[Payloads]) -> Result<(), AllocError>
@@ -291,6 +358,29 @@ fn push_rejected_family(text: &mut Vec<u8>, all: &[Payloads]) -> Result<(), Allo
 # HELP rpkivalid_rejected How many points and objects are rejected.\n",
     )?;
     push_all_rejected(text, all)?;
+    Ok(())
+}
+
+/// Adds the family that says why something is rejected.
+#[tactic(auto, unfolding(crate::specs::Metrics::reason_family))]
+fn push_reason_family(text: &mut Vec<u8>, all: &[Payloads]) -> Result<(), AllocError>
+    ensures { OnOk result (text.new.items ≡ text.old.items ++ reason_family all.now) }
+{
+    text.extend_from_slice(
+        b"# TYPE rpkivalid_rejected_reasons gauge\n\
+# HELP rpkivalid_rejected_reasons How many points and objects are rejected, by reason.\n",
+    )?;
+    push_all_counted(text, all)?;
+    Ok(())
+}
+
+/// Adds the families that say how much is rejected, and why.
+#[tactic(auto, unfolding(crate::specs::Metrics::rejection_families))]
+fn push_rejection_families(text: &mut Vec<u8>, all: &[Payloads]) -> Result<(), AllocError>
+    ensures { OnOk result (text.new.items ≡ text.old.items ++ rejection_families all.now) }
+{
+    push_rejected_family(text, all)?;
+    push_reason_family(text, all)?;
     Ok(())
 }
 
@@ -368,15 +458,16 @@ fn push_locator_families(text: &mut Vec<u8>, all: &[Payloads]) -> Result<(), All
 {
     push_anchor_family(text, all)?;
     push_payload_family(text, all)?;
-    push_rejected_family(text, all)?;
+    push_rejection_families(text, all)?;
     push_end_family(text, all)?;
     Ok(())
 }
 
 /// What is counted under each locator: whether it has a trust anchor; how many payloads there are of each kind; and how
-/// many publication points and objects are rejected; and the first second, since 1970-01-01T00:00:00Z, in which a
-/// prefix ends that may be announced, where there is any. What local exceptions add has payloads and their end alone.
-/// Then of which version the program is, when the list was made, and how many seconds that took.
+/// many publication points and objects are rejected, and for which reasons; and the first second, since
+/// 1970-01-01T00:00:00Z, in which a prefix ends that may be announced, where there is any. What local exceptions add
+/// has payloads and their end alone. Then of which version the program is, when the list was made, and how many seconds
+/// that took.
 ///
 /// Returns `AllocError` if allocation fails.
 pub fn metrics_text(

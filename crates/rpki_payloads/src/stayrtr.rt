@@ -7,7 +7,7 @@ ghost use Rattle.rpki_payloads.specs.StayRtr.{stay_key, stay_keys, stay_number, 
 ghost use Rattle.rpki_payloads.specs.StayRtr.{stay_origins, stay_provider, stay_providers, stay_text, stay_vap};
 ghost use Rattle.rpki_payloads.specs.StayRtr.{told_count};
 
-use crate::json::{json_string, length_text, prefix_text, push_array, push_name};
+use crate::json_form::{json_string, length_text, prefix_text, push_array, push_name};
 use crate::json_vaps::after_separator;
 use crate::made::{key_count, push_metadata, vrp_count};
 use crate::payloads::Payloads;

@@ -3,7 +3,7 @@ use Rattle.std.proofs.Common.{◌≡◌, ◌∙◌, ◌+◌, ◌<◌, ℕ, suc, 
 use Rattle.std.proofs.Common.{map, ap, ap₂, arith, drop-cons, refl, sym}
 use Rattle.std.proofs.lemmas.List.{take_more, map-append}
 use Rattle.std.specs.Prelude.{Some, None}
-use Rattle.rpkivalid.specs.Complaint.{awaited, in_locators_after, takes_value, wrong_behind, wrong_given, wrong_next}
+use Rattle.rpkivalid.specs.Complaint.{awaited, in_files_after, takes_value, wrong_behind, wrong_given, wrong_next}
 use Rattle.rpkivalid.specs.Complaint.{wrong_at_end, wrong_value}
 
 pub behind-none : (before : List (List ℕ)) (named : Bool) → wrong_behind before named [] ≡ wrong_at_end before
@@ -18,7 +18,7 @@ behind-wrong before named word words said w = rw w refl
 pub behind-next : (before : List (List ℕ)) (named : Bool) (word : List ℕ) (words : List (List ℕ))
     → wrong_next before named word (awaited before) ≡ None
     → wrong_behind before named (word ∷ words)
-    ≡ wrong_behind (before ++ (word ∷ [])) (in_locators_after named word) words
+    ≡ wrong_behind (before ++ (word ∷ [])) (in_files_after named word) words
 unfolding wrong_behind
 behind-next before named word words w = rw w refl
 

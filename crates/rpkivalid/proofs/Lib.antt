@@ -3,7 +3,8 @@
 -- The rest of arguments, what words ask for: ArgumentLaws, RequestLaws,
 -- ComplaintLaws. The moment: MomentLaws. Paths of objects: PathLaws. Locators in
 -- files: LocatorLaws. What is found under locators: FoundLaws. What is said under them:
--- ToldLaws, RefusedLaws, ExplainedLaws, ComparedLaws. A run: RunLaws.
+-- ToldLaws, RefusedLaws, ExplainedLaws, ComparedLaws. A run: RunLaws,
+-- ProgramLaws.
 
 mod ArgumentLaws
 mod RequestLaws
@@ -17,3 +18,4 @@ mod RefusedLaws
 mod ExplainedLaws
 mod ComparedLaws
 mod RunLaws
+mod ProgramLaws

@@ -11,6 +11,7 @@ use Rattle.clap.specs.declared.error.kind.ErrorKind.TheVariants.{OutOfMemory}
 use Rattle.rpki_objects.specs.declared.strictness.Strictness.{Strictness}
 use Rattle.rpki_payloads.specs.declared.form.Form.{Form}
 use Rattle.rpkivalid.specs.Request.{Asked, asked, is_given, form_of, some_files, strictness_of, request_of, payloads}
+use Rattle.rpkivalid.specs.Request.{files_or_none}
 use Rattle.rpkivalid.specs.Request.{command_app, matched, wanted_in}
 
 -- a request from its parts
@@ -19,19 +20,21 @@ pub of-parts : (rows : List Row) (form : Option Form) (cache : Option (List ℕ)
     → all ≡ some_files (all_of (codes "tal") rows)
     → option_and_then (λ f. option_and_then (λ c. option_map (asked (strictness_of (is_given (codes "strict") rows))
     (first_of (codes "at") rows) (first_of (codes "output") rows) (first_of (codes "depth") rows)
-    (first_of (codes "exceptions") rows) (first_of (codes "metrics") rows) (first_of (codes "explain") rows)
-    (first_of (codes "as") rows) (first_of (codes "compare") rows) (first_of (codes "least") rows) f c) all) cache)
+    (files_or_none (all_of (codes "exceptions") rows)) (first_of (codes "metrics") rows)
+    (first_of (codes "explain") rows) (first_of (codes "as") rows) (first_of (codes "compare") rows)
+    (first_of (codes "least") rows) f c) all) cache)
     form
     ≡ request_of rows
 of-parts rows form cache all f c a = rw (f, c, a) refl
 
 -- the same, where there are all
 pub of-all : (rows : List Row) (strictness : Strictness)
-    (moment output depth exceptions metrics explain number compare least : Option (List ℕ))
+    (moment output depth : Option (List ℕ)) (exceptions : List (List ℕ))
+    (metrics explain number compare least : Option (List ℕ))
     (form : Form) (cache : List ℕ) (all : List (List ℕ)) → strictness ≡ strictness_of (is_given (codes "strict") rows)
     → moment ≡ first_of (codes "at") rows
     → output ≡ first_of (codes "output") rows → depth ≡ first_of (codes "depth") rows
-    → exceptions ≡ first_of (codes "exceptions") rows → metrics ≡ first_of (codes "metrics") rows
+    → exceptions ≡ files_or_none (all_of (codes "exceptions") rows) → metrics ≡ first_of (codes "metrics") rows
     → explain ≡ first_of (codes "explain") rows → number ≡ first_of (codes "as") rows
     → compare ≡ first_of (codes "compare") rows → least ≡ first_of (codes "least") rows
     → Some form ≡ form_of (first_of (codes "form") rows) → Some cache ≡ first_of (codes "cache") rows

@@ -1,14 +1,13 @@
 -- A run of what is asked for.
-use Rattle.std.proofs.Common.{◌≡◌, ◌⊎◌, ℕ, List, [], sym, subst, inl, inr}
+use Rattle.std.proofs.Common.{◌≡◌, ◌⊎◌, ℕ, List, [], ◌∷◌, sym, subst, inl, inr}
 use Rattle.std.specs.Io.KnownBytes.{Appends}
-use Rattle.rpki_payloads.specs.Exceptions.{AreExcepted}
 use Rattle.std.specs.Prelude.{Option, Some, None}
 use Rattle.jiff.specs.Types.{DateTime}
 use Rattle.rpki.specs.PublicKey.{KeyParts}
 use Rattle.rpki_validation.specs.Basis.{Basis}
 use Rattle.rpki_payloads.specs.Payloads.{PayloadParts}
-use Rattle.rpkivalid.specs.declared.excepted.Local.{Local}
-use Rattle.rpkivalid.specs.Excepted.{AreShown, Excepts, IsLocal}
+use Rattle.rpki_payloads.specs.declared.exceptions.NamedExceptions.{NamedExceptions}
+use Rattle.rpkivalid.specs.Excepted.{AreLocal, AreShown, Excepts}
 use Rattle.rpkivalid.specs.Locators.{Holds}
 use Rattle.rpkivalid.specs.Request.{Asked}
 use Rattle.rpkivalid.specs.Run.{IsReplyTo, IsRunOf}
@@ -26,13 +25,12 @@ given-run basis holds clock old new before after a text metrics wanted status h 
 given-run basis holds clock old new before after a text metrics wanted status h (inr k) = Denied k.0 k.1
 
 -- what is written is what is found, with the exceptions that are asked for
-pub shown-by : (holds : Holds) (word : Option (List ℕ)) (local : Option Local) (found shown : List PayloadParts)
-    → IsLocal holds word local → Excepts local found shown → AreShown holds word found shown
-shown-by holds None None found shown h e = e
-shown-by holds None (Some local) found shown h e = absurd h
-shown-by holds (Some path) None found shown h e = absurd h
-shown-by holds (Some path) (Some local) found shown h e =
-    (local.exceptions, h.1, subst (λ (n : List ℕ). AreExcepted local.exceptions n found shown) h.0 e)
+pub shown-by : (holds : Holds) (paths : List (List ℕ)) (local : List NamedExceptions) (found shown : List PayloadParts)
+    → AreLocal holds paths local → Excepts local found shown → AreShown holds paths found shown
+shown-by holds [] [] found shown h e = e
+shown-by holds [] (named ∷ all) found shown h e = absurd h.0
+shown-by holds (path ∷ paths) [] found shown h e = absurd h.0
+shown-by holds (path ∷ paths) (named ∷ all) found shown h e = (named ∷ all, h, e)
 
 -- a reply where the same file is to be compared
 pub reply-at : (basis : DateTime → ℕ → KeyParts → Basis) (holds : Holds) (clock : Option (Option DateTime)) (a : Asked)

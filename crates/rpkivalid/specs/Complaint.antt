@@ -112,9 +112,13 @@ is_among words option = list_any (names option) words
 abbrev pub is_option : List ℕ → Bool
 is_option word = starts_with nat_eq word (45 ∷ []) && nat_lt 1 (length word)
 
--- after `--tal` locators are named until the next option
-abbrev pub in_locators_after : Bool → List ℕ → Bool
-in_locators_after in_locators word = if is_option word then bytes_eq word (codes "--tal") else in_locators
+-- an option that may be given several times, and with several files
+abbrev pub takes_files : (option : List ℕ) → Bool
+takes_files option = bytes_eq option (codes "--tal") || bytes_eq option (codes "--exceptions")
+
+-- after one of these, alone, files are named until the next option
+abbrev pub in_files_after : Bool → List ℕ → Bool
+in_files_after in_files word = if is_option word then takes_files word else in_files
 
 -- ---- what is wrong
 
@@ -133,7 +137,7 @@ wrong_value option value =
 
 -- the option is among these words, and may be given once alone
 abbrev pub is_twice : List (List ℕ) → (option : List ℕ) → Bool
-is_twice before option = is_among before option && not (bytes_eq option (codes "--tal"))
+is_twice before option = is_among before option && not (takes_files option)
 
 -- of a word that is this option, `=` and a value
 unfoldable pub wrong_given : (option word : List ℕ) → Option (List ℕ)
@@ -152,15 +156,15 @@ abbrev pub wrong_option : (before : List (List ℕ)) → (word : List ℕ) → O
 wrong_option before word None = Some (unknown word)
 wrong_option before word (Some option) = wrong_named before option word
 
--- of a word that is no option, and no first value of one: only locators are named by several words
-abbrev pub wrong_plain : (in_locators : Bool) → (word : List ℕ) → Option (List ℕ)
-wrong_plain in_locators word = if in_locators then None else Some (no_option word)
+-- of a word that is no option, and no first value of one: only files are named by several words
+abbrev pub wrong_plain : (in_files : Bool) → (word : List ℕ) → Option (List ℕ)
+wrong_plain in_files word = if in_files then None else Some (no_option word)
 
 -- of a word after these words, of which the last may await it
 abbrev pub wrong_next : (before : List (List ℕ)) → Bool → (word : List ℕ) → Option (List ℕ) → Option (List ℕ)
-wrong_next before in_locators word None =
-    if is_option word then wrong_option before word (option_in word) else wrong_plain in_locators word
-wrong_next before in_locators word (Some option) =
+wrong_next before in_files word None =
+    if is_option word then wrong_option before word (option_in word) else wrong_plain in_files word
+wrong_next before in_files word (Some option) =
     if is_option word then Some (no_value option) else wrong_value option word
 
 -- of these words alone, of which none is wrong: there is no locator, or no folder
@@ -173,10 +177,10 @@ wrong_at_end words = wrong_last words (awaited words)
 
 -- of words after these
 unfoldable pub wrong_behind : (before : List (List ℕ)) → Bool → (words : List (List ℕ)) → List ℕ
-wrong_behind before in_locators [] = wrong_at_end before
-wrong_behind before in_locators (word ∷ words) =
-    unwrap_or (wrong_next before in_locators word (awaited before))
-    (wrong_behind (before ++ word ∷ []) (in_locators_after in_locators word) words)
+wrong_behind before in_files [] = wrong_at_end before
+wrong_behind before in_files (word ∷ words) =
+    unwrap_or (wrong_next before in_files word (awaited before))
+    (wrong_behind (before ++ word ∷ []) (in_files_after in_files word) words)
 
 -- what the program says of words that ask for nothing: what is wrong first, and how it is used
 abbrev pub complaint_text : List (List ℕ) → List ℕ

@@ -3,8 +3,11 @@ use denote.Bor.{Bor}
 use Rattle.std.specs.Prelude.{◌⊎◌, ◌++◌, ℕ, List, [], Option, codes, decimal, map, option_map, slice_get}
 use Rattle.std.specs.Option.{unwrap_or}
 use Rattle.rpki_der.specs.Prelude.{error_text}
+use Rattle.std.specs.Net.Text.{ip_text}
 use Rattle.rpki_locator.specs.declared.error.LocatorError.{LocatorError}
 use Rattle.rpki_locator.specs.declared.error.LocatorError.TheVariants as L
+use Rattle.rpki_payloads.specs.declared.conflict.Overlap.{Overlap}
+use Rattle.rpki_payloads.specs.declared.conflict.Overlap.TheVariants as O
 use Rattle.rpki_payloads.specs.declared.exceptions_text.ExceptionsError.{ExceptionsError}
 use Rattle.rpki_payloads.specs.declared.exceptions_text.ExceptionsError.TheVariants as E
 use Rattle.rpki_payloads.specs.declared.exceptions_text.Member.{Member}
@@ -13,6 +16,7 @@ use Rattle.rpki_payloads.specs.declared.exceptions_text.Member.TheVariants.{Asse
 use Rattle.rpki_payloads.specs.declared.payload_list.ListError.{ListError}
 use Rattle.rpki_payloads.specs.declared.payload_list.ListError.TheVariants as R
 use Rattle.rpki_payloads.specs.ExceptionsText.{member_name}
+use Rattle.rpki_resources.specs.Text.{prefix_text}
 use Rattle.rpkivalid.specs.declared.denial.Denial.{Denial}
 use Rattle.rpkivalid.specs.declared.denial.Denial.TheVariants as D
 use Rattle.rpkivalid.specs.Request.{Asked}
@@ -45,7 +49,8 @@ member_due m = codes "an array"
 
 -- with local exceptions: the rule, the member, and which element, counted from 0 on
 abbrev pub exceptions_text : ExceptionsError → List ℕ
-exceptions_text E.Json = codes "3.1: not JSON"
+exceptions_text (E.Json n) = codes "3.1: line " ++ (decimal n ++ codes ": not JSON")
+exceptions_text E.Twice = codes "3.1: a member twice in an object"
 exceptions_text E.Members =
     codes "3.2: not an object of slurmVersion, validationOutputFilters and locallyAddedAssertions"
 exceptions_text (E.Missing m) =
@@ -53,6 +58,14 @@ exceptions_text (E.Missing m) =
 exceptions_text (E.Element m i) =
     member_section m ++ (codes ": " ++ (member_name m ++ (codes "[" ++ (decimal i ++ codes "] is no such element"))))
 exceptions_text E.OutOfMemory = []
+
+-- what two files of them have in common, and may not
+abbrev pub overlap_text : Overlap → List ℕ
+overlap_text O.Name = codes "both have one name"
+overlap_text (O.Prefixes p q) =
+    codes "RFC 8416 4.2: " ++ (prefix_text (ip_text p.addr) p.len ++ (codes " and "
+    ++ (prefix_text (ip_text q.addr) q.len ++ codes " overlap")))
+overlap_text (O.Asn n) = codes "RFC 8416 4.2: both have router keys of AS" ++ decimal n
 
 -- with a list of payloads
 abbrev pub list_text : ListError → List ℕ
@@ -62,7 +75,7 @@ list_text (R.Element i) = codes "roas: not a payload: number " ++ decimal i
 list_text (R.Line n) = codes "line " ++ (decimal n ++ codes ": not a payload")
 list_text R.OutOfMemory = []
 
--- the file of this number among those of locators, and the file of exceptions or to be compared
+-- the file of this number among those of locators or of exceptions, and the file to be compared
 abbrev pub name_at : List (List ℕ) → ℕ → List ℕ
 name_at files i = unwrap_or (slice_get files i) []
 
@@ -72,7 +85,8 @@ name_in file = unwrap_or file []
 abbrev pub unread_text : List ℕ → List ℕ
 unread_text name = codes "rpkivalid: " ++ (name ++ codes ": cannot be read\n")
 
-abbrev pub denial_text : Denial → (files : List (List ℕ)) → (exceptions compare : Option (List ℕ)) → List ℕ
+abbrev pub denial_text : Denial → (files : List (List ℕ)) → (exceptions : List (List ℕ)) → (compare : Option (List ℕ))
+    → List ℕ
 denial_text D.NoMoment files exceptions compare =
     codes "rpkivalid: --at takes a moment such as 2026-11-27T12:00:00Z, or now\n"
 denial_text D.NoDepth files exceptions compare =
@@ -92,9 +106,12 @@ denial_text (D.NoLocator i e) files exceptions compare =
     codes "rpkivalid: " ++ (name_at files i ++ (codes ": RFC 8630 2.2: " ++ (locator_text e ++ codes "\n")))
 denial_text (D.SameName i) files exceptions compare =
     codes "rpkivalid: " ++ (name_at files i ++ codes ": another locator has its name\n")
-denial_text D.NoExceptions files exceptions compare = unread_text (name_in exceptions)
-denial_text (D.OtherExceptions e) files exceptions compare =
-    codes "rpkivalid: " ++ (name_in exceptions ++ (codes ": RFC 8416 " ++ (exceptions_text e ++ codes "\n")))
+denial_text (D.NoExceptions i) files exceptions compare = unread_text (name_at exceptions i)
+denial_text (D.InConflict c) files exceptions compare =
+    codes "rpkivalid: " ++ (name_at exceptions c.first ++ (codes " and " ++ (name_at exceptions c.second
+    ++ (codes ": " ++ (overlap_text c.overlap ++ codes "\n")))))
+denial_text (D.OtherExceptions i e) files exceptions compare =
+    codes "rpkivalid: " ++ (name_at exceptions i ++ (codes ": RFC 8416 " ++ (exceptions_text e ++ codes "\n")))
 denial_text D.NoList files exceptions compare = unread_text (name_in compare)
 denial_text (D.OtherList e) files exceptions compare =
     codes "rpkivalid: " ++ (name_in compare ++ (codes ": " ++ (list_text e ++ codes "\n")))

@@ -21,6 +21,8 @@ pub mod Question
 pub mod Explained
 pub mod Compared
 pub mod Run
+pub mod Sinks
+pub mod Program
 pub mod RequestView
 pub mod ComplaintView
 pub mod LocatorsView
@@ -29,3 +31,4 @@ pub mod WalkedView
 pub mod ExplainedView
 pub mod ComparedView
 pub mod RunView
+pub mod ProgramView

@@ -45,7 +45,7 @@ command_app =
     (with_rule (with_rule (with_rule (with_rule (with_rule (with_rule (with_rule command_alone help_flag)
     (flag (codes "version"))) (flag (codes "strict"))) (flag (codes "quiet"))) (valued (codes "cache")))
     (valued (codes "at"))) (valued (codes "form"))) (valued (codes "output"))) (valued (codes "log")))
-    (valued (codes "depth"))) (valued (codes "exceptions"))) (valued (codes "metrics"))) (valued (codes "explain")))
+    (valued (codes "depth"))) (listed (codes "exceptions"))) (valued (codes "metrics"))) (valued (codes "explain")))
     (valued (codes "as"))) (valued (codes "compare"))) (valued (codes "least"))) (listed (codes "tal"))
 
 -- what `clap` matches in the words; None where it finds a fault in them
@@ -81,15 +81,19 @@ some_files None = None
 some_files (Some []) = None
 some_files (Some (file ∷ files)) = Some (file ∷ files)
 
+-- the files, of which there may be none
+abbrev pub files_or_none : Option (List (List ℕ)) → List (List ℕ)
+files_or_none files = unwrap_or files []
+
 -- all rules are asked strictly, or none
 abbrev pub strictness_of : Bool → Strictness
 strictness_of true = all_strict
 strictness_of false = none_strict
 
 -- how payloads are written, which rules are asked strictly, the folder of the copy, the text of the moment,
--- the file to write, the text of the depth, the file of local exceptions, the file of metrics, what is to be explained,
--- the text of an AS number, the file that another validator wrote, the text of the least number of route origins, and
--- the files of locators
+-- the file to write, the text of the depth, the files of local exceptions, the file of metrics, what is to be
+-- explained, the text of an AS number, the file that another validator wrote, the text of the least number of route
+-- origins, and the files of locators
 pub record Asked : Type 0 where
   pub form : Form
   pub strictness : Strictness
@@ -97,7 +101,7 @@ pub record Asked : Type 0 where
   pub moment : Option (List ℕ)
   pub output : Option (List ℕ)
   pub depth : Option (List ℕ)
-  pub exceptions : Option (List ℕ)
+  pub exceptions : List (List ℕ)
   pub metrics : Option (List ℕ)
   pub explain : Option (List ℕ)
   pub number : Option (List ℕ)
@@ -105,7 +109,7 @@ pub record Asked : Type 0 where
   pub least : Option (List ℕ)
   pub locators : List (List ℕ)
 
-abbrev pub asked : Strictness → Option (List ℕ) → Option (List ℕ) → Option (List ℕ) → Option (List ℕ)
+abbrev pub asked : Strictness → Option (List ℕ) → Option (List ℕ) → Option (List ℕ) → List (List ℕ)
     → Option (List ℕ) → Option (List ℕ) → Option (List ℕ) → Option (List ℕ) → Option (List ℕ) → Form → List ℕ
     → List (List ℕ) → Asked
 asked strictness moment output depth exceptions metrics explain number compare least form cache locators = record {
@@ -130,7 +134,7 @@ abbrev pub request_of : List Row → Option Asked
 request_of rows =
     option_and_then (λ form. option_and_then (λ cache. option_map
     (asked (strictness_of (is_given (codes "strict") rows)) (first_of (codes "at") rows)
-    (first_of (codes "output") rows) (first_of (codes "depth") rows) (first_of (codes "exceptions") rows)
+    (first_of (codes "output") rows) (first_of (codes "depth") rows) (files_or_none (all_of (codes "exceptions") rows))
     (first_of (codes "metrics") rows) (first_of (codes "explain") rows) (first_of (codes "as") rows)
     (first_of (codes "compare") rows) (first_of (codes "least") rows) form cache)
     (some_files (all_of (codes "tal") rows)))

@@ -8,7 +8,7 @@ use Rattle.rpkivalid.specs.Request.{Asked, asked, Wanted, help, version, payload
 abbrev pub asked_of : Request → Asked
 asked_of r =
     asked r.strictness (option_map (λ word. word.now) r.moment) (option_map (λ name. name.now) r.output)
-    (option_map (λ word. word.now) r.depth) (option_map (λ name. name.now) r.exceptions)
+    (option_map (λ word. word.now) r.depth) (map (λ file. file.now) r.exceptions.now)
     (option_map (λ name. name.now) r.metrics) (option_map (λ word. word.now) r.explain)
     (option_map (λ word. word.now) r.number) (option_map (λ name. name.now) r.compare)
     (option_map (λ word. word.now) r.least) r.form r.cache.now

@@ -24,6 +24,6 @@ abbrev pub usage_text : List ℕ
 usage_text =
     codes "usage: rpkivalid --tal FILE.. --cache FOLDER [--at MOMENT] "
     ++ codes "[--form csv|json|stayrtr|rpki-client|openbgpd|openbgpd-origins|bird] "
-    ++ codes "[--output FILE] [--least NUMBER] [--exceptions FILE] [--metrics FILE] "
+    ++ codes "[--output FILE] [--least NUMBER] [--exceptions FILE..] [--metrics FILE] "
     ++ codes "[--depth N] [--strict] [--quiet] [--log FILE] "
     ++ codes "[--explain URI|PREFIX [--as NUMBER]] [--compare FILE]\n"

@@ -3,8 +3,8 @@
 ghost use Rattle.std.specs.Prelude.{◌≡◌, [], bytes_eq, string_bytes, drop, false, option_map, IfOk};
 ghost use Rattle.std.specs.List.{list_any};
 ghost use Rattle.rpkivalid.specs.Complaint.{said, is_end, is_of, flag_in, file_option_in, value_option_in, valued_in};
-ghost use Rattle.rpkivalid.specs.Complaint.{option_in, takes_value, names, is_among, is_option, in_locators_after};
-ghost use Rattle.rpkivalid.specs.Complaint.{awaited, is_twice, wrong_given, wrong_value, wrong_named};
+ghost use Rattle.rpkivalid.specs.Complaint.{option_in, takes_value, names, is_among, is_option, in_files_after};
+ghost use Rattle.rpkivalid.specs.Complaint.{awaited, is_twice, takes_files, wrong_given, wrong_value, wrong_named};
 ghost use Rattle.rpkivalid.specs.Complaint.{wrong_option, wrong_plain, wrong_next, wrong_at_end, wrong_behind};
 ghost use Rattle.rpkivalid.specs.ComplaintView.{text_of, texts_of, complaint_of};
 
@@ -220,11 +220,18 @@ fn wrong_value<'a>(option: &[u8], value: &'a [u8]) -> Option<Wrong<'a>>
     None
 }
 
+/// Whether the option may be given several times, and with several files.
+fn takes_files(option: &[u8]) -> bool
+    ensures { result ≡ takes_files option.now }
+{
+    is(option, b"--tal") || is(option, b"--exceptions")
+}
+
 /// Whether the option is among the words, and may be given once alone.
 fn is_twice(before: &[String], option: &[u8]) -> bool
     ensures { result ≡ is_twice (texts_of before.now) option.now }
 {
-    is_among(before, option) && !is(option, b"--tal")
+    is_among(before, option) && !takes_files(option)
 }
 
 /// What is wrong with a word that is this option, and a value after the sign of equality.
@@ -261,11 +268,11 @@ fn wrong_option<'a>(before: &[String], word: &'a [u8]) -> Option<Wrong<'a>>
     }
 }
 
-/// What is wrong with a word that is no option and no first value, where this is whether the locators are being named.
-fn wrong_plain(in_locators: bool, word: &[u8]) -> Option<Wrong<'_>>
-    ensures { option_map text_of result ≡ wrong_plain in_locators word.entry.now }
+/// What is wrong with a word that is no option and no first value, where this is whether files are being named.
+fn wrong_plain(in_files: bool, word: &[u8]) -> Option<Wrong<'_>>
+    ensures { option_map text_of result ≡ wrong_plain in_files word.entry.now }
 {
-    if in_locators {
+    if in_files {
         None
     } else {
         Some(said(b"not an option: ", word, b""))
@@ -273,9 +280,9 @@ fn wrong_plain(in_locators: bool, word: &[u8]) -> Option<Wrong<'_>>
 }
 
 /// What is wrong with a word after these words.
-fn wrong_next<'a>(before: &'a [String], in_locators: bool, word: &'a [u8]) -> Option<Wrong<'a>>
+fn wrong_next<'a>(before: &'a [String], in_files: bool, word: &'a [u8]) -> Option<Wrong<'a>>
     ensures { option_map text_of result
-        ≡ wrong_next (texts_of before.entry.now) in_locators word.entry.now (awaited (texts_of before.entry.now)) }
+        ≡ wrong_next (texts_of before.entry.now) in_files word.entry.now (awaited (texts_of before.entry.now)) }
 {
     match awaited(before) {
         Some(option) => {
@@ -289,20 +296,20 @@ fn wrong_next<'a>(before: &'a [String], in_locators: bool, word: &'a [u8]) -> Op
             if is_option(word) {
                 wrong_option(before, word)
             } else {
-                wrong_plain(in_locators, word)
+                wrong_plain(in_files, word)
             }
         }
     }
 }
 
-/// Whether locators are being named after the word, where this is whether they were before it.
-fn in_locators_after(in_locators: bool, word: &[u8]) -> bool
-    ensures { result ≡ in_locators_after in_locators word.now }
+/// Whether files are being named after the word, where this is whether they were before it.
+fn in_files_after(in_files: bool, word: &[u8]) -> bool
+    ensures { result ≡ in_files_after in_files word.now }
 {
     if is_option(word) {
-        is(word, b"--tal")
+        takes_files(word)
     } else {
-        in_locators
+        in_files
     }
 }
 
@@ -326,14 +333,14 @@ fn wrong_at_end(words: &[String]) -> Wrong<'_>
 fn wrong_in(words: &[String]) -> Wrong<'_>
     ensures { text_of result ≡ wrong_behind [] false (texts_of words.entry.now) }
 {
-    let mut in_locators = false;
+    let mut in_files = false;
     for at in 0..words.len() {
         let (before, _) = words.split_at(at);
         let word = words[at].as_bytes();
-        if let Some(wrong) = wrong_next(before, in_locators, word) {
+        if let Some(wrong) = wrong_next(before, in_files, word) {
             return wrong;
         }
-        in_locators = in_locators_after(in_locators, word);
+        in_files = in_files_after(in_files, word);
     }
     wrong_at_end(words)
 }

@@ -3,13 +3,13 @@
 ghost use Rattle.std.specs.Prelude.{◌≡◌, IfOk, string_bytes};
 ghost use Rattle.rpkivalid.specs.Denied.{denial_text, exceptions_text, list_text, locator_text, member_due};
 ghost use Rattle.rpkivalid.specs.Denied.{member_section, name_at, name_in};
-ghost use Rattle.rpkivalid.specs.Denied.{name_of, names_of, unread_text};
+ghost use Rattle.rpkivalid.specs.Denied.{name_of, names_of, overlap_text, unread_text};
 
 use crate::texts::{
     NO_ANCHOR, NO_DEPTH, NO_LEAST, NO_MOMENT, NO_ROUTE, NO_URI, OUT_OF_MEMORY, TOO_FEW,
 };
 use rpki_locator::LocatorError;
-use rpki_payloads::{ExceptionsError, ListError, Member};
+use rpki_payloads::{Conflict, ExceptionsError, ListError, Member, Overlap};
 use std::alloc::{AllocError, AllocFailed, Global};
 
 /// Why nothing is written.
@@ -35,10 +35,12 @@ pub enum Denial {
     NoLocator(usize, LocatorError),
     /// Another locator has the name of that in the file of this number.
     SameName(usize),
-    /// There is no file of local exceptions, or it can't be read.
-    NoExceptions,
-    /// What is in that file is no file of local exceptions.
-    OtherExceptions(ExceptionsError),
+    /// There is no file of this number among those of local exceptions, or it can't be read.
+    NoExceptions(usize),
+    /// What is in the file of this number are no local exceptions.
+    OtherExceptions(usize, ExceptionsError),
+    /// Two files of local exceptions are in conflict.
+    InConflict(Conflict),
     /// There is no file to be compared, or it can't be read.
     NoList,
     /// What is in that file lists no payloads.
@@ -127,7 +129,8 @@ fn deviation_of(alloc: Global, e: ExceptionsError) -> Result<String, AllocError>
     ensures { IfOk result (λ text. string_bytes text ≡ exceptions_text e) }
 {
     match e {
-        ExceptionsError::Json => String::from_str(alloc, "3.1: not JSON"),
+        ExceptionsError::Json(line) => format!(in alloc; "3.1: line {line}: not JSON"),
+        ExceptionsError::Twice => String::from_str(alloc, "3.1: a member twice in an object"),
         ExceptionsError::Members => String::from_str(
             alloc,
             "3.2: not an object of slurmVersion, validationOutputFilters and locallyAddedAssertions",
@@ -141,6 +144,19 @@ fn deviation_of(alloc: Global, e: ExceptionsError) -> Result<String, AllocError>
             format!(in alloc; "{section}: {name}[{at}] is no such element")
         }
         ExceptionsError::OutOfMemory => Err(AllocError),
+    }
+}
+
+/// What two files of local exceptions have in common, and may not.
+fn overlap_of(alloc: Global, overlap: Overlap) -> Result<String, AllocError>
+    ensures { IfOk result (λ text. string_bytes text ≡ overlap_text overlap) }
+{
+    match overlap {
+        Overlap::Name => String::from_str(alloc, "both have one name"),
+        Overlap::Prefixes(one, other) => format!(in alloc;
+            "RFC 8416 4.2: {one} and {other} overlap"
+        ),
+        Overlap::Asn(asn) => format!(in alloc; "RFC 8416 4.2: both have router keys of AS{asn}"),
     }
 }
 
@@ -176,18 +192,18 @@ fn unread(alloc: Global, file: &str) -> Result<Vec<u8>, AllocError>
 }
 
 impl Denial {
-    /// What a person reads of it, as a line, where these are the files of locators, that of local exceptions, and
-    /// that to be compared.
+    /// What a person reads of it, as a line, where these are the files of locators, those of local exceptions,
+    /// and that to be compared.
     ///
     /// Returns `AllocError` if allocation fails.
     pub fn text(
         self,
         alloc: Global,
         files: &[&str],
-        exceptions: Option<&str>,
+        exceptions: &[&str],
         compare: Option<&str>,
     ) -> Result<Vec<u8>, AllocError>
-        ensures { IfOk result (λ text. text.items ≡ denial_text self (names_of files.now) (name_of exceptions.entry)
+        ensures { IfOk result (λ text. text.items ≡ denial_text self (names_of files.now) (names_of exceptions.now)
             (name_of compare.entry)) }
     {
         match self {
@@ -210,11 +226,18 @@ impl Denial {
                 let text = format!(in alloc; "rpkivalid: {file}: another locator has its name\n")?;
                 Ok(text.into_bytes())
             }
-            Denial::NoExceptions => unread(alloc, name_in(exceptions)),
-            Denial::OtherExceptions(e) => {
-                let file = name_in(exceptions);
+            Denial::NoExceptions(at) => unread(alloc, file_at(exceptions, at)),
+            Denial::OtherExceptions(at, e) => {
+                let file = file_at(exceptions, at);
                 let fault = deviation_of(alloc, e)?;
                 let text = format!(in alloc; "rpkivalid: {file}: RFC 8416 {fault}\n")?;
+                Ok(text.into_bytes())
+            }
+            Denial::InConflict(conflict) => {
+                let first = file_at(exceptions, conflict.first);
+                let second = file_at(exceptions, conflict.second);
+                let fault = overlap_of(alloc, conflict.overlap)?;
+                let text = format!(in alloc; "rpkivalid: {first} and {second}: {fault}\n")?;
                 Ok(text.into_bytes())
             }
             Denial::NoList => unread(alloc, name_in(compare)),

@@ -1,56 +1,78 @@
 //! Local exceptions that are asked for (RFC 8416).
 
-ghost use Rattle.std.specs.Prelude.{◌≡◌, IfOk, string_bytes};
-ghost use Rattle.std.specs.Option.{option_map};
-ghost use Rattle.rpkivalid.specs.Excepted.{AreExceptionsAt, Excepts, IsLocal};
-ghost use Rattle.rpkivalid.specs.Locators.{name_of};
+ghost use Rattle.std.specs.Prelude.{◌≡◌, IfOk, map};
+ghost use Rattle.rpkivalid.specs.Excepted.{AddsFile, AreFilesIn, AreLocal, Excepts, IsFileIn};
 
 use crate::denial::Denial;
 use crate::locators::name_of;
 use crate::sources::Sources;
-use rpki_payloads::{Exceptions, ExceptionsError, Payloads};
+use rpki_payloads::{
+    Exceptions, ExceptionsError, NamedExceptions, Payloads, conflict_in, excepted,
+};
 use std::alloc::{AllocError, Global};
 
-/// Local exceptions, and the name of what they add.
-#[derive(Drop)]
-pub struct Local {
-    /// The name.
-    pub name: String,
-    /// The exceptions.
-    pub exceptions: Exceptions,
-}
-
-/// The exceptions in the file.
-fn local_in<S: Sources>(alloc: Global, sources: &S, file: &str) -> Result<Local, Denial>
-    ensures { IfOk result (λ local. (string_bytes local.name ≡ name_of file.now)
-        × AreExceptionsAt (S.holds sources.now) file.now local.exceptions) }
+/// The exceptions in the file, which has this number, under its name.
+fn exceptions_at<S: Sources>(
+    alloc: Global,
+    sources: &S,
+    file: &str,
+    number: usize,
+) -> Result<NamedExceptions, Denial>
+    ensures { IfOk result (IsFileIn (S.holds sources.now) file.now) }
 {
     let Some(octets) = sources.read(alloc, file)? else {
-        return Err(Denial::NoExceptions);
+        return Err(Denial::NoExceptions(number));
     };
     let exceptions = match Exceptions::read(alloc, octets.as_slice()) {
         Ok(exceptions) => exceptions,
         Err(ExceptionsError::OutOfMemory) => return Err(Denial::OutOfMemory),
-        Err(e) => return Err(Denial::OtherExceptions(e)),
+        Err(e) => return Err(Denial::OtherExceptions(number, e)),
     };
     let name = String::from_str(alloc, name_of(file))?;
-    Ok(Local { name, exceptions })
+    Ok(NamedExceptions { name, exceptions })
 }
 
-/// The exceptions in the file of this name, if there is one, and its name.
+/// Adds the exceptions in the file.
+fn push_exceptions<S: Sources>(
+    alloc: Global,
+    sources: &S,
+    file: &&str,
+    all: &mut Vec<NamedExceptions>,
+) -> Result<(), Denial>
+    ensures { IfOk result (λ _. AddsFile (S.holds sources.now) file.now.now all.old.items all.new.items) }
+{
+    let named = exceptions_at(alloc, sources, *file, all.len())?;
+    all.push(named)?;
+    Ok(())
+}
+
+/// The exceptions in the files, in their order.
+fn all_exceptions<S: Sources>(
+    alloc: Global,
+    sources: &S,
+    files: &[&str],
+) -> Result<Vec<NamedExceptions>, Denial>
+    ensures { IfOk result (λ all. AreFilesIn (S.holds sources.now) files.now all.items) }
+{
+    let mut all = Vec::new(alloc);
+    'files: for file in files {
+        push_exceptions(alloc, sources, file, &mut all)?;
+    }
+    Ok(all)
+}
+
+/// The exceptions in the files of these names, in their order, no two of which are in conflict (RFC 8416 4.2).
 pub fn exceptions_in<S: Sources>(
     alloc: Global,
     sources: &S,
-    file: Option<&str>,
-) -> Result<Option<Local>, Denial>
-    ensures { IfOk result (IsLocal (S.holds sources.now) (option_map (λ file. file.now) file.entry)) }
+    files: &[&str],
+) -> Result<Vec<NamedExceptions>, Denial>
+    ensures { IfOk result (λ all. AreLocal (S.holds sources.now) (map (λ file. file.now) files.now) all.items) }
 {
-    match file {
-        Some(file) => {
-            let local = local_in(alloc, sources, file)?;
-            Ok(Some(local))
-        }
-        None => Ok(None),
+    let all = all_exceptions(alloc, sources, files)?;
+    match conflict_in(alloc, all.as_slice())? {
+        Some(conflict) => Err(Denial::InConflict(conflict)),
+        None => Ok(all),
     }
 }
 
@@ -59,16 +81,13 @@ pub fn exceptions_in<S: Sources>(
 /// Returns `AllocError` if allocation fails.
 pub fn shown_of(
     alloc: Global,
-    local: Option<Local>,
+    local: Vec<NamedExceptions>,
     found: Vec<Payloads>,
 ) -> Result<Vec<Payloads>, AllocError>
-    ensures { IfOk result (λ shown. Excepts local found.items shown.items) }
+    ensures { IfOk result (λ shown. Excepts local.items found.items shown.items) }
 {
-    match local {
-        Some(local) => {
-            let Local { name, exceptions } = local;
-            exceptions.apply(alloc, name, found.as_slice())
-        }
-        None => Ok(found),
+    if local.is_empty() {
+        return Ok(found);
     }
+    excepted(alloc, local.as_slice(), found.as_slice())
 }

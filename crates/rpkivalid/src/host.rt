@@ -1,6 +1,7 @@
 //! The host's files, and its clock.
 
 use crate::input::{Copied, Unread, read_regular};
+use crate::request::{Request, is_given, matched};
 use crate::sources::Sources;
 use bytes::Bytes;
 use jiff::SignedDuration;
@@ -20,7 +21,7 @@ const MOST_LISTED: u64 = 1_073_741_824;
 
 /// The files of the host, and its clock.
 #[derive(Drop)]
-pub struct Host<'a> {
+pub struct HostSources<'a> {
     rt: &'a HostRuntime,
     /// The moment of the clock, which is read once.
     at: Option<Time>,
@@ -84,12 +85,27 @@ fn capitals_in(rt: &HostRuntime, folder: Option<&str>) -> Result<BTreeSet<String
     Ok(capitals)
 }
 
-impl<'a> Host<'a> {
-    /// The host, where the copy is in this folder, if one is asked for. It is told where it isn't there.
+/// The folder of the copy, if the words ask for a run.
+fn folder_of<'a>(alloc: Global, words: &'a [String]) -> Result<Option<&'a str>, AllocError> {
+    let Some(matches) = matched(alloc, words)? else {
+        return Ok(None);
+    };
+    if is_given(&matches, "help") || is_given(&matches, "version") {
+        return Ok(None);
+    }
+    match Request::of(&matches) {
+        Some(request) => Ok(Some(request.cache)),
+        None => Ok(None),
+    }
+}
+
+impl<'a> HostSources<'a> {
+    /// The host, for a run that these words ask for. It is told where the folder of the copy isn't there.
     ///
     /// Returns `AllocError` if allocation fails.
-    pub fn new(rt: &'a HostRuntime, folder: Option<&'a str>) -> Result<Host<'a>, AllocError> {
-        let host = Host {
+    pub fn new(rt: &'a HostRuntime, words: &'a [String]) -> Result<HostSources<'a>, AllocError> {
+        let folder = folder_of(rt.alloc(), words)?;
+        let host = HostSources {
             rt,
             at: moment_of(rt),
             begun: seconds_since_1970(rt),
@@ -104,16 +120,6 @@ impl<'a> Host<'a> {
             host.add(host.copied.name(), why)?;
         }
         Ok(host)
-    }
-
-    /// What was told until now, a line each.
-    ///
-    /// Returns `AllocError` if allocation fails.
-    pub fn said(&self, alloc: Global) -> Result<Vec<u8>, AllocError> {
-        match self.lines.try_borrow() {
-            Ok(lines) => Vec::from_slice(alloc, lines.as_slice()),
-            Err(_) => Ok(Vec::new(alloc)),
-        }
     }
 
     /// Adds a line that says why the path isn't read.
@@ -171,7 +177,7 @@ impl<'a> Host<'a> {
     }
 }
 
-impl Host<'_> {
+impl HostSources<'_> {
     /// The same; where there is none, of a file of the copy the one in a folder whose name is that of the host in other
     /// letters, the first in the order of their octets.
     fn read_up_to(
@@ -200,7 +206,7 @@ impl Host<'_> {
     }
 }
 
-impl Sources for Host<'_> {
+impl Sources for HostSources<'_> {
     ghost use Rattle.std.specs.Prelude.{None, Some};
 
     ghost holds = { λ _. None };
@@ -217,6 +223,13 @@ impl Sources for Host<'_> {
 
     fn is_read(&self) -> bool {
         self.read.get()
+    }
+
+    fn unread(&self, alloc: Global) -> Result<Vec<u8>, AllocError> {
+        match self.lines.try_borrow() {
+            Ok(lines) => Vec::from_slice(alloc, lines.as_slice()),
+            Err(_) => Ok(Vec::new(alloc)),
+        }
     }
 
     fn seconds(&self) -> u64 {

@@ -15,17 +15,16 @@ mod gathered;
 mod host;
 mod input;
 mod locators;
-mod log;
 mod moment;
-mod output;
 mod paths;
-mod put;
+mod program;
 mod question;
 mod reasons;
 mod refused;
 mod report;
 mod request;
 mod run;
+mod sinks;
 mod sources;
 mod texts;
 mod told;
@@ -33,18 +32,20 @@ mod walked;
 mod without;
 
 use crate::arguments::words_of;
-use crate::output::run_to;
-use crate::run::{give_up, say};
+use crate::host::HostSources;
+use crate::program::{give_up, run_to, say};
+use rpki_cli::host::Host;
 use std::env;
 use std::process::ExitCode;
 
 fn main(rt: HostRuntime) -> ExitCode {
+    let mut machine = Host::new(&rt);
     let status = match words_of(rt.alloc(), env::args(&rt)) {
-        Ok(words) => match run_to(&rt, words.as_slice()) {
-            Ok(status) => status,
-            Err(_) => give_up(&mut rt.stderr()),
+        Ok(words) => match HostSources::new(&rt, words.as_slice()) {
+            Ok(sources) => run_to(rt.alloc(), words.as_slice(), &sources, &mut machine),
+            Err(_) => give_up(&mut machine),
         },
-        Err(wordless) => say(wordless, &mut rt.stderr()),
+        Err(wordless) => say(wordless, &mut machine),
     };
     ExitCode::from(status)
 }

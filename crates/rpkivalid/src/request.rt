@@ -3,7 +3,7 @@
 ghost use Rattle.std.specs.Prelude.{◌≡◌, bytes_eq, map, codes, IfOk, false, option_map, string_bytes};
 ghost use Rattle.clap.specs.Words.{all_of, app_of, first_of, rule_of};
 ghost use Rattle.rpkivalid.specs.Request.{flag, help_flag, valued, listed, command_app, matched, is_given};
-ghost use Rattle.rpkivalid.specs.Request.{form_named, form_of, some_files, strictness_of, request_of};
+ghost use Rattle.rpkivalid.specs.Request.{files_or_none, form_named, form_of, some_files, strictness_of, request_of};
 ghost use Rattle.rpkivalid.specs.RequestView.{asked_of, rows_in};
 
 use clap::error::ErrorKind;
@@ -27,8 +27,8 @@ pub struct Request<'m, 'a> {
     pub output: Option<&'a str>,
     /// The text of the number of authorities that a path has at most below a trust anchor.
     pub depth: Option<&'a str>,
-    /// The name of the file of local exceptions.
-    pub exceptions: Option<&'a str>,
+    /// The names of the files of local exceptions.
+    pub exceptions: &'m [&'a str],
     /// The name of the file of metrics to write.
     pub metrics: Option<&'a str>,
     /// What is to be explained: a URI, or a prefix.
@@ -98,7 +98,7 @@ fn command<'a>(alloc: Global) -> Result<Command<'a>, AllocError>
         .arg(valued(alloc, "output"))?
         .arg(valued(alloc, "log"))?
         .arg(valued(alloc, "depth"))?
-        .arg(valued(alloc, "exceptions"))?
+        .arg(listed(alloc, "exceptions"))?
         .arg(valued(alloc, "metrics"))?
         .arg(valued(alloc, "explain"))?
         .arg(valued(alloc, "as"))?
@@ -189,6 +189,17 @@ fn some_files<'m, 'a>(files: Option<&'m [&'a str]>) -> Option<&'m [&'a str]>
     }
 }
 
+/// These files, or none.
+fn files_or_none<'m, 'a>(files: Option<&'m [&'a str]>) -> &'m [&'a str]
+    ensures { map (λ file. file.now) result.now
+        ≡ files_or_none (option_map (λ files. map (λ file. file.now) files.now) files.entry) }
+{
+    match files {
+        Some(files) => files,
+        None => &[],
+    }
+}
+
 /// All rules are asked strictly, or none.
 fn strictness_of(strict: bool) -> Strictness
     ensures { result ≡ strictness_of strict }
@@ -215,7 +226,7 @@ impl<'m, 'a> Request<'m, 'a> {
             moment: matches.get_str("at"),
             output: matches.get_str("output"),
             depth: matches.get_str("depth"),
-            exceptions: matches.get_str("exceptions"),
+            exceptions: files_or_none(matches.get_raw("exceptions")),
             metrics: matches.get_str("metrics"),
             explain: matches.get_str("explain"),
             number: matches.get_str("as"),

@@ -6,7 +6,7 @@ use std::alloc::{AllocError, Global};
 
 /// Files by their paths, and a clock.
 pub trait Sources {
-    ghost use Rattle.std.specs.Prelude.{◌≡◌, ℕ, List, Option, true, IfSome, IfOk};
+    ghost use Rattle.std.specs.Prelude.{◌≡◌, [], ℕ, List, Option, true, IfSome, IfOk};
     ghost use Rattle.jiff.specs.Types.{DateTime};
 
     // What there is by a path: the octets, or None where there is no file; or nothing is said of it.
@@ -30,6 +30,12 @@ pub trait Sources {
     /// Whether each file that is there could be read, until now.
     fn is_read(&self) -> bool
         ensures { IfSome (holds self.now) (λ _. result ≡ true) };
+
+    /// Lines that say what was there and could not be read, until now, each with its path.
+    ///
+    /// Returns `AllocError` if allocation fails.
+    fn unread(&self, alloc: Global) -> Result<Vec<u8>, AllocError>
+        ensures { IfSome (holds self.now) (λ _. IfOk result (λ lines. lines.items ≡ [])) };
 
     /// How many seconds it took until now, whole ones.
     fn seconds(&self) -> u64;

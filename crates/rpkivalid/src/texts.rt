@@ -3,7 +3,7 @@
 /// How the program is used.
 pub const USAGE: &[u8] = b"usage: rpkivalid --tal FILE.. --cache FOLDER [--at MOMENT] \
 [--form csv|json|stayrtr|rpki-client|openbgpd|openbgpd-origins|bird] \
-[--output FILE] [--least NUMBER] [--exceptions FILE] [--metrics FILE] \
+[--output FILE] [--least NUMBER] [--exceptions FILE..] [--metrics FILE] \
 [--depth N] [--strict] [--quiet] [--log FILE] \
 [--explain URI|PREFIX [--as NUMBER]] [--compare FILE]\n";
 
@@ -48,7 +48,7 @@ rpkivalid - validate a local copy of a repository of the RPKI
 
 usage: rpkivalid --tal FILE.. --cache FOLDER [--at MOMENT]
                  [--form F] [--output FILE] [--least NUMBER]
-                 [--exceptions FILE] [--metrics FILE] [--depth N] [--strict]
+                 [--exceptions FILE..] [--metrics FILE] [--depth N] [--strict]
                  [--quiet] [--log FILE]
                  [--explain URI|PREFIX [--as NUMBER]] [--compare FILE]
        rpkivalid -h | --help
@@ -76,12 +76,13 @@ payloads there are.
   --output FILE   write to FILE, whole or not at all; -, and without it, standard
                   output. What is there and no regular file is written to
   --least NUMBER  write nothing where there are fewer route origins
-  --exceptions FILE
+  --exceptions FILE..
                   local exceptions (RFC 8416): take away what its filters match,
-                  and add its assertions, under the name of the file
+                  and add its assertions, under the name of the file; of several
+                  what all say, where no two are in conflict
   --metrics FILE  write to FILE what is counted for each locator (OpenMetrics): its
-                  trust anchor, payloads, and what is rejected; and when that was,
-                  how long it took, and the version
+                  trust anchor, payloads, and what is rejected, for which reasons;
+                  and when that was, how long it took, and the version
   --depth N       at most N authorities below a trust anchor; 32 by default
   --strict        hold names to their profile, signed objects to RFC 9589, and
                   the families of a route origin to their order

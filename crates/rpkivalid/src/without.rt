@@ -40,6 +40,10 @@ impl<S: Sources> Sources for Without<'_, S> {
         self.sources.is_read()
     }
 
+    fn unread(&self, alloc: Global) -> Result<Vec<u8>, AllocError> {
+        self.sources.unread(alloc)
+    }
+
     fn seconds(&self) -> u64 {
         self.sources.seconds()
     }

@@ -6,4 +6,4 @@ pub returns : goal.returns
 unfolding locator_families
 returns c =
     then-four _ _ _ _ _ _ _ _ _ c.in_ok-push_anchor_family.ensures c.in_ok-push_payload_family.ensures
-    c.in_ok-push_rejected_family.ensures c.in_ok-push_end_family.ensures
+    c.in_ok-push_rejection_families.ensures c.in_ok-push_end_family.ensures

@@ -6,5 +6,5 @@ use Rattle.rpkivalid.proofs.complaint.wrong_in.Given as goal
 -- nothing is wrong with the words in front
 abbrev pub invariant-loop-at : goal.invariant-loop-at
 invariant-loop-at l =
-    wrong_behind (texts_of (take l.at l.words)) l.in_locators (texts_of (drop l.at l.words))
+    wrong_behind (texts_of (take l.at l.words)) l.in_files (texts_of (drop l.at l.words))
     ≡ wrong_behind [] false (texts_of l.words)

@@ -23,17 +23,17 @@ returns c =
     let output = c.in_ok-arg-8.ensures.shape c.valued-4.ensures.local ∙ ap₂ with_rule form c.valued-4.ensures.rule in
     let log = c.in_ok-arg-9.ensures.shape c.valued-5.ensures.local ∙ ap₂ with_rule output c.valued-5.ensures.rule in
     let depth = c.in_ok-arg-10.ensures.shape c.valued-6.ensures.local ∙ ap₂ with_rule log c.valued-6.ensures.rule in
-    let exceptions = c.in_ok-arg-11.ensures.shape c.valued-7.ensures.local
-    ∙ ap₂ with_rule depth c.valued-7.ensures.rule in
-    let metrics = c.in_ok-arg-12.ensures.shape c.valued-8.ensures.local
-    ∙ ap₂ with_rule exceptions c.valued-8.ensures.rule in
-    let explain = c.in_ok-arg-13.ensures.shape c.valued-9.ensures.local
-    ∙ ap₂ with_rule metrics c.valued-9.ensures.rule in
-    let number = c.in_ok-arg-14.ensures.shape c.valued-10.ensures.local
-    ∙ ap₂ with_rule explain c.valued-10.ensures.rule in
-    let compare = c.in_ok-arg-15.ensures.shape c.valued-11.ensures.local
-    ∙ ap₂ with_rule number c.valued-11.ensures.rule in
-    let least = c.in_ok-arg-16.ensures.shape c.valued-12.ensures.local
-    ∙ ap₂ with_rule compare c.valued-12.ensures.rule in
-    IfOk-weaker c.arg-17.result _ _ (λ r h. h.shape c.listed.ensures.local
-    ∙ ap₂ with_rule least c.listed.ensures.rule) c.arg-17.ensures
+    let exceptions = c.in_ok-arg-11.ensures.shape c.listed.ensures.local
+    ∙ ap₂ with_rule depth c.listed.ensures.rule in
+    let metrics = c.in_ok-arg-12.ensures.shape c.valued-7.ensures.local
+    ∙ ap₂ with_rule exceptions c.valued-7.ensures.rule in
+    let explain = c.in_ok-arg-13.ensures.shape c.valued-8.ensures.local
+    ∙ ap₂ with_rule metrics c.valued-8.ensures.rule in
+    let number = c.in_ok-arg-14.ensures.shape c.valued-9.ensures.local
+    ∙ ap₂ with_rule explain c.valued-9.ensures.rule in
+    let compare = c.in_ok-arg-15.ensures.shape c.valued-10.ensures.local
+    ∙ ap₂ with_rule number c.valued-10.ensures.rule in
+    let least = c.in_ok-arg-16.ensures.shape c.valued-11.ensures.local
+    ∙ ap₂ with_rule compare c.valued-11.ensures.rule in
+    IfOk-weaker c.arg-17.result _ _ (λ r h. h.shape c.listed-2.ensures.local
+    ∙ ap₂ with_rule least c.listed-2.ensures.rule) c.arg-17.ensures

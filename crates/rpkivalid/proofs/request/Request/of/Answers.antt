@@ -2,7 +2,7 @@ use Rattle.std.proofs.Common.{◌≡◌, ◌∙◌, sym, ap, map, refl, rules}
 use Rattle.std.specs.Prelude.{Some, None, codes}
 use Rattle.clap.specs.Words.{found_of}
 use Rattle.clap.proofs.WalkLemmas.{first_value-rows, raw_values-rows}
-use Rattle.rpkivalid.specs.Request.{form_of, some_files, strictness_of}
+use Rattle.rpkivalid.specs.Request.{files_or_none, form_of, some_files, strictness_of}
 use Rattle.rpkivalid.specs.RequestView.{rows_in}
 use Rattle.rpkivalid.proofs.RequestLaws.{of-parts, of-all}
 use Rattle.rpkivalid.proofs.request.Request.of.Goals as goal
@@ -54,12 +54,13 @@ returns c =
     let moment = c.get_str-3.ensures ∙ first_value-rows (found_of c.args.matches.now) (codes "at") in
     let output = c.get_str-4.ensures ∙ first_value-rows (found_of c.args.matches.now) (codes "output") in
     let depth = c.get_str-5.ensures ∙ first_value-rows (found_of c.args.matches.now) (codes "depth") in
-    let exceptions = c.get_str-6.ensures ∙ first_value-rows (found_of c.args.matches.now) (codes "exceptions") in
-    let metrics = c.get_str-7.ensures ∙ first_value-rows (found_of c.args.matches.now) (codes "metrics") in
-    let explain = c.get_str-8.ensures ∙ first_value-rows (found_of c.args.matches.now) (codes "explain") in
-    let number = c.get_str-9.ensures ∙ first_value-rows (found_of c.args.matches.now) (codes "as") in
-    let compare = c.get_str-10.ensures ∙ first_value-rows (found_of c.args.matches.now) (codes "compare") in
-    let least = c.get_str-11.ensures ∙ first_value-rows (found_of c.args.matches.now) (codes "least") in
+    let exceptions = c.files_or_none.ensures ∙ ap files_or_none
+    (c.get_raw-2.ensures ∙ raw_values-rows (found_of c.args.matches.now) (codes "exceptions")) in
+    let metrics = c.get_str-6.ensures ∙ first_value-rows (found_of c.args.matches.now) (codes "metrics") in
+    let explain = c.get_str-7.ensures ∙ first_value-rows (found_of c.args.matches.now) (codes "explain") in
+    let number = c.get_str-8.ensures ∙ first_value-rows (found_of c.args.matches.now) (codes "as") in
+    let compare = c.get_str-9.ensures ∙ first_value-rows (found_of c.args.matches.now) (codes "compare") in
+    let least = c.get_str-10.ensures ∙ first_value-rows (found_of c.args.matches.now) (codes "least") in
     of-all rows _ _ _ _ _ _ _ _ _ _ c.in_ok-form.form c.in_ok-cache.cache.now
     (map (λ file. file.now) c.in_ok-locators.locators.now)
     (c.strictness_of.ensures ∙ ap strictness_of c.is_given.ensures) moment output depth exceptions metrics

@@ -1,0 +1,12 @@
+use Rattle.std.proofs.lemmas.List.{get_or_default}
+use Rattle.rpki_payloads.proofs.ExceptionLaws.{each-next}
+use Rattle.rpkivalid.specs.Excepted.{IsFileIn}
+use Rattle.rpkivalid.proofs.excepted.all_exceptions.Goals as goal
+
+pub files-preserved : goal.files-preserved
+files-preserved g c =
+    let added = c.in_ok-push_exceptions.ensures in
+    rw added.added
+    (each-next (λ file. IsFileIn (g.S.Sources.holds c.args.sources.now) file.now) c.args.files.now c.files.all.items
+    c.files.file-index _ added.named c.files-test.true
+    (get_or_default c.args.files.now c.files.file-index _ _ c.files-test.true) c.files.invariant added.is)

@@ -1,0 +1,39 @@
+-- What clauses see of where a run writes, and of what it has made.
+use Rattle.std.specs.Prelude.{ℕ, List, String, Option, map, string_bytes}
+use Rattle.jiff.specs.Types.{DateTime}
+use Rattle.rpki_cli.specs.declared.give.Outputs.{Outputs}
+use Rattle.rpki_cli.specs.Delivered.{MadeParts}
+use Rattle.rpki_cli.specs.Ready.{outputs_in}
+use Rattle.rpki_cli.specs.World.{World}
+use Rattle.rpkivalid.specs.declared.program.Made.{Made}
+use Rattle.rpkivalid.specs.declared.program.Ran.{Ran}
+use Rattle.rpkivalid.specs.declared.sinks.Sinks.{Sinks}
+use Rattle.rpkivalid.specs.Locators.{Holds}
+use Rattle.rpkivalid.specs.Program.{IsMadeOf, IsProgram}
+use Rattle.rpkivalid.specs.Sinks.{SinkParts, sinks_of}
+
+abbrev pub sinks_by : Sinks → SinkParts
+sinks_by s = record { to = outputs_in s.outputs; quiet = s.is_quiet }
+
+abbrev pub made_by : Made → MadeParts
+made_by m = record {
+  text = m.text.items;
+  counts = m.metrics.items;
+  entry = m.entry.items;
+  lines = m.lines.items;
+  status = m.status;
+}
+
+-- what these words ask for was done in memory
+abbrev pub RanTo : {Z : Type 0} → (help_text version_text : List ℕ) → List (String Z) → Holds
+    → Option (Option DateTime) → Ran → Type 0
+RanTo help_text version_text words holds clock r =
+    IsMadeOf help_text version_text (map string_bytes words) holds clock r.text.items r.metrics.items r.report.items
+    r.status
+
+-- the whole run that these words ask for
+abbrev pub RunsAll : {Z : Type 0} → (help_text version_text : List ℕ) → List (String Z) → Holds
+    → Option (Option DateTime) → World → World → ℕ → Type 0
+RunsAll help_text version_text words holds clock old new status =
+    IsProgram help_text version_text (map string_bytes words) holds clock (sinks_of (map string_bytes words)) old new
+    status
