@@ -60,5 +60,6 @@ module _ {Y Z : Type 0} where
       record {
         there = elsewhere mid n from None gone to (λ e. apart (sym e)) ∙ at_name m mid to (Some v) at_to ∙ ap Some has
             ∙ sym (ap (option_map (λ x. x.items)) was);
+        gone = λ _. at_name mid n from None gone;
         others = λ k a b. elsewhere mid n from None gone k a ∙ elsewhere m mid to (Some v) at_to k b;
       }

@@ -15,6 +15,10 @@ staging name = call_of (0 ∷ []) name
 abbrev pub placing : List ℕ → Call
 placing name = call_of (1 ∷ []) name
 
+-- a file can't be taken away
+abbrev pub taking : List ℕ → Call
+taking name = call_of (8 ∷ []) name
+
 -- the text can't be written to standard output, or to standard error
 abbrev pub printing : List ℕ → Call
 printing text = call_of (2 ∷ []) text

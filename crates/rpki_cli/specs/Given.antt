@@ -1,10 +1,10 @@
 -- What becomes of the text of a run, and of its metrics.
 use denote.Bor.{Bor}
-use Rattle.std.specs.Prelude.{◌≡◌, ◌≢◌, ◌++◌, ◌⊎◌, ℕ, List, [], ◌∷◌, Option, Some, None, codes, take}
+use Rattle.std.specs.Prelude.{◌≡◌, ◌≢◌, ◌++◌, ◌⊎◌, ℕ, List, [], ◌∷◌, Option, Some, None, codes, map, take}
 use Rattle.std.specs.Option.{option_map, unwrap_or}
 use Rattle.rpki_cli.specs.declared.put.Put.{Put}
 use Rattle.rpki_cli.specs.declared.put.Put.TheVariants.{Done, NoList, NoMetrics, Unplaced, Unwritten}
-use Rattle.rpki_cli.specs.Call.{Call, staging, placing, printing}
+use Rattle.rpki_cli.specs.Call.{Call, staging, placing, printing, taking}
 use Rattle.rpki_cli.specs.World.{World, IsSaid}
 
 -- ---- names
@@ -29,10 +29,24 @@ named file = option_map (λ name. name.now) file
 
 -- ---- outputs
 
--- each file that was there and is neither output has what it had
-abbrev pub AreOthersKept : World → World → (output metrics : Option (List ℕ)) → Type 0
-AreOthersKept old new output metrics =
-    (n t : List ℕ) → output ≢ Some n → metrics ≢ Some n → old.files n ≡ Some t → new.files n ≡ Some t
+-- a name is among these
+abbrev pub IsAmong : List (List ℕ) → List ℕ → Type 0
+IsAmong [] n = ⊥
+IsAmong (name ∷ names) n = (name ≡ n) ⊎ IsAmong names n
+
+-- each name that is neither output has what it had
+abbrev pub AreOthersSame : World → World → (output metrics : Option (List ℕ)) → Type 0
+AreOthersSame old new output metrics =
+    (n : List ℕ) → output ≢ Some n → metrics ≢ Some n → new.files n ≡ old.files n
+
+-- each name that is neither output, nor one of these, has what it had; and these had none
+pub record AreOthersBut (left : List (List ℕ)) (old new : World) (output metrics : Option (List ℕ)) : Type 0 where
+  pub same : (n : List ℕ) → output ≢ Some n → metrics ≢ Some n → IsAmong left n ⊎ (new.files n ≡ old.files n)
+  pub fresh : (n : List ℕ) → IsAmong left n → old.files n ≡ None
+
+-- this call has failed; and each of these files, which were made beside, could not be taken away
+abbrev pub HasFailed : (left : List (List ℕ)) → World → World → Call → Type 0
+HasFailed left old new call = new.failed ≡ map taking left ++ (call ∷ old.failed)
 
 -- the whole text is in the file of this name; or, without one, it is printed
 abbrev pub HasText : World → World → (output : Option (List ℕ)) → (text : List ℕ) → Type 0
@@ -61,27 +75,30 @@ pub record IsDone (old new : World) (output : Option (List ℕ)) (text : List �
     (counts : List ℕ) : Type 0 where
   pub list : HasText old new output text
   pub numbers : HasMetrics new metrics counts
-  pub others : AreOthersKept old new output metrics
+  pub others : AreOthersSame old new output metrics
   pub told : new.told ≡ old.told
   pub failed : new.failed ≡ old.failed
 
--- both are as before, since this call has failed, and it alone
+-- both are as before, since this call has failed; files that were made beside and could not be taken away are left
 pub record IsLeft (old new : World) (output : Option (List ℕ)) (text : List ℕ) (metrics : Option (List ℕ))
     (call : Call) : Type 0 where
   pub list : HasNone old new output text
   pub numbers : HasNoMetrics old new metrics
-  pub others : AreOthersKept old new output metrics
+  pub left : List (List ℕ)
+  pub others : AreOthersBut left old new output metrics
   pub told : new.told ≡ old.told
-  pub failed : new.failed ≡ call ∷ old.failed
+  pub failed : HasFailed left old new call
 
--- the metrics are in place, and the output is as before, since this call has failed, and it alone
+-- the metrics are in place, and the output is as before, since this call has failed; the file that was made beside is
+-- left where it could not be taken away
 pub record IsHalf (old new : World) (output : Option (List ℕ)) (text : List ℕ) (metrics counts : List ℕ) (call : Call)
     : Type 0 where
   pub list : HasNone old new output text
   pub numbers : new.files metrics ≡ Some counts
-  pub others : AreOthersKept old new output (Some metrics)
+  pub left : List (List ℕ)
+  pub others : AreOthersBut left old new output (Some metrics)
   pub told : new.told ≡ old.told
-  pub failed : new.failed ≡ call ∷ old.failed
+  pub failed : HasFailed left old new call
 
 -- the call that makes the output, and the last of it
 abbrev pub last_call : (output : Option (List ℕ)) → (text : List ℕ) → Call

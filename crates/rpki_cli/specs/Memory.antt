@@ -23,6 +23,7 @@ module _ {Y Z : Type 0} where
   -- one name's file has become another's
   pub record IsCarried (old new : BTreeMap (String Y) (Vec ℕ Z)) (from to : List ℕ) : Type 0 where
     pub there : files_of new to ≡ files_of old from
+    pub gone : from ≢ to → files_of new from ≡ None
     pub others : (n : List ℕ) → n ≢ from → n ≢ to → files_of new n ≡ files_of old n
 
   -- the octets at a name, or none

@@ -1,7 +1,7 @@
 -- What a machine has, and what its calls do to it.
 use Rattle.std.specs.Prelude.{◌≡◌, ◌≢◌, ◌++◌, ◌⊎◌, ℕ, List, [], ◌∷◌, Option, Some, None, codes, take}
 use Rattle.std.specs.Option.{unwrap_or}
-use Rattle.rpki_cli.specs.Call.{Call, adding, complaining, printing, staging, telling}
+use Rattle.rpki_cli.specs.Call.{Call, adding, complaining, printing, staging, taking, telling}
 
 -- the octets of each name that has a file; what was written to standard output, and to standard error; and the calls
 -- that have failed, the last first
@@ -45,23 +45,31 @@ pub record IsStaged (old new : World) (name other beside text : List ℕ) : Type
   pub others : IsSameBut beside old new
   pub quiet : IsQuiet old new
 
--- it could not be made, or not whole: each file that was there has what it had, and so have these two names
-pub record IsUnstaged (old new : World) (name other : List ℕ) : Type 0 where
-  pub there : (n t : List ℕ) → old.files n ≡ Some t → new.files n ≡ Some t
-  pub name_same : new.files name ≡ old.files name
-  pub other_same : new.files other ≡ old.files other
+-- a part of it stays, under a name that had none and that neither output has, since it could not be taken away
+pub record IsPartStaged (old new : World) (name other beside : List ℕ) : Type 0 where
+  pub fresh : old.files beside ≡ None
+  pub apart : name ≢ beside
+  pub other_apart : other ≢ beside
+  pub others : IsSameBut beside old new
   pub printed : new.printed ≡ old.printed
   pub told : new.told ≡ old.told
-  pub failed : new.failed ≡ staging name ∷ old.failed
+  pub failed : new.failed ≡ taking beside ∷ staging name ∷ old.failed
+
+-- it could not be made, or not whole: nothing else happened, or a part of it stays
+abbrev pub IsUnstaged : World → World → (name other : List ℕ) → Type 0
+IsUnstaged old new name other =
+    IsFailed old new (staging name) ⊎ ((beside : List ℕ) × IsPartStaged old new name other beside)
 
 -- one name's file has become another's
 pub record IsPlaced (old new : World) (beside name : List ℕ) : Type 0 where
   pub there : new.files name ≡ old.files beside
+  pub gone : beside ≢ name → new.files beside ≡ None
   pub others : (n : List ℕ) → n ≢ beside → n ≢ name → new.files n ≡ old.files n
   pub quiet : IsQuiet old new
 
--- the file beside is gone, or could not be taken away
+-- the file beside is gone
 pub record IsTaken (old new : World) (beside : List ℕ) : Type 0 where
+  pub gone : new.files beside ≡ None
   pub others : IsSameBut beside old new
   pub quiet : IsQuiet old new
 

@@ -193,10 +193,8 @@ impl Machine for Host<'_> {
         true
     }
 
-    fn take_away(&mut self, beside: &str, name: &str) {
-        if beside != name {
-            let _ = fs::remove_file(self.rt, beside);
-        }
+    fn take_away(&mut self, beside: &str, name: &str) -> bool {
+        beside == name || fs::remove_file(self.rt, beside).is_ok()
     }
 
     fn open(&mut self, name: &str) -> bool {

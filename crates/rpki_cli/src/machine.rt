@@ -3,7 +3,7 @@
 /// A machine: files, standard output, and standard error. It is all that a program writes to.
 pub trait Machine {
     ghost use Rattle.std.specs.Prelude.{◌≡◌, ◌≢◌, IfSome, IfNone, true, false, string_bytes};
-    ghost use Rattle.rpki_cli.specs.Call.{complaining, looking, opening, placing, telling};
+    ghost use Rattle.rpki_cli.specs.Call.{complaining, looking, opening, placing, taking, telling};
     ghost use Rattle.rpki_cli.specs.World.{World, IsAdded, IsFailed, IsOpened, IsPlaced, IsPrinted, IsStaged, IsTaken};
     ghost use Rattle.rpki_cli.specs.World.{IsTold, IsUnadded, IsUnprinted, IsUnstaged, IsUntold, line};
 
@@ -26,7 +26,7 @@ pub trait Machine {
         ensures one { knows self.now → result ≡ true → first.now ≡ second.now };
 
     /// Makes a file with this text, whole, beside the one of this name, and returns its name, which is not that of the
-    /// other either. None if it can't; then there is none.
+    /// other either. None if it can't; then there is none, unless a part of it can't be taken away.
     fn stage(&mut self, name: &str, other: &str, text: &[u8]) -> Option<String>
         ensures known { knows self.old → knows self.new }
         ensures some { knows self.old → IfSome result (λ beside. IsStaged (world self.old) (world self.new) name.now
@@ -42,10 +42,12 @@ pub trait Machine {
         ensures no { knows self.old → result ≡ false
             → IsFailed (world self.old) (world self.new) (placing name.now) };
 
-    /// Takes the file beside that of this name away, if it can.
-    fn take_away(&mut self, beside: &str, name: &str)
+    /// Takes the file beside that of this name away. Returns whether it did.
+    fn take_away(&mut self, beside: &str, name: &str) -> bool
         ensures known { knows self.old → knows self.new }
-        ensures taken { knows self.old → IsTaken (world self.old) (world self.new) beside.now };
+        ensures yes { knows self.old → result ≡ true → IsTaken (world self.old) (world self.new) beside.now }
+        ensures no { knows self.old → result ≡ false
+            → IsFailed (world self.old) (world self.new) (taking beside.now) };
 
     /// Opens the file of this name to add to it; it is made where there is none. Returns whether it did.
     fn open(&mut self, name: &str) -> bool

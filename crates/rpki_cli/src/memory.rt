@@ -1,6 +1,6 @@
 //! A machine in memory, of which each call fails where it is planned to.
 
-ghost use Rattle.std.specs.Prelude.{◌≡◌, ◌≢◌, ◌++◌, ℕ, List, IfNone, IfOk, IfSome, false, string_bytes, true};
+ghost use Rattle.std.specs.Prelude.{◌≡◌, ◌≢◌, ◌++◌, ℕ, List, None, IfNone, IfOk, IfSome, false, string_bytes, true};
 ghost use Rattle.rpki_cli.specs.Memory.{AreKept, IsCarried, IsPut, IsSet, files_of, octets_in};
 ghost use Rattle.rpki_cli.specs.World.{line};
 
@@ -92,7 +92,8 @@ fn carry(alloc: Global, files: &mut Files, from: &str, to: &str) -> bool
 
 /// Takes a file away.
 fn drop_file(files: &mut Files, name: &str)
-    ensures { (n : List ℕ) → n ≢ name.now → files_of files.new n ≡ files_of files.old n }
+    ensures gone { files_of files.new name.now ≡ None }
+    ensures others { (n : List ℕ) → n ≢ name.now → files_of files.new n ≡ files_of files.old n }
 {
     files.remove(name);
 }
@@ -193,11 +194,13 @@ impl Machine for Memory {
         false
     }
 
-    fn take_away(&mut self, beside: &str, _name: &str) {
+    fn take_away(&mut self, beside: &str, _name: &str) -> bool {
         if falls(&mut self.plan) {
-            return;
+            self.log.note(&[8], beside.as_bytes());
+            return false;
         }
         drop_file(&mut self.files, beside);
+        true
     }
 
     fn open(&mut self, name: &str) -> bool {

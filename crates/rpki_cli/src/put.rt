@@ -42,7 +42,7 @@ fn put_text<M: Machine>(m: &mut M, output: &str, text: &[u8]) -> Put
         return Put::NoList;
     };
     if !m.place(beside.as_str(), output, text) {
-        m.take_away(beside.as_str(), output);
+        let _ = m.take_away(beside.as_str(), output);
         return Put::Unwritten;
     }
     Put::Done
@@ -58,7 +58,7 @@ fn print_with<M: Machine>(m: &mut M, text: &[u8], metrics: &str, counts: &[u8]) 
         return Put::NoMetrics;
     };
     if !m.place(beside.as_str(), metrics, counts) {
-        m.take_away(beside.as_str(), metrics);
+        let _ = m.take_away(beside.as_str(), metrics);
         return Put::Unplaced;
     }
     if m.print(text) {
@@ -78,16 +78,16 @@ fn put_both<M: Machine>(m: &mut M, output: &str, text: &[u8], metrics: &str, cou
         return Put::NoList;
     };
     let Some(second) = m.stage(metrics, output, counts) else {
-        m.take_away(first.as_str(), output);
+        let _ = m.take_away(first.as_str(), output);
         return Put::NoMetrics;
     };
     if !m.place(second.as_str(), metrics, counts) {
-        m.take_away(first.as_str(), output);
-        m.take_away(second.as_str(), metrics);
+        let _ = m.take_away(first.as_str(), output);
+        let _ = m.take_away(second.as_str(), metrics);
         return Put::Unplaced;
     }
     if !m.place(first.as_str(), output, text) {
-        m.take_away(first.as_str(), output);
+        let _ = m.take_away(first.as_str(), output);
         return Put::Unwritten;
     }
     Put::Done
