@@ -2,8 +2,8 @@
 use Rattle.std.proofs.Common.{◌≡◌, ℕ, Bool, true, false, List, [], ◌∷◌, ◌++◌, length, refl, sym, subst}
 use Rattle.std.proofs.Common.{append_assoc, append-nil, arith}
 use Rattle.std.specs.Prelude.{◌&&◌}
-use Rattle.rpkivalid.specs.Explained.{AreTold}
 use Rattle.rpkivalid.specs.Locators.{NamedParts}
+use Rattle.rpkivalid.specs.Reported.{AreTold}
 
 -- what is said of those in front of the rest
 abbrev pub IsToldUpTo : (NamedParts → List ℕ → Bool → Type 0) → List NamedParts → List NamedParts → List ℕ → Bool

@@ -5,6 +5,7 @@ use Rattle.jiff.specs.Types.{DateTime}
 use Rattle.jiff.specs.Words.{civil_nanos, parse_timestamp, Error}
 use Rattle.rpki_time.specs.Time.{IsTimeNanos}
 use Rattle.rpkivalid.specs.Moment.{is_date_time, is_now, moment_of, some_ok, IsMomentOf, IsNamed, IsNamedBy}
+use Rattle.rpkivalid.specs.Moment.{IsNoMoment, IsUnnamedBy}
 
 -- what the clock has
 clock-some : (r : Option DateTime) (clock : Option (Option DateTime)) → IfSome clock (λ at. r ≡ at)
@@ -27,6 +28,28 @@ now-named clock r word e h =
 pub text-named : (clock : Option (Option DateTime)) (r : Option DateTime) (word : List ℕ) → is_now word ≡ false
     → IfSome r (λ t. moment_of word ≡ Some (civil_nanos t)) → IfSome r (IsNamed clock word)
 text-named clock r word e h = subst (λ (now : Bool). IfSome r (IsNamedBy now clock word)) (sym e) h
+
+-- ---- no moment
+
+clock-none : (r : Option DateTime) (clock : Option (Option DateTime)) → IfSome clock (λ at. r ≡ at)
+    → IfNone r (IfSome clock (λ now. now ≡ None))
+clock-none None None h = tt
+clock-none None (Some at) h = sym h
+clock-none (Some t) clock h = tt
+
+pub unclocked : (word : Option (List ℕ)) (r : Option DateTime) (clock : Option (Option DateTime)) → word ≡ None
+    → IfSome clock (λ at. r ≡ at) → IfNone r (IsNoMoment clock word)
+unclocked word r clock e h =
+    subst (λ (w : Option (List ℕ)). IfNone r (IsNoMoment clock w)) (sym e) (clock-none r clock h)
+
+pub now-unnamed : (clock : Option (Option DateTime)) (r : Option DateTime) (word : List ℕ) → is_now word ≡ true
+    → IfSome clock (λ at. r ≡ at) → IfNone r (IsUnnamedBy (is_now word) clock word)
+now-unnamed clock r word e h =
+    subst (λ (now : Bool). IfNone r (IsUnnamedBy now clock word)) (sym e) (clock-none r clock h)
+
+pub text-unnamed : (clock : Option (Option DateTime)) (r : Option DateTime) (word : List ℕ) → is_now word ≡ false
+    → IfNone r (IsSomeAnd (moment_of word) IsTimeNanos → ⊥) → IfNone r (IsUnnamedBy (is_now word) clock word)
+text-unnamed clock r word e h = subst (λ (now : Bool). IfNone r (IsUnnamedBy now clock word)) (sym e) h
 
 -- ---- the text of a moment
 

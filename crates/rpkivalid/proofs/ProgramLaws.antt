@@ -1,34 +1,33 @@
 -- What a run makes, where it writes, and how it ends.
-use Rattle.std.proofs.Common.{◌≡◌, ◌∙◌, ◌⊎◌, ℕ, Bool, List, [], ap, refl, subst}
-use Rattle.std.specs.Prelude.{Option, Some, codes}
+use Rattle.std.proofs.Common.{◌≡◌, ◌∙◌, ◌⊎◌, ℕ, Bool, List, ap, subst}
+use Rattle.std.specs.Prelude.{IfOk, None, Ok, Err, Option, Result, Some, codes}
 use Rattle.jiff.specs.Types.{DateTime}
-use Rattle.rpki.specs.PublicKey.{KeyParts}
 use Rattle.rpki_cli.specs.Delivered.{IsDelivered, MadeParts}
 use Rattle.rpki_cli.specs.Ready.{IsReady, IsUnready, OutputParts}
 use Rattle.rpki_cli.specs.World.{Tells, World}
-use Rattle.rpki_validation.specs.Basis.{Basis}
 use Rattle.rpkivalid.specs.Locators.{Holds}
-use Rattle.rpkivalid.specs.Program.{IsMade, IsProgram, Ran, Starved, Unready}
-use Rattle.rpkivalid.specs.Request.{Asked}
+use Rattle.rpkivalid.specs.declared.run.Ran.{Ran}
+use Rattle.rpkivalid.specs.Complaint.{complaint_text}
+use Rattle.rpkivalid.specs.Program.{IsMade, IsMadeOf, IsProgram, Ran as Ended, Starved, Unready, rpki_basis}
+use Rattle.rpkivalid.specs.Request.{Asked, help, payloads, version, wanted_of}
 use Rattle.rpkivalid.specs.Run.{IsRunOf}
+use Rattle.rpkivalid.specs.RunView.{ComplainsBy, GivesBy, ran_by}
 use Rattle.rpkivalid.specs.Sinks.{SinkParts, sinks}
-use Rattle.rpkivalid.specs.Words.{Prints, memory_text}
+use Rattle.rpkivalid.specs.Words.{memory_text}
 
 -- ---- what is made
 
--- a text that is written to what was empty
-pub prints-from : (old new text : List ℕ) (wanted status : ℕ) → old ≡ []
-    → Prints (Some old) (Some new) text wanted status → Prints (Some []) (Some new) text wanted status
-prints-from old new text wanted status e h = subst (λ x. Prints (Some x) (Some new) text wanted status) e h
-
--- a run that writes to what was empty
-pub run-from : (basis : DateTime → ℕ → KeyParts → Basis) (holds : Holds) (clock : Option (Option DateTime))
-    (old new before after : List ℕ) (status : ℕ) (a : Asked) → old ≡ [] → before ≡ []
-    → IsRunOf basis holds clock (Some old) (Some new) (Some before) (Some after) status a
-    → IsRunOf basis holds clock (Some []) (Some new) (Some []) (Some after) status a
-run-from basis holds clock old new before after status a e f h =
-    subst (λ x. IsRunOf basis holds clock (Some []) (Some new) (Some x) (Some after) status a) f
-    (subst (λ x. IsRunOf basis holds clock (Some x) (Some new) (Some before) (Some after) status a) e h)
+-- of each that words may ask for
+pub made-of : {E : Type 0} (help_text version_text : List ℕ) (words : List (List ℕ)) (holds : Holds)
+    (clock : Option (Option DateTime)) (r : Result Ran E) → (wanted_of words ≡ Some help → IfOk r (GivesBy help_text))
+    → (wanted_of words ≡ Some version → IfOk r (GivesBy version_text))
+    → ((a : Asked) → wanted_of words ≡ Some (payloads a)
+    → IfOk r (λ ran. IsRunOf (rpki_basis a.strictness) holds clock a (ran_by ran)))
+    → (wanted_of words ≡ None → IfOk r (ComplainsBy (complaint_text words)))
+    → IfOk r (λ ran. IsMadeOf help_text version_text words holds clock (ran_by ran))
+made-of help_text version_text words holds clock (Err e) a b c d = tt
+made-of help_text version_text words holds clock (Ok ran) a b c d =
+    record { of_help = a; of_version = b; of_run = c; of_others = d }
 
 abbrev pub made : (text counts entry lines : List ℕ) → ℕ → MadeParts
 made text counts entry lines status =
@@ -62,7 +61,7 @@ module _ (help_text version_text : List ℕ) (words : List (List ℕ)) (holds : 
       → IsDelivered mid new (codes "rpkivalid") s.to made status
       → IsProgram help_text version_text words holds clock t old new status
   ran mid new made e r m d =
-      subst (λ x. IsProgram help_text version_text words holds clock x old new status) e (Ran mid made r m d)
+      subst (λ x. IsProgram help_text version_text words holds clock x old new status) e (Ended mid made r m d)
 
   -- one of which an output can't be written
   pub unready : (new : World) → s ≡ t → IsUnready old new (codes "rpkivalid") s.to → status ≡ 2

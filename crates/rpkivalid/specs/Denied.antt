@@ -1,6 +1,6 @@
 -- What a person reads where nothing is written.
 use denote.Bor.{Bor}
-use Rattle.std.specs.Prelude.{◌⊎◌, ◌++◌, ℕ, List, [], Option, codes, decimal, map, option_map, slice_get}
+use Rattle.std.specs.Prelude.{◌++◌, ℕ, List, [], Option, codes, decimal, map, option_map, slice_get}
 use Rattle.std.specs.Option.{unwrap_or}
 use Rattle.rpki_der.specs.Prelude.{error_text}
 use Rattle.std.specs.Net.Text.{ip_text}
@@ -20,7 +20,7 @@ use Rattle.rpki_resources.specs.Text.{prefix_text}
 use Rattle.rpkivalid.specs.declared.denial.Denial.{Denial}
 use Rattle.rpkivalid.specs.declared.denial.Denial.TheVariants as D
 use Rattle.rpkivalid.specs.Request.{Asked}
-use Rattle.rpkivalid.specs.Words.{Prints, memory_text}
+use Rattle.rpkivalid.specs.Words.{memory_text}
 
 -- what is wrong with a locator, and on which line; where memory fails, no text is made
 abbrev pub locator_text : LocatorError → List ℕ
@@ -127,7 +127,3 @@ name_of file = option_map (λ name. name.now) file
 -- what is said of what was asked for
 abbrev pub text_of : Denial → Asked → List ℕ
 text_of d a = denial_text d a.locators a.exceptions a.compare
-
--- that is written, or that memory fails; or a beginning of it, where the faults fail. The status is 2
-abbrev pub IsDenied : Option (List ℕ) → Option (List ℕ) → List ℕ → ℕ → Type 0
-IsDenied old new text status = Prints old new text 2 status ⊎ Prints old new memory_text 2 status

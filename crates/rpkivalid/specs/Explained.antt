@@ -1,21 +1,20 @@
 -- What is explained: why an object counts or not, and what payloads say of a route.
-use Rattle.std.specs.Prelude.{◌≡◌, ◌&&◌, ℕ, Bool, true, List, [], ◌∷◌, ◌++◌, IfSome}
+use Rattle.std.specs.Prelude.{◌≡◌, ℕ, Bool, List, [], ◌++◌, IfSome}
 use Rattle.rpki.specs.PublicKey.{KeyParts}
 use Rattle.rpki_objects.specs.declared.strictness.Strictness.{Strictness}
 use Rattle.rpki_payloads.specs.declared.route.Route.{Route}
-use Rattle.rpki_payloads.specs.Payloads.{PayloadParts}
 use Rattle.rpki_payloads.specs.Route.{IsRouteText}
 use Rattle.rpki_text.specs.RsyncText.{uri_of}
 use Rattle.rpki_validation.specs.Basis.{Basis}
 use Rattle.rpkivalid.specs.declared.question.Question.{Question}
 use Rattle.rpkivalid.specs.declared.question.Question.TheVariants.{Object, Origin, Alone}
 use Rattle.rpkivalid.specs.declared.walked.Walk.{Walk}
-use Rattle.rpkivalid.specs.Excepted.{AreShown}
-use Rattle.rpkivalid.specs.Found.{AreFound, IsFoundIn}
 use Rattle.rpkivalid.specs.Locators.{AreLocatorsIn, Holds, NamedParts, once}
 use Rattle.rpkivalid.specs.Paths.{object_path}
 use Rattle.rpkivalid.specs.Refused.{AreRefusedIn}
+use Rattle.rpkivalid.specs.Reported.{AreTold}
 use Rattle.rpkivalid.specs.Request.{Asked}
+use Rattle.rpkivalid.specs.Shown.{IsShown, ShownParts}
 use Rattle.rpkivalid.specs.Told.{file_text, is_found}
 use Rattle.rpkivalid.specs.Walked.{IsWalkIn, without}
 
@@ -44,13 +43,6 @@ IsToldOf holds folder strictness basis (Object uri) = IsToldIn holds folder basi
 IsToldOf holds folder strictness basis (Origin route) = IsRefusedUnder holds folder strictness basis (Origin route)
 IsToldOf holds folder strictness basis (Alone vrps) = IsRefusedUnder holds folder strictness basis (Alone vrps)
 
--- what is said under all locators, in their order; and whether each of them has a trust anchor
-abbrev pub AreTold : (NamedParts → List ℕ → Bool → Type 0) → List NamedParts → List ℕ → Bool → Type 0
-AreTold R [] text all = (text ≡ []) × (all ≡ true)
-AreTold R (l ∷ ls) text all =
-    (one : List ℕ) × (more : List ℕ) × (anchored : Bool) × (others : Bool) × R l one anchored × AreTold R ls more others
-    × (text ≡ one ++ more) × (all ≡ (anchored && others))
-
 -- what is said of what is asked under the locators that are asked for
 pub record IsTold (basis : KeyParts → Basis) (holds : Holds) (a : Asked) (question : Question) (text : List ℕ)
     (anchored : Bool) : Type 0 where
@@ -58,29 +50,30 @@ pub record IsTold (basis : KeyParts → Basis) (holds : Holds) (a : Asked) (ques
   pub there : AreLocatorsIn holds (once a.locators) locators
   pub told : AreTold (IsToldOf holds a.cache a.strictness basis question) locators text anchored
 
--- what the payloads under the locators say of the route, with the local exceptions that are asked for (RFC 6811 2)
-pub record IsRouteTold (basis : KeyParts → Basis) (holds : Holds) (a : Asked) (route : Route) (text : List ℕ)
+-- what the payloads under the locators say of the route, with the local exceptions that are asked for (RFC 6811 2);
+-- and what is told of what is found
+pub record IsRouteTold (basis : KeyParts → Basis) (holds : Holds) (a : Asked) (route : Route) (text lines : List ℕ)
     (anchored : Bool) : Type 0 where
-  pub locators : List NamedParts
-  pub there : AreLocatorsIn holds (once a.locators) locators
-  pub found : List PayloadParts
-  pub each : AreFound (IsFoundIn holds a.cache basis) locators found anchored
-  pub shown : List PayloadParts
-  pub excepted : AreShown holds a.exceptions found shown
-  pub told : IsRouteText route shown text
+  pub shown : ShownParts
+  pub shows : IsShown basis holds a shown
+  pub told : IsRouteText route shown.payloads text
+  pub lines_are : lines ≡ shown.lines
+  pub anchored_is : anchored ≡ shown.all
 
 -- what payloads say of the route, and then what attestations that are rejected say of it
-pub record IsOriginTold (basis : KeyParts → Basis) (holds : Holds) (a : Asked) (route : Route) (text : List ℕ)
+pub record IsOriginTold (basis : KeyParts → Basis) (holds : Holds) (a : Asked) (route : Route) (text lines : List ℕ)
     (anchored : Bool) : Type 0 where
   pub said : List ℕ
-  pub says : IsRouteTold basis holds a route said anchored
+  pub says : IsRouteTold basis holds a route said lines anchored
   pub refused : List ℕ
   pub others : Bool
   pub refuses : IsTold basis holds a (Origin route) refused others
   pub text_is : text ≡ said ++ refused
 
--- of an object, of a route, or of payloads
-abbrev pub IsExplanation : (KeyParts → Basis) → Holds → Asked → Question → List ℕ → Bool → Type 0
-IsExplanation basis holds a (Object uri) text anchored = IsTold basis holds a (Object uri) text anchored
-IsExplanation basis holds a (Origin route) text anchored = IsOriginTold basis holds a route text anchored
-IsExplanation basis holds a (Alone vrps) text anchored = IsTold basis holds a (Alone vrps) text anchored
+-- of an object, of a route, or of payloads; of a route with what is told of what is found
+abbrev pub IsExplanation : (KeyParts → Basis) → Holds → Asked → Question → (text lines : List ℕ) → Bool → Type 0
+IsExplanation basis holds a (Object uri) text lines anchored =
+    IsTold basis holds a (Object uri) text anchored × (lines ≡ [])
+IsExplanation basis holds a (Origin route) text lines anchored = IsOriginTold basis holds a route text lines anchored
+IsExplanation basis holds a (Alone vrps) text lines anchored =
+    IsTold basis holds a (Alone vrps) text anchored × (lines ≡ [])

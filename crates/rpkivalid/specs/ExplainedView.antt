@@ -8,10 +8,11 @@ use Rattle.rpkivalid.specs.declared.explained.Explained.{Explained}
 use Rattle.rpkivalid.specs.declared.locators.Named.{Named}
 use Rattle.rpkivalid.specs.declared.question.Question.{Question}
 use Rattle.rpkivalid.specs.declared.request.Request.{Request}
-use Rattle.rpkivalid.specs.Explained.{AreTold, IsExplanation, IsRefusedUnder, IsRouteTold, IsTold, IsToldIn, IsToldOf}
+use Rattle.rpkivalid.specs.Explained.{IsExplanation, IsRefusedUnder, IsRouteTold, IsTold, IsToldIn, IsToldOf}
 use Rattle.rpkivalid.specs.Found.{basis_with}
 use Rattle.rpkivalid.specs.Locators.{Holds}
 use Rattle.rpkivalid.specs.LocatorsView.{named_of}
+use Rattle.rpkivalid.specs.Reported.{AreTold}
 use Rattle.rpkivalid.specs.RequestView.{asked_of}
 
 module _ {X : Type 0} (rsa ecdsa : X → Check) (sha1 sha256 : X → List ℕ → List ℕ) (provider : X) (holds : Holds) where
@@ -51,10 +52,10 @@ module _ {X : Type 0} (rsa ecdsa : X → Check) (sha1 sha256 : X → List ℕ �
     abbrev pub TellsRoute : Route → Explained → Type 0
     TellsRoute route e =
         IsRouteTold (basis_with rsa ecdsa sha1 sha256 provider request.strictness at depth) holds (asked_of request)
-        route e.text.items e.have_anchors
+        route e.text.items e.report.items e.have_anchors
 
     -- what is explained
     abbrev pub Explains : Question → Explained → Type 0
     Explains question e =
         IsExplanation (basis_with rsa ecdsa sha1 sha256 provider request.strictness at depth) holds (asked_of request)
-        question e.text.items e.have_anchors
+        question e.text.items e.report.items e.have_anchors

@@ -16,10 +16,12 @@ pub mod Reasons
 pub mod Walked
 pub mod Told
 pub mod Reported
+pub mod Shown
 pub mod Refused
 pub mod Question
 pub mod Explained
 pub mod Compared
+pub mod Denying
 pub mod Run
 pub mod Sinks
 pub mod Program

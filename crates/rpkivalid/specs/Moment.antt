@@ -1,9 +1,10 @@
 -- The moment at which all is to be valid, and how deep a path may be.
 use Rattle.std.specs.Prelude.{◌≡◌, ◌<◌, ◌^◌, ◌&&◌, ◌||◌, not, ℕ, Bool, true, false, List, [], ◌∷◌, codes, Option, Some}
-use Rattle.std.specs.Prelude.{None, IfSome, Result, Ok, Err, ℤ, pos, if◌then◌else◌, bytes_eq, nat_eq, nat_lt}
+use Rattle.std.specs.Prelude.{None, IfSome, IsSomeAnd, Result, Ok, Err, ℤ, pos, if◌then◌else◌, bytes_eq, nat_eq, nat_lt}
 use Rattle.std.specs.Str.Parse.{IsNumeral, digits_value, without_leading_plus}
 use Rattle.jiff.specs.Types.{DateTime}
 use Rattle.jiff.specs.Words.{civil_nanos, parse_timestamp, Error}
+use Rattle.rpki_time.specs.Time.{IsTimeNanos}
 
 -- ---- the text of a moment (RFC 3339 5.6)
 
@@ -66,6 +67,15 @@ IsNamed clock word at = IsNamedBy (is_now word) clock word at
 abbrev pub IsMomentOf : Option (Option DateTime) → Option (List ℕ) → DateTime → Type 0
 IsMomentOf clock None at = IfSome clock (λ now. now ≡ Some at)
 IsMomentOf clock (Some word) at = IsNamed clock word at
+
+-- the word names no moment; without a word the clock has none
+abbrev pub IsUnnamedBy : (now : Bool) → Option (Option DateTime) → List ℕ → Type 0
+IsUnnamedBy true clock word = IfSome clock (λ now. now ≡ None)
+IsUnnamedBy false clock word = IsSomeAnd (moment_of word) IsTimeNanos → ⊥
+
+abbrev pub IsNoMoment : Option (Option DateTime) → Option (List ℕ) → Type 0
+IsNoMoment clock None = IfSome clock (λ now. now ≡ None)
+IsNoMoment clock (Some word) = IsUnnamedBy (is_now word) clock word
 
 -- ---- how many authorities there are at most below a trust anchor
 

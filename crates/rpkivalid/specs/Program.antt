@@ -13,10 +13,10 @@ use Rattle.rpki_validation.specs.Basis.{Basis}
 use Rattle.rpkivalid.specs.Complaint.{complaint_text}
 use Rattle.rpkivalid.specs.Found.{basis_with}
 use Rattle.rpkivalid.specs.Locators.{Holds}
-use Rattle.rpkivalid.specs.Request.{Asked, Wanted, help, payloads, version, wanted_of}
-use Rattle.rpkivalid.specs.Run.{IsRunOf}
-use Rattle.rpkivalid.specs.Sinks.{SinkParts, sinks_of}
-use Rattle.rpkivalid.specs.Words.{Prints, memory_text}
+use Rattle.rpkivalid.specs.Request.{Asked, help, payloads, version, wanted_of}
+use Rattle.rpkivalid.specs.Run.{Complains, Gives, IsRunOf, RanParts}
+use Rattle.rpkivalid.specs.Sinks.{SinkParts}
+use Rattle.rpkivalid.specs.Words.{memory_text}
 
 -- signatures are RSA's (RFC 8017 8.2.2), over SHA-256, and none is ECDSA's; digests are SHA-1 and SHA-256
 abbrev pub rpki_basis : Strictness → DateTime → ℕ → KeyParts → Basis
@@ -24,15 +24,14 @@ rpki_basis =
     basis_with {X = Unit {0}} (λ _ bits message signature. IsSignatureBy bits (sha256 message) signature) (λ _ _ _ _. ⊥)
     (λ _ octets. sha1 octets) (λ _ octets. sha256 octets) tt
 
--- what is made in memory of what the words ask for: the help, the version, the text and metrics of a run, or what is
--- wrong with the words, which is told
+-- what is made in memory of what the words ask for: the help, the version, a run; or what is wrong with the words,
+-- which is told
 pub record IsMadeOf (help_text version_text : List ℕ) (words : List (List ℕ)) (holds : Holds)
-    (clock : Option (Option DateTime)) (text metrics report : List ℕ) (status : ℕ) : Type 0 where
-  pub of_help : wanted_of words ≡ Some help → Prints (Some []) (Some text) help_text 0 status
-  pub of_version : wanted_of words ≡ Some version → Prints (Some []) (Some text) version_text 0 status
-  pub of_run : (a : Asked) → wanted_of words ≡ Some (payloads a)
-      → IsRunOf (rpki_basis a.strictness) holds clock (Some []) (Some text) (Some []) (Some metrics) status a
-  pub of_others : wanted_of words ≡ None → Prints (Some []) (Some report) (complaint_text words) 2 status
+    (clock : Option (Option DateTime)) (r : RanParts) : Type 0 where
+  pub of_help : wanted_of words ≡ Some help → Gives help_text r
+  pub of_version : wanted_of words ≡ Some version → Gives version_text r
+  pub of_run : (a : Asked) → wanted_of words ≡ Some (payloads a) → IsRunOf (rpki_basis a.strictness) holds clock a r
+  pub of_others : wanted_of words ≡ None → Complains (complaint_text words) r
 
 -- what is told of the lines: all of them, or fewer where less is to be told
 abbrev pub AreTold : (quiet : Bool) → (lines told : List ℕ) → Type 0
@@ -49,11 +48,16 @@ pub record AreLines (holds : Holds) (report lines : List ℕ) : Type 0 where
 abbrev pub IsEntry : (lines entry : List ℕ) → Type 0
 IsEntry lines entry = (head : List ℕ) × (entry ≡ head ++ lines)
 
+-- what is made, with this report
+abbrev pub ran_as : MadeParts → List ℕ → RanParts
+ran_as made report =
+    record { text = made.text; metrics = made.counts; report = report; status = made.status }
+
 -- the same, with the entry of the log, and the lines of standard error
 pub record IsMade (help_text version_text : List ℕ) (words : List (List ℕ)) (holds : Holds)
     (clock : Option (Option DateTime)) (quiet : Bool) (made : MadeParts) : Type 0 where
   pub report : List ℕ
-  pub of_words : IsMadeOf help_text version_text words holds clock made.text made.counts report made.status
+  pub of_words : IsMadeOf help_text version_text words holds clock (ran_as made report)
   pub all : List ℕ
   pub lines : AreLines holds report all
   pub entry : IsEntry all made.entry

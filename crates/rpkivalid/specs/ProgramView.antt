@@ -1,15 +1,15 @@
 -- What clauses see of where a run writes, and of what it has made.
 use Rattle.std.specs.Prelude.{ℕ, List, String, Option, map, string_bytes}
 use Rattle.jiff.specs.Types.{DateTime}
-use Rattle.rpki_cli.specs.declared.give.Outputs.{Outputs}
 use Rattle.rpki_cli.specs.Delivered.{MadeParts}
 use Rattle.rpki_cli.specs.Ready.{outputs_in}
 use Rattle.rpki_cli.specs.World.{World}
 use Rattle.rpkivalid.specs.declared.program.Made.{Made}
-use Rattle.rpkivalid.specs.declared.program.Ran.{Ran}
+use Rattle.rpkivalid.specs.declared.run.Ran.{Ran}
 use Rattle.rpkivalid.specs.declared.sinks.Sinks.{Sinks}
 use Rattle.rpkivalid.specs.Locators.{Holds}
 use Rattle.rpkivalid.specs.Program.{IsMadeOf, IsProgram}
+use Rattle.rpkivalid.specs.RunView.{ran_by}
 use Rattle.rpkivalid.specs.Sinks.{SinkParts, sinks_of}
 
 abbrev pub sinks_by : Sinks → SinkParts
@@ -28,8 +28,7 @@ made_by m = record {
 abbrev pub RanTo : {Z : Type 0} → (help_text version_text : List ℕ) → List (String Z) → Holds
     → Option (Option DateTime) → Ran → Type 0
 RanTo help_text version_text words holds clock r =
-    IsMadeOf help_text version_text (map string_bytes words) holds clock r.text.items r.metrics.items r.report.items
-    r.status
+    IsMadeOf help_text version_text (map string_bytes words) holds clock (ran_by r)
 
 -- the whole run that these words ask for
 abbrev pub RunsAll : {Z : Type 0} → (help_text version_text : List ℕ) → List (String Z) → Holds

@@ -1,10 +1,17 @@
 -- What is told of rejections, and how many payloads there are.
-use Rattle.std.specs.Prelude.{◌++◌, ℕ, Bool, true, false, List, [], ◌∷◌, codes, decimal, length}
+use Rattle.std.specs.Prelude.{◌≡◌, ◌++◌, ◌&&◌, ℕ, Bool, true, false, List, [], ◌∷◌, codes, decimal, length}
+use Rattle.std.specs.List.{flat_map}
+use Rattle.rpki.specs.PublicKey.{KeyParts}
 use Rattle.rpki_payloads.specs.Payloads.{PayloadParts}
+use Rattle.rpki_validation.specs.Basis.{Basis}
 use Rattle.rpki_validation.specs.declared.outcome.Rejection.{Rejection}
 use Rattle.rpki_validation.specs.declared.reason.Reason.{Reason}
+use Rattle.rpkivalid.specs.declared.walked.Walk.{Walk}
+use Rattle.rpkivalid.specs.declared.walked.Walk.TheVariants.{Found, NoAnchor}
+use Rattle.rpkivalid.specs.Locators.{Holds, NamedParts}
 use Rattle.rpkivalid.specs.Reasons.{reason_text}
-use Rattle.rpkivalid.specs.Told.{place_text}
+use Rattle.rpkivalid.specs.Told.{is_found, place_text}
+use Rattle.rpkivalid.specs.Walked.{IsWalkIn}
 
 abbrev pub point_word : Bool → List ℕ
 point_word true = codes ": publication point rejected: "
@@ -19,7 +26,30 @@ abbrev pub missing_line : List ℕ → Reason → List ℕ
 missing_line name reason =
     codes "rpkivalid: " ++ (name ++ (codes ": no trust anchor: " ++ (reason_text reason ++ 10 ∷ [])))
 
--- the numbers of payloads
+-- ---- under locators
+
+-- what is told of what is found under a locator of this name: a line for each rejection; or why it has no trust anchor
+abbrev pub walk_lines : (name : List ℕ) → Walk → List ℕ
+walk_lines name (Found o) = flat_map report_line o.rejections.items
+walk_lines name (NoAnchor reason) = missing_line name reason
+
+-- what is told of a locator, and whether it has a trust anchor
+pub record IsReportIn (holds : Holds) (folder : List ℕ) (basis : KeyParts → Basis) (l : NamedParts) (lines : List ℕ)
+    (anchored : Bool) : Type 0 where
+  pub walk : Walk
+  pub walk_is : IsWalkIn holds folder basis l walk
+  pub lines_are : lines ≡ walk_lines l.name walk
+  pub anchored_is : anchored ≡ is_found walk
+
+-- what is told of all locators, in their order; and whether each of them has a trust anchor
+abbrev pub AreTold : (NamedParts → List ℕ → Bool → Type 0) → List NamedParts → List ℕ → Bool → Type 0
+AreTold R [] text all = (text ≡ []) × (all ≡ true)
+AreTold R (l ∷ ls) text all =
+    (one : List ℕ) × (more : List ℕ) × (anchored : Bool) × (others : Bool) × R l one anchored × AreTold R ls more others
+    × (text ≡ one ++ more) × (all ≡ (anchored && others))
+
+-- ---- the numbers of payloads
+
 unfoldable pub numbers_text : (origins providers keys : ℕ) → List ℕ
 numbers_text origins providers keys =
     codes ": " ++ (decimal origins ++ (codes " route origins, " ++ (decimal providers ++ (codes " providers, "

@@ -1,5 +1,5 @@
 -- What clauses see of a request.
-use Rattle.std.specs.Prelude.{◌≡◌, ℕ, List, String, Option, Some, None, Result, IfOk, map, option_map, string_bytes}
+use Rattle.std.specs.Prelude.{◌≡◌, List, String, Option, Some, None, Result, IfOk, map, option_map, string_bytes}
 use Rattle.clap.specs.Words.{Row, found_of, rows_of}
 use Rattle.clap.specs.declared.parser.matches.ArgMatches.{ArgMatches}
 use Rattle.rpkivalid.specs.declared.request.Request.{Request}
@@ -40,13 +40,13 @@ WantsVersion m = wanted_by m ≡ Some version
 abbrev pub WantsNothing : ArgMatches → Type 0
 WantsNothing m = wanted_by m ≡ None
 
--- it asks for payloads, and there is an exit status: P of it and of what is asked
-abbrev pub Asks : {E : Type 0} → ArgMatches → Result ℕ E → (ℕ → Asked → Type 0) → Type 0
-Asks m r P = (a : Asked) → wanted_by m ≡ Some (payloads a) → IfOk r (λ status. P status a)
+-- it asks for payloads: P of what is asked and of the result
+abbrev pub Asks : {R E : Type 0} → ArgMatches → Result R E → (Asked → R → Type 0) → Type 0
+Asks m r P = (a : Asked) → wanted_by m ≡ Some (payloads a) → IfOk r (P a)
 
--- the words ask for payloads, and there is an exit status: P of it and of what is asked
-abbrev pub AskRun : {Z E : Type 0} → List (String Z) → Result ℕ E → (ℕ → Asked → Type 0) → Type 0
-AskRun words r P = (a : Asked) → wanted_of (map string_bytes words) ≡ Some (payloads a) → IfOk r (λ status. P status a)
+-- the words ask for payloads: P of what is asked and of the result
+abbrev pub AskRun : {Z R E : Type 0} → List (String Z) → Result R E → (Asked → R → Type 0) → Type 0
+AskRun words r P = (a : Asked) → wanted_of (map string_bytes words) ≡ Some (payloads a) → IfOk r (P a)
 
 -- they ask for nothing
 abbrev pub AskNothing : {Z : Type 0} → List (String Z) → Type 0

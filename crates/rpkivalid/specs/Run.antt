@@ -1,25 +1,29 @@
 -- A run of what is asked for.
-use Rattle.std.specs.Prelude.{◌≡◌, ◌≤◌, ◌&&◌, ℕ, Bool, true, List, [], Option, Some, None, IfSome, if◌then◌else◌}
-use Rattle.std.specs.Io.KnownBytes.{Appends}
+use Rattle.std.specs.Prelude.{◌≡◌, ◌≤◌, ◌<◌, ◌&&◌, ◌++◌, ⊤, ℕ, Bool, true, false, List, [], Option, Some, None, IfSome}
+use Rattle.std.specs.Prelude.{if◌then◌else◌}
+use Rattle.std.specs.List.{flat_map}
 use Rattle.jiff.specs.Types.{DateTime}
-use Rattle.rpki.specs.Provider.{Check}
 use Rattle.rpki.specs.PublicKey.{KeyParts}
 use Rattle.rpki_payloads.specs.Form.{IsTextIn}
 use Rattle.rpki_payloads.specs.Made.{vrp_count}
 use Rattle.rpki_payloads.specs.Metrics.{metrics_text}
 use Rattle.rpki_payloads.specs.Payloads.{PayloadParts}
 use Rattle.rpki_validation.specs.Basis.{Basis}
+use Rattle.rpkivalid.specs.declared.denial.Denial.{Denial}
+use Rattle.rpkivalid.specs.declared.denial.Denial.TheVariants as D
 use Rattle.rpkivalid.specs.declared.question.Question.{Question}
 use Rattle.rpkivalid.specs.Compared.{IsComparison}
-use Rattle.rpkivalid.specs.Enough.{IsLeast, some_anchored}
-use Rattle.rpkivalid.specs.Excepted.{AreShown}
+use Rattle.rpkivalid.specs.Denied.{text_of}
+use Rattle.rpkivalid.specs.Denying.{IsDenial}
+use Rattle.rpkivalid.specs.Enough.{IsLeast, IsNoLeast}
 use Rattle.rpkivalid.specs.Explained.{IsExplanation}
-use Rattle.rpkivalid.specs.Found.{AreFound, IsFoundIn, basis_with}
-use Rattle.rpkivalid.specs.Locators.{AreLocatorsIn, Holds, NamedParts, once}
-use Rattle.rpkivalid.specs.Moment.{IsDepth, IsMomentOf}
+use Rattle.rpkivalid.specs.Locators.{Holds}
+use Rattle.rpkivalid.specs.Moment.{IsDepth, IsMomentOf, IsNoMoment}
 use Rattle.rpkivalid.specs.Question.{IsQuestion}
+use Rattle.rpkivalid.specs.Reported.{count_line}
 use Rattle.rpkivalid.specs.Request.{Asked}
-use Rattle.rpkivalid.specs.Words.{Prints, version_number}
+use Rattle.rpkivalid.specs.Shown.{IsShown, ShownParts}
+use Rattle.rpkivalid.specs.Words.{version_number}
 
 -- the status where all is written: 1 where a locator has no trust anchor, or a file could not be read
 abbrev pub status_of : (anchored read : Bool) → ℕ
@@ -44,33 +48,50 @@ pub record IsWritten (clock : Option (Option DateTime)) (a : Asked) (shown : Lis
   pub dated : IsMomentOf clock None made
   pub lists : IsTextIn a.form shown made text
 
+-- what a run gives: what goes to its output, to its metrics and to standard error, and the exit status
+pub record RanParts : Type 0 where
+  pub text : List ℕ
+  pub metrics : List ℕ
+  pub report : List ℕ
+  pub status : ℕ
+
+-- a text is given, with the status 0, and no other
+pub record Gives (text : List ℕ) (r : RanParts) : Type 0 where
+  pub text_is : r.text ≡ text
+  pub metrics : r.metrics ≡ []
+  pub report : r.report ≡ []
+  pub status : r.status ≡ 0
+
+-- this is told, with the status 2, and nothing is given
+pub record Complains (report : List ℕ) (r : RanParts) : Type 0 where
+  pub text : r.text ≡ []
+  pub metrics : r.metrics ≡ []
+  pub report_is : r.report ≡ report
+  pub status : r.status ≡ 2
+
 -- The text is that of the payloads under the locators that are asked for, at the moment that is asked for, with the
 -- local exceptions that are asked for; and these are its metrics, and the status. One of the locators has a trust
--- anchor.
+-- anchor. What is found is told, and how many payloads there are.
 pub record IsAnswer (basis : DateTime → ℕ → KeyParts → Basis) (holds : Holds) (clock : Option (Option DateTime))
-    (a : Asked) (text metrics : List ℕ) (status : ℕ) : Type 0 where
+    (a : Asked) (r : RanParts) : Type 0 where
   pub at : DateTime
   pub moment : IsMomentOf clock a.moment at
   pub depth : ℕ
   pub deep : IsDepth a.depth depth
-  pub locators : List NamedParts
-  pub there : AreLocatorsIn holds (once a.locators) locators
-  pub found : List PayloadParts
-  pub anchored : Bool
-  pub each : AreFound (IsFoundIn holds a.cache (basis at depth)) locators found anchored
-  pub shown : List PayloadParts
-  pub excepted : AreShown holds a.exceptions found shown
-  pub some : some_anchored found ≡ true
-  pub written : IsWritten clock a shown text
-  pub metrics_are : AreMetrics clock a.metrics shown metrics
+  pub shown : ShownParts
+  pub shows : IsShown (basis at depth) holds a shown
+  pub some : shown.some ≡ true
+  pub written : IsWritten clock a shown.payloads r.text
+  pub metrics_are : AreMetrics clock a.metrics shown.payloads r.metrics
+  pub report_is : r.report ≡ shown.lines ++ flat_map count_line shown.payloads
   pub read : Bool
   pub known : IfSome holds (λ files. read ≡ true)
-  pub status_is : status ≡ status_of anchored read
+  pub status_is : r.status ≡ status_of shown.all read
 
 -- The text explains what is to be explained, by what is found under the locators that are asked for at that moment; and
 -- this is the status.
 pub record IsExplained (basis : DateTime → ℕ → KeyParts → Basis) (holds : Holds) (clock : Option (Option DateTime))
-    (a : Asked) (text : List ℕ) (status : ℕ) : Type 0 where
+    (a : Asked) (r : RanParts) : Type 0 where
   pub at : DateTime
   pub moment : IsMomentOf clock a.moment at
   pub depth : ℕ
@@ -78,67 +99,73 @@ pub record IsExplained (basis : DateTime → ℕ → KeyParts → Basis) (holds 
   pub question : Question
   pub asks : IsQuestion a.explain a.number (Some question)
   pub anchored : Bool
-  pub told : IsExplanation (basis at depth) holds a question text anchored
+  pub told : IsExplanation (basis at depth) holds a question r.text r.report anchored
+  pub metrics_are : r.metrics ≡ []
   pub read : Bool
   pub known : IfSome holds (λ files. read ≡ true)
-  pub status_is : status ≡ status_of anchored read
-
--- the payloads with their metrics, where nothing is to be explained; or the explanation without any
-pub data IsReply (basis : DateTime → ℕ → KeyParts → Basis) (holds : Holds) (clock : Option (Option DateTime))
-    (a : Asked) (text metrics : List ℕ) (status : ℕ) : Type 0 where
-  OfPayloads : IsQuestion a.explain a.number None → IsAnswer basis holds clock a text metrics status
-      → IsReply basis holds clock a text metrics status
-  OfQuestion : IsExplained basis holds clock a text status → metrics ≡ []
-      → IsReply basis holds clock a text metrics status
+  pub status_is : r.status ≡ status_of anchored read
 
 -- The text compares what is found with what the file lists; and this is the status, 1 also where they differ.
 pub record IsCompared (basis : DateTime → ℕ → KeyParts → Basis) (holds : Holds) (clock : Option (Option DateTime))
-    (a : Asked) (file text : List ℕ) (status : ℕ) : Type 0 where
+    (a : Asked) (file : List ℕ) (r : RanParts) : Type 0 where
   pub at : DateTime
   pub moment : IsMomentOf clock a.moment at
   pub depth : ℕ
   pub deep : IsDepth a.depth depth
   pub anchored : Bool
   pub same : Bool
-  pub compares : IsComparison (basis at depth) holds a file text anchored same
+  pub compares : IsComparison (basis at depth) holds a file r.text r.report anchored same
+  pub metrics_are : r.metrics ≡ []
   pub read : Bool
   pub known : IfSome holds (λ files. read ≡ true)
-  pub status_is : status ≡ status_of (anchored && same) read
+  pub status_is : r.status ≡ status_of (anchored && same) read
 
--- the comparison without metrics, where a file is to be compared; else the payloads or the explanation
-abbrev pub IsReplyTo : (basis : DateTime → ℕ → KeyParts → Basis) → Holds → Option (Option DateTime) → Asked
-    → (file : Option (List ℕ)) → (text metrics : List ℕ) → (status : ℕ) → Type 0
-IsReplyTo basis holds clock a None text metrics status = IsReply basis holds clock a text metrics status
-IsReplyTo basis holds clock a (Some file) text metrics status =
-    IsCompared basis holds clock a file text status × (metrics ≡ [])
+-- these lines are told, and why nothing is written
+abbrev pub SaysWhy : (lines : List ℕ) → Denial → Asked → RanParts → Type 0
+SaysWhy lines d a r = Complains (lines ++ text_of d a) r
 
--- The run of what is asked for: the answer, with its metrics and its status, of which a beginning is written where the
--- output fails; or nothing, with the status 2.
+-- why there are no metrics
+abbrev pub IsUndated : Option (Option DateTime) → Denial → Type 0
+IsUndated clock D.NoMoment = IsNoMoment clock None
+IsUndated clock D.OutOfMemory = ⊤
+IsUndated clock d = ⊥
+
+-- why there is no text of payloads
+abbrev pub IsUnlisted : Option (Option DateTime) → Asked → List PayloadParts → Denial → Type 0
+IsUnlisted clock a shown D.NoLeast = IsNoLeast a.least
+IsUnlisted clock a shown D.NoMoment = IsNoMoment clock None
+IsUnlisted clock a shown D.TooFew = (least : ℕ) × IsLeast a.least least × (vrp_count shown < least)
+IsUnlisted clock a shown D.OutOfMemory = ⊤
+IsUnlisted clock a shown d = ⊥
+
+-- why what is found is not written: no locator has a trust anchor, or by the above
+pub data IsUnwritten (clock : Option (Option DateTime)) (a : Asked) (shown : ShownParts) (d : Denial) : Type 0 where
+  Unanchored : d ≡ D.NoAnchor → shown.some ≡ false → IsUnwritten clock a shown d
+  Unlisted : IsUnlisted clock a shown.payloads d → IsUnwritten clock a shown d
+  Undated : IsUndated clock d → IsUnwritten clock a shown d
+
+-- what is found is told, and why it is not written
+pub record IsKept (basis : DateTime → ℕ → KeyParts → Basis) (holds : Holds) (clock : Option (Option DateTime))
+    (a : Asked) (r : RanParts) : Type 0 where
+  pub at : DateTime
+  pub moment : IsMomentOf clock a.moment at
+  pub depth : ℕ
+  pub deep : IsDepth a.depth depth
+  pub shown : ShownParts
+  pub shows : IsShown (basis at depth) holds a shown
+  pub denial : Denial
+  pub why : IsUnwritten clock a shown denial
+  pub told : SaysWhy shown.lines denial a r
+
+-- The run of what is asked for: the comparison, where a file is to be compared; else the explanation, where something
+-- is to be explained; else the payloads. Or why nothing is written.
 pub data IsRunOf (basis : DateTime → ℕ → KeyParts → Basis) (holds : Holds) (clock : Option (Option DateTime))
-    (old new before after : Option (List ℕ)) (status : ℕ) (a : Asked) : Type 0 where
-  Answered : (text metrics : List ℕ) (wanted : ℕ) → IsReplyTo basis holds clock a a.compare text metrics wanted
-      → Prints old new text wanted status → Appends before after metrics
-      → IsRunOf basis holds clock old new before after status a
-  Denied : Appends old new [] → status ≡ 2 → IsRunOf basis holds clock old new before after status a
-
-module _ {X : Type 0} (rsa ecdsa : X → Check) (sha1 sha256 : X → List ℕ → List ℕ) (provider : X) (holds : Holds)
-    (clock : Option (Option DateTime)) where
-  -- the answer, by a provider's signatures and digests
-  abbrev pub Answers : Asked → List ℕ → List ℕ → ℕ → Type 0
-  Answers a = IsAnswer (basis_with rsa ecdsa sha1 sha256 provider a.strictness) holds clock a
-
-  -- the answer or the explanation
-  abbrev pub Replies : Asked → List ℕ → List ℕ → ℕ → Type 0
-  Replies a = IsReply (basis_with rsa ecdsa sha1 sha256 provider a.strictness) holds clock a
-
-  -- these or the comparison
-  abbrev pub RepliesAt : Asked → Option (List ℕ) → List ℕ → List ℕ → ℕ → Type 0
-  RepliesAt a file = IsReplyTo (basis_with rsa ecdsa sha1 sha256 provider a.strictness) holds clock a file
-
--- the run, by a provider's signatures and digests, of what sources hold, into two outputs
-abbrev pub Runs : {X S A B : Type 0} → (X → Check) → (X → Check) → (X → List ℕ → List ℕ) → (X → List ℕ → List ℕ) → X
-    → (S → Holds) → (S → Option (Option DateTime)) → S → (A → Option (List ℕ)) → A → A → (B → Option (List ℕ)) → B → B
-    → ℕ → Asked → Type 0
-Runs rsa ecdsa sha1 sha256 provider holds clock host out old new sink before after status a =
-    IsRunOf (basis_with rsa ecdsa sha1 sha256 provider a.strictness) (holds host) (clock host) (out old) (out new)
-    (sink before) (sink after) status a
+    (a : Asked) (r : RanParts) : Type 0 where
+  OfComparison : (file : List ℕ) → a.compare ≡ Some file → IsCompared basis holds clock a file r
+      → IsRunOf basis holds clock a r
+  OfQuestion : a.compare ≡ None → IsExplained basis holds clock a r → IsRunOf basis holds clock a r
+  OfPayloads : a.compare ≡ None → IsQuestion a.explain a.number None → IsAnswer basis holds clock a r
+      → IsRunOf basis holds clock a r
+  Kept : a.compare ≡ None → IsQuestion a.explain a.number None → IsKept basis holds clock a r
+      → IsRunOf basis holds clock a r
+  Denied : (d : Denial) → IsDenial holds clock a d → SaysWhy [] d a r → IsRunOf basis holds clock a r

@@ -1,9 +1,9 @@
 -- Where a run writes, by its words.
-use Rattle.std.specs.Prelude.{◌||◌, ℕ, List, Bool, true, false, Option, Some, None, codes, if◌then◌else◌, bytes_eq}
+use Rattle.std.specs.Prelude.{◌||◌, ℕ, List, Bool, false, Option, Some, None, codes, if◌then◌else◌, bytes_eq}
 use Rattle.std.specs.Prelude.{is_some}
 use Rattle.clap.specs.Words.{Row, first_of}
 use Rattle.rpki_cli.specs.Ready.{OutputParts}
-use Rattle.rpkivalid.specs.Request.{Asked, Wanted, help, is_given, matched, payloads, wanted_in}
+use Rattle.rpkivalid.specs.Request.{Wanted, is_given, matched, payloads, wanted_in}
 
 -- the files that a run writes to, and whether standard error is told less, as it is where there is a log
 pub record SinkParts : Type 0 where

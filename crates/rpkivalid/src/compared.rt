@@ -1,17 +1,17 @@
 //! What is found, compared with what another validator lists.
 
-ghost use Rattle.std.specs.Prelude.{◌≡◌, ◌==◌, ◌&&◌, IfOk, length};
+ghost use Rattle.std.specs.Prelude.{◌≡◌, ◌==◌, ◌&&◌, IfOk, IfErr, length};
 ghost use Rattle.rpki_payloads.specs.Vrp.{AreInOrder};
 ghost use Rattle.rpkivalid.specs.Compared.{AreListedAt};
-ghost use Rattle.rpkivalid.specs.ComparedView.{AreOursBy, Compares, IsWhyBy};
+ghost use Rattle.rpkivalid.specs.ComparedView.{AreOursBy, Compares, IsUncomparedBy, IsWhyBy};
+ghost use Rattle.rpkivalid.specs.Denying.{IsListDenialAt};
+ghost use Rattle.rpkivalid.specs.RunView.{IsUnfoundBy};
 
 use crate::denial::Denial;
-use crate::excepted::{exceptions_in, shown_of};
 use crate::explained::tell;
-use crate::found::{Found, found_under_all};
-use crate::locators::locators_in;
 use crate::question::Question;
 use crate::request::Request;
+use crate::shown::shown_under;
 use crate::sources::Sources;
 use rpki::repository::x509::Time;
 use rpki_payloads::{ListError, Vrp, alone_text, listed_vrps, only_in, united};
@@ -22,6 +22,7 @@ use std::alloc::Global;
 fn listed_in<S: Sources>(alloc: Global, sources: &S, file: &str) -> Result<Vec<Vrp>, Denial>
     ensures order { IfOk result (λ vrps. AreInOrder vrps.items) }
     ensures lists { IfOk result (λ vrps. AreListedAt (S.holds sources.now) file.now vrps.items) }
+    ensures denied { IfErr result (IsListDenialAt (S.holds sources.now) file.now) }
 {
     let Some(octets) = sources.read_large(alloc, file)? else {
         return Err(Denial::NoList);
@@ -33,16 +34,18 @@ fn listed_in<S: Sources>(alloc: Global, sources: &S, file: &str) -> Result<Vec<V
     }
 }
 
-/// The payloads that are found, and whether each locator has a trust anchor.
+/// The payloads that are found, and what is told of what is found.
 #[derive(Drop)]
 pub struct Ours {
     /// The payloads, each once, in order.
     pub vrps: Vec<Vrp>,
+    /// What is told.
+    pub report: Vec<u8>,
     /// Whether each locator has a trust anchor.
     pub have_anchors: bool,
 }
 
-/// The payloads under the locators that are asked for, with the local exceptions. Adds to the report what is rejected.
+/// The payloads under the locators that are asked for, with the local exceptions.
 fn ours_of<S: Sources, P: PreparingProvider>(
     alloc: Global,
     request: &Request<'_, '_>,
@@ -50,32 +53,19 @@ fn ours_of<S: Sources, P: PreparingProvider>(
     crypto: &P,
     at: Time,
     depth: u32,
-    report: &mut Vec<u8>,
 ) -> Result<Ours, Denial>
     ensures order { IfOk result (λ ours. AreInOrder ours.vrps.items) }
     ensures found { IfOk result (AreOursBy P.rsa_of P.ecdsa_of P.sha1_of P.sha256_of crypto.now (S.holds host.now) at
         depth request.now) }
+    ensures denied { IfErr result (IsUnfoundBy (S.holds host.now) request.now) }
 {
-    let locators = locators_in(alloc, host, request.locators)?;
-    let local = exceptions_in(alloc, host, request.exceptions)?;
-    let found = found_under_all(
-        alloc,
-        host,
-        request.cache,
-        crypto,
-        request.strictness,
-        depth,
-        at,
-        locators.as_slice(),
-        report,
-    )?;
-    let Found {
-        payloads,
-        have_anchors,
-    } = found;
-    let shown = shown_of(alloc, local, payloads)?;
-    let vrps = united(alloc, shown.as_slice())?;
-    Ok(Ours { vrps, have_anchors })
+    let shown = shown_under(alloc, request, host, crypto, at, depth)?;
+    let vrps = united(alloc, shown.payloads.as_slice())?;
+    Ok(Ours {
+        vrps,
+        report: shown.report,
+        have_anchors: shown.have_anchors,
+    })
 }
 
 /// What attestations that are rejected say of the payloads, which are there alone; nothing if there are none.
@@ -88,8 +78,9 @@ fn why<S: Sources, P: PreparingProvider>(
     at: Time,
     depth: u32,
 ) -> Result<Vec<u8>, Denial>
-    ensures { IfOk result (λ text. IsWhyBy P.rsa_of P.ecdsa_of P.sha1_of P.sha256_of crypto.now (S.holds host.now) at
-        depth request.now alone text.items) }
+    ensures told { IfOk result (λ text. IsWhyBy P.rsa_of P.ecdsa_of P.sha1_of P.sha256_of crypto.now
+        (S.holds host.now) at depth request.now alone text.items) }
+    ensures denied { IfErr result (IsUnfoundBy (S.holds host.now) request.now) }
 {
     if alone.as_slice().is_empty() {
         return Ok(Vec::new(alloc));
@@ -104,6 +95,8 @@ fn why<S: Sources, P: PreparingProvider>(
 pub struct Compared {
     /// The text.
     pub text: Vec<u8>,
+    /// What is told of what is found.
+    pub report: Vec<u8>,
     /// Whether each locator has a trust anchor.
     pub have_anchors: bool,
     /// Whether neither has a payload that the other has not.
@@ -118,7 +111,7 @@ fn are_empty(here: &[Vrp], there: &[Vrp]) -> bool
 }
 
 /// What is found and what the file lists, compared: a line for each payload that is here alone, and for each that is
-/// there alone; and what attestations that are rejected say of the latter. Adds to the report what is rejected.
+/// there alone; and what attestations that are rejected say of the latter.
 ///
 /// Returns `NoList` if there is no such file, or it can't be read; `OtherList` if it lists no payloads; or why there
 /// are no locators or local exceptions.
@@ -130,13 +123,13 @@ pub fn compare<S: Sources, P: PreparingProvider>(
     crypto: &P,
     at: Time,
     depth: u32,
-    report: &mut Vec<u8>,
 ) -> Result<Compared, Denial>
-    ensures { IfOk result (Compares P.rsa_of P.ecdsa_of P.sha1_of P.sha256_of crypto.now (S.holds host.now) at depth
-        request.now file.now) }
+    ensures compared { IfOk result (Compares P.rsa_of P.ecdsa_of P.sha1_of P.sha256_of crypto.now (S.holds host.now)
+        at depth request.now file.now) }
+    ensures denied { IfErr result (IsUncomparedBy (S.holds host.now) request.now file.now) }
 {
     let theirs = listed_in(alloc, host, file)?;
-    let ours = ours_of(alloc, request, host, crypto, at, depth, report)?;
+    let ours = ours_of(alloc, request, host, crypto, at, depth)?;
     let our = ours.vrps.as_slice();
     let their = theirs.as_slice();
     let here = only_in(alloc, our, their)?;
@@ -147,6 +140,7 @@ pub fn compare<S: Sources, P: PreparingProvider>(
     text.extend_from_slice(said.as_slice())?;
     Ok(Compared {
         text,
+        report: ours.report,
         have_anchors: ours.have_anchors,
         are_same,
     })

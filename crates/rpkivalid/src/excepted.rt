@@ -1,6 +1,7 @@
 //! Local exceptions that are asked for (RFC 8416).
 
-ghost use Rattle.std.specs.Prelude.{◌≡◌, IfOk, map};
+ghost use Rattle.std.specs.Prelude.{◌≡◌, IfOk, IfErr, length, map};
+ghost use Rattle.rpkivalid.specs.Denying.{IsExceptionsDenial, IsExceptionsDenialAt};
 ghost use Rattle.rpkivalid.specs.Excepted.{AddsFile, AreFilesIn, AreLocal, Excepts, IsFileIn};
 
 use crate::denial::Denial;
@@ -18,7 +19,8 @@ fn exceptions_at<S: Sources>(
     file: &str,
     number: usize,
 ) -> Result<NamedExceptions, Denial>
-    ensures { IfOk result (IsFileIn (S.holds sources.now) file.now) }
+    ensures ok { IfOk result (IsFileIn (S.holds sources.now) file.now) }
+    ensures err { IfErr result (IsExceptionsDenialAt (S.holds sources.now) file.now number) }
 {
     let Some(octets) = sources.read(alloc, file)? else {
         return Err(Denial::NoExceptions(number));
@@ -39,7 +41,8 @@ fn push_exceptions<S: Sources>(
     file: &&str,
     all: &mut Vec<NamedExceptions>,
 ) -> Result<(), Denial>
-    ensures { IfOk result (λ _. AddsFile (S.holds sources.now) file.now.now all.old.items all.new.items) }
+    ensures ok { IfOk result (λ _. AddsFile (S.holds sources.now) file.now.now all.old.items all.new.items) }
+    ensures err { IfErr result (IsExceptionsDenialAt (S.holds sources.now) file.now.now (length all.old.items)) }
 {
     let named = exceptions_at(alloc, sources, *file, all.len())?;
     all.push(named)?;
@@ -52,7 +55,8 @@ fn all_exceptions<S: Sources>(
     sources: &S,
     files: &[&str],
 ) -> Result<Vec<NamedExceptions>, Denial>
-    ensures { IfOk result (λ all. AreFilesIn (S.holds sources.now) files.now all.items) }
+    ensures ok { IfOk result (λ all. AreFilesIn (S.holds sources.now) files.now all.items) }
+    ensures err { IfErr result (IsExceptionsDenial (S.holds sources.now) (map (λ file. file.now) files.now)) }
 {
     let mut all = Vec::new(alloc);
     'files: for file in files {
@@ -67,7 +71,8 @@ pub fn exceptions_in<S: Sources>(
     sources: &S,
     files: &[&str],
 ) -> Result<Vec<NamedExceptions>, Denial>
-    ensures { IfOk result (λ all. AreLocal (S.holds sources.now) (map (λ file. file.now) files.now) all.items) }
+    ensures ok { IfOk result (λ all. AreLocal (S.holds sources.now) (map (λ file. file.now) files.now) all.items) }
+    ensures err { IfErr result (IsExceptionsDenial (S.holds sources.now) (map (λ file. file.now) files.now)) }
 {
     let all = all_exceptions(alloc, sources, files)?;
     match conflict_in(alloc, all.as_slice())? {

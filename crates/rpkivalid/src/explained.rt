@@ -1,19 +1,20 @@
 //! What is explained: why an object counts or not, and what payloads say of a route.
 
-ghost use Rattle.std.specs.Prelude.{◌≡◌, ◌&&◌, IfOk, IfSome};
+ghost use Rattle.std.specs.Prelude.{◌≡◌, ◌&&◌, [], IfOk, IfErr, IfSome};
 ghost use Rattle.rpkivalid.specs.ExplainedView.{AreToldBy, Explains, IsObjectToldBy, IsRefusedBy, IsToldBy, Tells};
 ghost use Rattle.rpkivalid.specs.ExplainedView.{TellsRoute};
+ghost use Rattle.rpkivalid.specs.RunView.{IsUnfoundBy};
 ghost use Rattle.rpkivalid.specs.Refused.{AreRefusedIn};
 ghost use Rattle.rpkivalid.specs.Told.{is_found};
 
 use crate::denial::Denial;
-use crate::excepted::{exceptions_in, shown_of};
-use crate::found::{Found, found_under_all};
+use crate::found::both;
 use crate::locators::{Named, locators_in};
 use crate::paths::object_path;
 use crate::question::Question;
 use crate::refused::refused_text;
 use crate::request::Request;
+use crate::shown::shown_under;
 use crate::sources::Sources;
 use crate::told::file_text;
 use crate::walked::{Walk, walk_of};
@@ -145,15 +146,10 @@ fn told_under<S: Sources, P: PreparingProvider>(
 pub struct Explained {
     /// The text.
     pub text: Vec<u8>,
+    /// What is told of what is found, where a route is asked for.
+    pub report: Vec<u8>,
     /// Whether each locator has a trust anchor.
     pub have_anchors: bool,
-}
-
-/// Whether both are so.
-fn both(one: bool, other: bool) -> bool
-    ensures { result ≡ (one && other) }
-{
-    one && other
 }
 
 /// What is said under all locators of what is asked, in their order.
@@ -168,8 +164,9 @@ fn told_under_all<S: Sources, P: PreparingProvider>(
     question: &Question,
     locators: &[Named],
 ) -> Result<Explained, AllocError>
-    ensures { IfOk result (AreToldBy P.rsa_of P.ecdsa_of P.sha1_of P.sha256_of provider.now (S.holds sources.now)
+    ensures told { IfOk result (AreToldBy P.rsa_of P.ecdsa_of P.sha1_of P.sha256_of provider.now (S.holds sources.now)
         folder.now strictness at depth question.now locators.now) }
+    ensures report { IfOk result (λ e. e.report.items ≡ []) }
 {
     let mut text = Vec::new(alloc);
     let mut have_anchors = true;
@@ -182,7 +179,12 @@ fn told_under_all<S: Sources, P: PreparingProvider>(
         have_anchors = both(have_anchors, has_anchor);
         rest = following;
     }
-    Ok(Explained { text, have_anchors })
+    let report = Vec::new(alloc);
+    Ok(Explained {
+        text,
+        report,
+        have_anchors,
+    })
 }
 
 /// What is said under the locators that are asked for of what is asked.
@@ -197,8 +199,10 @@ pub fn tell<S: Sources, P: PreparingProvider>(
     at: Time,
     depth: u32,
 ) -> Result<Explained, Denial>
-    ensures { IfOk result (Tells P.rsa_of P.ecdsa_of P.sha1_of P.sha256_of crypto.now (S.holds host.now)
+    ensures told { IfOk result (Tells P.rsa_of P.ecdsa_of P.sha1_of P.sha256_of crypto.now (S.holds host.now)
         at depth request.now question.now) }
+    ensures report { IfOk result (λ e. e.report.items ≡ []) }
+    ensures denied { IfErr result (IsUnfoundBy (S.holds host.now) request.now) }
 {
     let locators = locators_in(alloc, host, request.locators)?;
     let told = told_under_all(
@@ -215,8 +219,8 @@ pub fn tell<S: Sources, P: PreparingProvider>(
     Ok(told)
 }
 
-/// What the payloads under the locators that are asked for, with the local exceptions, say of the route. Adds to the
-/// report what is rejected.
+/// What the payloads under the locators that are asked for, with the local exceptions, say of the route; and what is
+/// told of what is found.
 fn route_text<S: Sources, P: PreparingProvider>(
     alloc: Global,
     route: Route,
@@ -225,36 +229,23 @@ fn route_text<S: Sources, P: PreparingProvider>(
     crypto: &P,
     at: Time,
     depth: u32,
-    report: &mut Vec<u8>,
 ) -> Result<Explained, Denial>
-    ensures { IfOk result (TellsRoute P.rsa_of P.ecdsa_of P.sha1_of P.sha256_of crypto.now (S.holds host.now)
+    ensures told { IfOk result (TellsRoute P.rsa_of P.ecdsa_of P.sha1_of P.sha256_of crypto.now (S.holds host.now)
         at depth request.now route) }
+    ensures denied { IfErr result (IsUnfoundBy (S.holds host.now) request.now) }
 {
-    let locators = locators_in(alloc, host, request.locators)?;
-    let local = exceptions_in(alloc, host, request.exceptions)?;
-    let found = found_under_all(
-        alloc,
-        host,
-        request.cache,
-        crypto,
-        request.strictness,
-        depth,
-        at,
-        locators.as_slice(),
-        report,
-    )?;
-    let Found {
-        payloads,
-        have_anchors,
-    } = found;
-    let shown = shown_of(alloc, local, payloads)?;
-    let text = route.text_of(alloc, shown.as_slice())?;
-    Ok(Explained { text, have_anchors })
+    let shown = shown_under(alloc, request, host, crypto, at, depth)?;
+    let text = route.text_of(alloc, shown.payloads.as_slice())?;
+    Ok(Explained {
+        text,
+        report: shown.report,
+        have_anchors: shown.have_anchors,
+    })
 }
 
 /// What is asked, explained: of an object where it is rejected and what lists it, under each locator; of a route
-/// whether it is valid (RFC 6811 2), which payloads cover it, and what attestations that are rejected say of it. Adds
-/// to the report what is rejected, where a route is asked for.
+/// whether it is valid (RFC 6811 2), which payloads cover it, and what attestations that are rejected say of it, with
+/// what is told of what is found.
 pub fn explain<S: Sources, P: PreparingProvider>(
     alloc: Global,
     question: &Question,
@@ -263,17 +254,17 @@ pub fn explain<S: Sources, P: PreparingProvider>(
     crypto: &P,
     at: Time,
     depth: u32,
-    report: &mut Vec<u8>,
 ) -> Result<Explained, Denial>
-    ensures { IfOk result (Explains P.rsa_of P.ecdsa_of P.sha1_of P.sha256_of crypto.now (S.holds host.now) at depth
-        request.now question.now) }
+    ensures told { IfOk result (Explains P.rsa_of P.ecdsa_of P.sha1_of P.sha256_of crypto.now (S.holds host.now) at
+        depth request.now question.now) }
+    ensures denied { IfErr result (IsUnfoundBy (S.holds host.now) request.now) }
 {
     let told = tell(alloc, question, request, host, crypto, at, depth)?;
     match question {
         Question::Object(_) => Ok(told),
         Question::Alone(_) => Ok(told),
         Question::Origin(route) => {
-            let mut said = route_text(alloc, *route, request, host, crypto, at, depth, report)?;
+            let mut said = route_text(alloc, *route, request, host, crypto, at, depth)?;
             said.text.extend_from_slice(told.text.as_slice())?;
             Ok(said)
         }

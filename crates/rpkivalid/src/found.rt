@@ -1,7 +1,7 @@
 //! What is found under locators.
 
 ghost use Rattle.std.specs.Prelude.{◌≡◌, ◌&&◌, IfOk};
-ghost use Rattle.rpkivalid.specs.FoundView.{AreFoundBy, IsFoundBy};
+ghost use Rattle.rpkivalid.specs.FoundView.{AreFoundBy, AreReportedBy, IsFoundBy, IsReportedBy};
 
 use crate::cache::Cache;
 use crate::counted::tally_of;
@@ -17,7 +17,18 @@ use rpki_valid::Terms;
 use rpki_validation::{Stop, validate};
 use std::alloc::{AllocError, Global};
 
-/// The payloads under the locator, and whether it has a trust anchor. Adds to the report what is rejected.
+/// What is found under a locator.
+#[derive(Drop)]
+pub struct Under {
+    /// The payloads.
+    pub payloads: Payloads,
+    /// Whether it has a trust anchor.
+    pub has_anchor: bool,
+    /// What is told of it: a line for each object that is rejected, or why it has no trust anchor.
+    pub report: Vec<u8>,
+}
+
+/// What is found under the locator.
 fn found_under<S: Sources, P: PreparingProvider>(
     alloc: Global,
     sources: &S,
@@ -27,10 +38,11 @@ fn found_under<S: Sources, P: PreparingProvider>(
     depth: u32,
     at: Time,
     named: &Named,
-    report: &mut Vec<u8>,
-) -> Result<(Payloads, bool), AllocError>
-    ensures { IfOk result (IsFoundBy P.rsa_of P.ecdsa_of P.sha1_of P.sha256_of provider.now (S.holds sources.now)
+) -> Result<Under, AllocError>
+    ensures found { IfOk result (IsFoundBy P.rsa_of P.ecdsa_of P.sha1_of P.sha256_of provider.now (S.holds sources.now)
         folder.now strictness at depth named.now) }
+    ensures told { IfOk result (IsReportedBy P.rsa_of P.ecdsa_of P.sha1_of P.sha256_of provider.now
+        (S.holds sources.now) folder.now strictness at depth named.now) }
 {
     let cache = Cache {
         sources,
@@ -43,9 +55,10 @@ fn found_under<S: Sources, P: PreparingProvider>(
         deepest: depth,
     };
     let uris = named.locator.uris.as_slice();
+    let mut report = Vec::new(alloc);
     match validate(alloc, &cache, provider, uris, terms, at) {
         Ok(outcome) => {
-            push_rejections(report, outcome.rejections.as_slice())?;
+            push_rejections(&mut report, outcome.rejections.as_slice())?;
             let payloads = payloads_of(
                 alloc,
                 provider,
@@ -55,10 +68,14 @@ fn found_under<S: Sources, P: PreparingProvider>(
                 outcome.routers.as_slice(),
                 tally_of(true, outcome.rejections.as_slice()),
             )?;
-            Ok((payloads, true))
+            Ok(Under {
+                payloads,
+                has_anchor: true,
+                report,
+            })
         }
         Err(Stop::Rejected(reason)) => {
-            push_missing(report, named.name.as_str(), &reason)?;
+            push_missing(&mut report, named.name.as_str(), &reason)?;
             let payloads = payloads_of(
                 alloc,
                 provider,
@@ -68,19 +85,25 @@ fn found_under<S: Sources, P: PreparingProvider>(
                 &[],
                 tally_of(false, &[]),
             )?;
-            Ok((payloads, false))
+            Ok(Under {
+                payloads,
+                has_anchor: false,
+                report,
+            })
         }
         Err(Stop::OutOfMemory) => Err(AllocError),
     }
 }
 
-/// The payloads under locators, in their order.
+/// What is found under locators, in their order.
 #[derive(Drop)]
 pub struct Found {
     /// The payloads.
     pub payloads: Vec<Payloads>,
     /// Whether each locator has a trust anchor.
     pub have_anchors: bool,
+    /// What is told of them.
+    pub report: Vec<u8>,
 }
 
 /// Whether both are so.
@@ -90,7 +113,9 @@ pub fn both(one: bool, other: bool) -> bool
     one && other
 }
 
-/// The payloads under all locators. Adds to the report what is rejected.
+/// What is found under all locators.
+///
+/// Returns `AllocError` if allocation fails.
 pub fn found_under_all<S: Sources, P: PreparingProvider>(
     alloc: Global,
     sources: &S,
@@ -100,24 +125,28 @@ pub fn found_under_all<S: Sources, P: PreparingProvider>(
     depth: u32,
     at: Time,
     locators: &[Named],
-    report: &mut Vec<u8>,
 ) -> Result<Found, AllocError>
-    ensures { IfOk result (AreFoundBy P.rsa_of P.ecdsa_of P.sha1_of P.sha256_of provider.now (S.holds sources.now)
-        folder.now strictness at depth locators.now) }
+    ensures found { IfOk result (AreFoundBy P.rsa_of P.ecdsa_of P.sha1_of P.sha256_of provider.now
+        (S.holds sources.now) folder.now strictness at depth locators.now) }
+    ensures told { IfOk result (AreReportedBy P.rsa_of P.ecdsa_of P.sha1_of P.sha256_of provider.now
+        (S.holds sources.now) folder.now strictness at depth locators.now) }
 {
     let mut payloads = Vec::new(alloc);
+    let mut report = Vec::new(alloc);
     let mut have_anchors = true;
     let mut rest = locators;
     'locators: while let Some((named, following)) = rest.split_first() {
-        let (one, has_anchor) = found_under(
-            alloc, sources, folder, provider, strictness, depth, at, named, report,
+        let one = found_under(
+            alloc, sources, folder, provider, strictness, depth, at, named,
         )?;
-        payloads.push(one)?;
-        have_anchors = both(have_anchors, has_anchor);
+        report.extend_from_slice(one.report.as_slice())?;
+        payloads.push(one.payloads)?;
+        have_anchors = both(have_anchors, one.has_anchor);
         rest = following;
     }
     Ok(Found {
         payloads,
         have_anchors,
+        report,
     })
 }

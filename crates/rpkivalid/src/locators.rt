@@ -1,9 +1,10 @@
 //! The locators that are asked for.
 
-ghost use Rattle.std.specs.Prelude.{◌≡◌, true, false, IfOk, bytes_eq, map, string_bytes};
+ghost use Rattle.std.specs.Prelude.{◌≡◌, true, false, IfOk, IfErr, bytes_eq, map, string_bytes};
 ghost use Rattle.std.specs.List.{list_any};
+ghost use Rattle.rpkivalid.specs.Denying.{IsLocatorDenial, IsLocatorDenialAt};
 ghost use Rattle.rpkivalid.specs.Locators.{name_of, is_among, once, IsLocatorIn, AreLocatorsIn};
-ghost use Rattle.rpkivalid.specs.LocatorsView.{named_of, AddsFirst, IsNextIn};
+ghost use Rattle.rpkivalid.specs.LocatorsView.{named_of, AddsFirst, IsFirstDenial, IsNextDenial, IsNextIn};
 
 use crate::denial::Denial;
 use crate::sources::Sources;
@@ -37,7 +38,8 @@ fn locator_in<S: Sources>(
     file: &str,
     number: usize,
 ) -> Result<Named, Denial>
-    ensures { IfOk result (λ named. IsLocatorIn (S.holds sources.now) file.now (named_of named)) }
+    ensures ok { IfOk result (λ named. IsLocatorIn (S.holds sources.now) file.now (named_of named)) }
+    ensures err { IfErr result (IsLocatorDenialAt (S.holds sources.now) file.now number) }
 {
     let Some(octets) = sources.read(alloc, file)? else {
         return Err(Denial::NoFile(number));
@@ -87,6 +89,8 @@ fn add_once<S: Sources>(
         → all.new.items ≡ all.old.items) }
     ensures next { IfOk result (λ _. is_among (map (λ one. one.now) following.now) file.now ≡ false
         → IsNextIn (S.holds sources.now) file.now all.old.items all.new.items) }
+    ensures err { IfErr result (IsNextDenial (S.holds sources.now) file.now number all.old.items
+        (is_among (map (λ one. one.now) following.now) file.now)) }
 {
     if is_among(following, file) {
         return Ok(());
@@ -107,8 +111,10 @@ fn add_first<S: Sources>(
     rest: &[&str],
     number: usize,
 ) -> Result<(), Denial>
-    ensures { IfOk result (λ _. AddsFirst (S.holds sources.now) (map (λ file. file.now) rest.now) all.old.items
+    ensures ok { IfOk result (λ _. AddsFirst (S.holds sources.now) (map (λ file. file.now) rest.now) all.old.items
         all.new.items) }
+    ensures err { IfErr result (IsFirstDenial (S.holds sources.now) (map (λ file. file.now) rest.now) number
+        all.old.items) }
 {
     match rest.split_first() {
         Some((file, following)) => add_once(alloc, sources, all, following, file, number),
@@ -122,8 +128,9 @@ pub fn locators_in<S: Sources>(
     sources: &S,
     files: &[&str],
 ) -> Result<Vec<Named>, Denial>
-    ensures { IfOk result (λ all. AreLocatorsIn (S.holds sources.now) (once (map (λ file. file.now) files.now))
+    ensures ok { IfOk result (λ all. AreLocatorsIn (S.holds sources.now) (once (map (λ file. file.now) files.now))
         (map named_of all.items)) }
+    ensures err { IfErr result (IsLocatorDenial (S.holds sources.now) (map (λ file. file.now) files.now)) }
 {
     let mut all = Vec::new(alloc);
     for at in 0..files.len() {

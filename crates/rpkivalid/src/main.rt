@@ -24,6 +24,7 @@ mod refused;
 mod report;
 mod request;
 mod run;
+mod shown;
 mod sinks;
 mod sources;
 mod texts;

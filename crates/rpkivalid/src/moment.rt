@@ -5,6 +5,7 @@ ghost use Rattle.std.specs.Option.{option_map};
 ghost use Rattle.jiff.specs.Words.{civil_nanos, parse_timestamp};
 ghost use Rattle.rpki_time.specs.Time.{IsTimeNanos};
 ghost use Rattle.rpkivalid.specs.Moment.{fits, is_date_time, is_like, is_now, moment_of, IsMomentOf, IsNamed};
+ghost use Rattle.rpkivalid.specs.Moment.{IsNoMoment, IsUnnamedBy};
 
 use crate::sources::Sources;
 use rpki::repository::x509::Time;
@@ -92,7 +93,8 @@ fn is_now(word: &str) -> bool
 /// The moment that the word names: that of the clock by `now`; else the one that it is the text of. None if there is
 /// none.
 fn word_moment<S: Sources>(host: &S, word: &str) -> Option<Time>
-    ensures { IfSome result (IsNamed (S.clock host.now) word.now) }
+    ensures some { IfSome result (IsNamed (S.clock host.now) word.now) }
+    ensures none { IfNone result (IsUnnamedBy (is_now word.now) (S.clock host.now) word.now) }
 {
     if is_now(word) {
         return host.now();
@@ -102,7 +104,8 @@ fn word_moment<S: Sources>(host: &S, word: &str) -> Option<Time>
 
 /// The moment that is asked for; without a word the clock's. None if there is none.
 pub fn moment_at<S: Sources>(host: &S, word: Option<&str>) -> Option<Time>
-    ensures { IfSome result (IsMomentOf (S.clock host.now) (option_map (λ word. word.now) word.entry)) }
+    ensures some { IfSome result (IsMomentOf (S.clock host.now) (option_map (λ word. word.now) word.entry)) }
+    ensures none { IfNone result (IsNoMoment (S.clock host.now) (option_map (λ word. word.now) word.entry)) }
 {
     match word {
         Some(word) => word_moment(host, word),

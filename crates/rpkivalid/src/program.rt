@@ -10,7 +10,7 @@ ghost use Rattle.rpkivalid.specs.ProgramView.{RanTo, RunsAll, made_by, sinks_by}
 ghost use Rattle.rpkivalid.specs.Words.{memory_text};
 
 use crate::arguments::Wordless;
-use crate::run::run;
+use crate::run::{Ran, run};
 use crate::sinks::{Sinks, sinks_of};
 use crate::sources::Sources;
 use crate::texts::{HELP, NUMBER, OUT_OF_MEMORY, VERSION};
@@ -101,41 +101,11 @@ fn lines_of<S: Sources>(alloc: Global, sources: &S, report: &[u8]) -> Result<Vec
     joined(alloc, unread.as_slice(), report)
 }
 
-/// What a run writes to its output, to its metrics, and to its faults, and its exit status.
-#[derive(Drop)]
-pub struct Ran {
-    /// What goes to the output.
-    pub text: Vec<u8>,
-    /// The metrics.
-    pub metrics: Vec<u8>,
-    /// What goes to the faults.
-    pub report: Vec<u8>,
-    /// The exit status.
-    pub status: u8,
-}
-
-/// Does in memory what the words ask for.
+/// Does in memory what the words ask for, with signatures by RSA.
 fn ran_of<S: Sources>(alloc: Global, words: &[String], sources: &S) -> Result<Ran, AllocError>
     ensures { IfOk result (RanTo HELP.now VERSION.now words.now (S.holds sources.now) (S.clock sources.now)) }
 {
-    let mut text = Vec::new(alloc);
-    let mut metrics = Vec::new(alloc);
-    let mut report = Vec::new(alloc);
-    let status = run(
-        alloc,
-        words,
-        sources,
-        &RsaProvider,
-        &mut text,
-        &mut metrics,
-        &mut report,
-    )?;
-    Ok(Ran {
-        text,
-        metrics,
-        report,
-        status,
-    })
+    run(alloc, words, sources, &RsaProvider)
 }
 
 /// Makes what the words ask for, with an entry for a log, and the lines of standard error.

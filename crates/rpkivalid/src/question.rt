@@ -1,7 +1,8 @@
 //! What is to be explained.
 
-ghost use Rattle.std.specs.Prelude.{IfOk};
+ghost use Rattle.std.specs.Prelude.{IfOk, IfErr};
 ghost use Rattle.std.specs.Option.{option_map};
+ghost use Rattle.rpkivalid.specs.Denying.{IsObjectDenial, IsOriginDenial, IsQuestionDenial};
 ghost use Rattle.rpkivalid.specs.Question.{IsObjectQuestion, IsOriginQuestion, IsQuestion};
 
 use crate::denial::Denial;
@@ -25,7 +26,8 @@ pub enum Question {
 ///
 /// Returns `NoUri` if it is none.
 fn object_of(alloc: Global, word: &str) -> Result<Question, Denial>
-    ensures { IfOk result (IsObjectQuestion word.now) }
+    ensures some { IfOk result (IsObjectQuestion word.now) }
+    ensures denied { IfErr result (IsObjectDenial word.now) }
 {
     match Rsync::from_str(alloc, word) {
         Ok(uri) => Ok(Question::Object(uri)),
@@ -38,7 +40,8 @@ fn object_of(alloc: Global, word: &str) -> Result<Question, Denial>
 ///
 /// Returns `NoRoute` if one is none.
 fn origin_of(word: &str, number: &str) -> Result<Question, Denial>
-    ensures { IfOk result (IsOriginQuestion word.now number.now) }
+    ensures some { IfOk result (IsOriginQuestion word.now number.now) }
+    ensures denied { IfErr result (IsOriginDenial word.now number.now) }
 {
     let Ok(prefix) = word.parse::<Prefix>() else {
         return Err(Denial::NoRoute);
@@ -61,7 +64,9 @@ pub fn question_of(
     word: Option<&str>,
     number: Option<&str>,
 ) -> Result<Option<Question>, Denial>
-    ensures { IfOk result (IsQuestion (option_map (λ word. word.now) word.entry)
+    ensures some { IfOk result (IsQuestion (option_map (λ word. word.now) word.entry)
+        (option_map (λ number. number.now) number.entry)) }
+    ensures denied { IfErr result (IsQuestionDenial (option_map (λ word. word.now) word.entry)
         (option_map (λ number. number.now) number.entry)) }
 {
     match word {

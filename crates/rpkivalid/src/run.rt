@@ -1,39 +1,36 @@
-//! A run: words and files in, payloads out.
+//! A run in memory: words and files in, payloads out.
 
-ghost use Rattle.std.specs.Prelude.{◌≡◌, [], Some, None, IfOk, IfErr, IfSome, IfNone};
+ghost use Rattle.std.specs.Prelude.{◌≡◌, ◌++◌, [], true, Some, None, IfOk, IfErr, IfSome, IfNone};
+ghost use Rattle.std.specs.List.{flat_map};
 ghost use Rattle.std.specs.Option.{option_map};
-ghost use Rattle.rpkivalid.specs.Arguments.{wordless_text};
 ghost use Rattle.rpkivalid.specs.ComplaintView.{complaint_of};
-ghost use Rattle.rpkivalid.specs.Denied.{IsDenied, text_of};
 ghost use Rattle.rpkivalid.specs.Moment.{IsDepth, IsMomentOf, IsNoDepth};
+ghost use Rattle.rpkivalid.specs.Question.{IsQuestion};
+ghost use Rattle.rpkivalid.specs.Reported.{count_line};
 ghost use Rattle.rpkivalid.specs.RequestView.{asked_of, Asks, AskHelp, AskVersion, AskRun, AskNothing};
 ghost use Rattle.rpkivalid.specs.RequestView.{WantsHelp, WantsNothing, WantsVersion};
-ghost use Rattle.rpkivalid.specs.Run.{status_of, AreMetrics, IsWritten, Runs};
-ghost use Rattle.rpkivalid.specs.RunView.{AnswersTo, ComparesTo, Gives, RepliesTo, RespondsTo};
-ghost use Rattle.rpkivalid.specs.Words.{Prints, PrintsAlone};
+ghost use Rattle.rpkivalid.specs.Run.{status_of, AreMetrics, IsUndated, IsUnlisted, IsWritten};
+ghost use Rattle.rpkivalid.specs.RunView.{ComplainsBy, Denies, GivesBy, IsUnwrittenBy, IsWrittenBy, RunsAs, RunsOf};
+ghost use Rattle.rpkivalid.specs.RunView.{SaysWhyBy};
 
-use crate::arguments::Wordless;
-use crate::compared::{Compared, compare};
+use crate::compared::compare;
 use crate::complaint::complaint;
 use crate::denial::Denial;
-use crate::enough::{least_of, some_anchored};
-use crate::excepted::{exceptions_in, shown_of};
-use crate::explained::{Explained, explain};
-use crate::found::{Found, both, found_under_all};
-use crate::locators::locators_in;
+use crate::enough::least_of;
+use crate::explained::explain;
+use crate::found::both;
 use crate::moment::moment_at;
-use crate::question::question_of;
+use crate::question::{Question, question_of};
 use crate::report::push_counts;
 use crate::request::{Request, is_given, matched};
+use crate::shown::{Shown, shown_under};
 use crate::sources::Sources;
-use crate::texts::{HELP, NUMBER, OUT_OF_MEMORY, VERSION};
+use crate::texts::{HELP, NUMBER, VERSION};
 use clap::ArgMatches;
-use rpki::der::write_whole;
 use rpki::repository::x509::Time;
 use rpki_payloads::{Payloads, metrics_text, vrp_count};
 use rpki_rsa::PreparingProvider;
 use std::alloc::{AllocError, Global};
-use std::io::Write;
 
 /// How many authorities there are at most below a trust anchor; without a word 32. None if the word is no number below
 /// 2^32.
@@ -57,20 +54,63 @@ fn status_of(have_anchors: bool, is_read: bool) -> u8
     if have_anchors && is_read { 0 } else { 1 }
 }
 
-/// What is written, and the exit status.
+/// What a run gives: what it writes, and its exit status.
 #[derive(Drop)]
-pub struct Answer {
-    /// The text.
+pub struct Ran {
+    /// What goes to the output.
     pub text: Vec<u8>,
-    /// The metrics, if they are asked for.
+    /// What goes to the metrics, if they are asked for.
     pub metrics: Vec<u8>,
-    /// The status.
+    /// What goes to standard error.
+    pub report: Vec<u8>,
+    /// The exit status.
     pub status: u8,
+}
+
+/// A text and no other, with the status 0.
+fn given(alloc: Global, text: &[u8]) -> Result<Ran, AllocError>
+    ensures { IfOk result (GivesBy text.now) }
+{
+    let text = Vec::from_slice(alloc, text)?;
+    Ok(Ran {
+        text,
+        metrics: Vec::new(alloc),
+        report: Vec::new(alloc),
+        status: 0,
+    })
+}
+
+/// What standard error is told, with the status 2, and nothing else.
+fn complained(alloc: Global, report: Vec<u8>) -> Ran
+    ensures { ComplainsBy report.items result }
+{
+    Ran {
+        text: Vec::new(alloc),
+        metrics: Vec::new(alloc),
+        report,
+        status: 2,
+    }
+}
+
+/// These lines, and why nothing is written.
+fn denied(
+    alloc: Global,
+    denial: Denial,
+    request: &Request<'_, '_>,
+    report: Vec<u8>,
+) -> Result<Ran, AllocError>
+    ensures { IfOk result (SaysWhyBy report.items denial request.now) }
+{
+    let text = denial.text(alloc, request.locators, request.exceptions, request.compare)?;
+    let mut report = report;
+    report.extend_from_slice(text.as_slice())?;
+    Ok(complained(alloc, report))
 }
 
 /// The metrics of what is written, made at the clock's moment.
 fn metrics_at<S: Sources>(alloc: Global, host: &S, shown: &[Payloads]) -> Result<Vec<u8>, Denial>
-    ensures { IfOk result (λ text. AreMetrics (S.clock host.now) (Some []) shown.now text.items) }
+    ensures made { IfOk result (λ text. AreMetrics (S.clock host.now) (Some []) shown.now text.items) }
+    ensures denied { IfErr result (IsUndated (S.clock host.now)) }
 {
     let Some(now) = moment_at(host, None) else {
         return Err(Denial::NoMoment);
@@ -86,8 +126,9 @@ fn metrics_of<S: Sources>(
     file: Option<&str>,
     shown: &[Payloads],
 ) -> Result<Vec<u8>, Denial>
-    ensures { IfOk result (λ text. AreMetrics (S.clock host.now) (option_map (λ name. name.now) file.entry) shown.now
-        text.items) }
+    ensures made { IfOk result (λ text. AreMetrics (S.clock host.now) (option_map (λ name. name.now) file.entry)
+        shown.now text.items) }
+    ensures denied { IfErr result (IsUndated (S.clock host.now)) }
 {
     match file {
         Some(_) => metrics_at(alloc, host, shown),
@@ -97,13 +138,14 @@ fn metrics_of<S: Sources>(
 
 /// The text of the payloads in the form that is asked for, made at the clock's moment. [Denial::TooFew] if there are
 /// fewer route origins than are asked for.
-fn written<S: Sources>(
+fn text_of<S: Sources>(
     alloc: Global,
     request: &Request<'_, '_>,
     host: &S,
     shown: &[Payloads],
 ) -> Result<Vec<u8>, Denial>
-    ensures { IfOk result (λ text. IsWritten (S.clock host.now) (asked_of request.now) shown.now text.items) }
+    ensures written { IfOk result (λ text. IsWritten (S.clock host.now) (asked_of request.now) shown.now text.items) }
+    ensures denied { IfErr result (IsUnlisted (S.clock host.now) (asked_of request.now) shown.now) }
 {
     let Some(least) = least_of(request.least) else {
         return Err(Denial::NoLeast);
@@ -118,8 +160,46 @@ fn written<S: Sources>(
     Ok(text)
 }
 
-/// What is asked for, at this moment and to this depth. Adds to the report what is rejected. [Denial::NoAnchor] if no
-/// locator has a trust anchor.
+/// The text of payloads, and their metrics.
+#[derive(Drop)]
+pub struct Written {
+    /// The text.
+    pub text: Vec<u8>,
+    /// The metrics, if they are asked for.
+    pub metrics: Vec<u8>,
+}
+
+/// The text and the metrics of what is found. [Denial::NoAnchor] if no locator has a trust anchor.
+fn written_of<S: Sources>(
+    alloc: Global,
+    request: &Request<'_, '_>,
+    host: &S,
+    shown: &Shown,
+) -> Result<Written, Denial>
+    ensures anchor { IfOk result (λ _. shown.now.has_anchor ≡ true) }
+    ensures written { IfOk result (IsWrittenBy (S.clock host.now) request.now shown.now.payloads.items) }
+    ensures denied { IfErr result (IsUnwrittenBy (S.clock host.now) request.now shown.now) }
+{
+    if !shown.has_anchor {
+        return Err(Denial::NoAnchor);
+    }
+    let payloads = shown.payloads.as_slice();
+    let text = text_of(alloc, request, host, payloads)?;
+    let metrics = metrics_of(alloc, host, request.metrics, payloads)?;
+    Ok(Written { text, metrics })
+}
+
+/// What is told of what is found, and then how many payloads there are.
+fn counted(alloc: Global, shown: &Shown) -> Result<Vec<u8>, AllocError>
+    ensures { IfOk result (λ report. report.items
+        ≡ shown.now.report.items ++ flat_map count_line shown.now.payloads.items) }
+{
+    let mut report = Vec::from_slice(alloc, shown.report.as_slice())?;
+    push_counts(&mut report, shown.payloads.as_slice())?;
+    Ok(report)
+}
+
+/// The payloads with their metrics, or why they are not written; at this moment and to this depth.
 fn answer_at<S: Sources, P: PreparingProvider>(
     alloc: Global,
     request: &Request<'_, '_>,
@@ -127,47 +207,63 @@ fn answer_at<S: Sources, P: PreparingProvider>(
     crypto: &P,
     at: Time,
     depth: u32,
-    report: &mut Vec<u8>,
-) -> Result<Answer, Denial>
+) -> Result<Ran, Denial>
     requires moment { IsMomentOf (S.clock host.now) (asked_of request.now).moment at }
     requires depth { IsDepth (asked_of request.now).depth depth }
-    ensures { IfOk result (AnswersTo P.rsa_of P.ecdsa_of P.sha1_of P.sha256_of crypto.now (S.holds host.now)
+    requires compare { (asked_of request.now).compare ≡ None }
+    requires question { IsQuestion (asked_of request.now).explain (asked_of request.now).number None }
+    ensures ran { IfOk result (RunsOf P.rsa_of P.ecdsa_of P.sha1_of P.sha256_of crypto.now (S.holds host.now)
         (S.clock host.now) request.now) }
+    ensures denied { IfErr result (Denies (S.holds host.now) (S.clock host.now) request.now) }
 {
-    let locators = locators_in(alloc, host, request.locators)?;
-    let local = exceptions_in(alloc, host, request.exceptions)?;
-    let found = found_under_all(
-        alloc,
-        host,
-        request.cache,
-        crypto,
-        request.strictness,
-        depth,
-        at,
-        locators.as_slice(),
-        report,
-    )?;
-    let Found {
-        payloads,
-        have_anchors,
-    } = found;
-    if !some_anchored(payloads.as_slice()) {
-        return Err(Denial::NoAnchor);
+    let shown = shown_under(alloc, request, host, crypto, at, depth)?;
+    match written_of(alloc, request, host, &shown) {
+        Ok(written) => {
+            let report = counted(alloc, &shown)?;
+            let status = status_of(shown.have_anchors, host.is_read());
+            Ok(Ran {
+                text: written.text,
+                metrics: written.metrics,
+                report,
+                status,
+            })
+        }
+        Err(denial) => {
+            let ran = denied(alloc, denial, request, shown.report)?;
+            Ok(ran)
+        }
     }
-    let shown = shown_of(alloc, local, payloads)?;
-    let text = written(alloc, request, host, shown.as_slice())?;
-    let metrics = metrics_of(alloc, host, request.metrics, shown.as_slice())?;
-    push_counts(report, shown.as_slice())?;
-    let status = status_of(have_anchors, host.is_read());
-    Ok(Answer {
-        text,
-        metrics,
+}
+
+/// The explanation of what is to be explained, at this moment and to this depth.
+fn explained_at<S: Sources, P: PreparingProvider>(
+    alloc: Global,
+    question: &Question,
+    request: &Request<'_, '_>,
+    host: &S,
+    crypto: &P,
+    at: Time,
+    depth: u32,
+) -> Result<Ran, Denial>
+    requires moment { IsMomentOf (S.clock host.now) (asked_of request.now).moment at }
+    requires depth { IsDepth (asked_of request.now).depth depth }
+    requires compare { (asked_of request.now).compare ≡ None }
+    requires question { IsQuestion (asked_of request.now).explain (asked_of request.now).number (Some question.now) }
+    ensures ran { IfOk result (RunsOf P.rsa_of P.ecdsa_of P.sha1_of P.sha256_of crypto.now (S.holds host.now)
+        (S.clock host.now) request.now) }
+    ensures denied { IfErr result (Denies (S.holds host.now) (S.clock host.now) request.now) }
+{
+    let explained = explain(alloc, question, request, host, crypto, at, depth)?;
+    let status = status_of(explained.have_anchors, host.is_read());
+    Ok(Ran {
+        text: explained.text,
+        metrics: Vec::new(alloc),
+        report: explained.report,
         status,
     })
 }
 
-/// What is asked for, or the explanation of what is to be explained, at this moment and to this depth. Adds to the
-/// report what is rejected.
+/// What is asked for, or the explanation of what is to be explained, at this moment and to this depth.
 fn reply_at<S: Sources, P: PreparingProvider>(
     alloc: Global,
     request: &Request<'_, '_>,
@@ -175,31 +271,22 @@ fn reply_at<S: Sources, P: PreparingProvider>(
     crypto: &P,
     at: Time,
     depth: u32,
-    report: &mut Vec<u8>,
-) -> Result<Answer, Denial>
+) -> Result<Ran, Denial>
     requires moment { IsMomentOf (S.clock host.now) (asked_of request.now).moment at }
     requires depth { IsDepth (asked_of request.now).depth depth }
-    ensures { IfOk result (RepliesTo P.rsa_of P.ecdsa_of P.sha1_of P.sha256_of crypto.now (S.holds host.now)
+    requires compare { (asked_of request.now).compare ≡ None }
+    ensures ran { IfOk result (RunsOf P.rsa_of P.ecdsa_of P.sha1_of P.sha256_of crypto.now (S.holds host.now)
         (S.clock host.now) request.now) }
+    ensures denied { IfErr result (Denies (S.holds host.now) (S.clock host.now) request.now) }
 {
     let asked = question_of(alloc, request.explain, request.number)?;
     match asked {
-        Some(question) => {
-            let explained = explain(alloc, &question, request, host, crypto, at, depth, report)?;
-            let Explained { text, have_anchors } = explained;
-            let status = status_of(have_anchors, host.is_read());
-            let metrics = Vec::new(alloc);
-            Ok(Answer {
-                text,
-                metrics,
-                status,
-            })
-        }
-        None => answer_at(alloc, request, host, crypto, at, depth, report),
+        Some(question) => explained_at(alloc, &question, request, host, crypto, at, depth),
+        None => answer_at(alloc, request, host, crypto, at, depth),
     }
 }
 
-/// The comparison with what the file lists, at this moment and to this depth. Adds to the report what is rejected.
+/// The comparison with what the file lists, at this moment and to this depth.
 fn comparison_at<S: Sources, P: PreparingProvider>(
     alloc: Global,
     file: &str,
@@ -208,30 +295,26 @@ fn comparison_at<S: Sources, P: PreparingProvider>(
     crypto: &P,
     at: Time,
     depth: u32,
-    report: &mut Vec<u8>,
-) -> Result<Answer, Denial>
+) -> Result<Ran, Denial>
     requires moment { IsMomentOf (S.clock host.now) (asked_of request.now).moment at }
     requires depth { IsDepth (asked_of request.now).depth depth }
-    ensures { IfOk result (ComparesTo P.rsa_of P.ecdsa_of P.sha1_of P.sha256_of crypto.now (S.holds host.now)
-        (S.clock host.now) request.now file.now) }
+    requires compare { (asked_of request.now).compare ≡ Some file.now }
+    ensures ran { IfOk result (RunsOf P.rsa_of P.ecdsa_of P.sha1_of P.sha256_of crypto.now (S.holds host.now)
+        (S.clock host.now) request.now) }
+    ensures denied { IfErr result (Denies (S.holds host.now) (S.clock host.now) request.now) }
 {
-    let compared = compare(alloc, file, request, host, crypto, at, depth, report)?;
-    let Compared {
-        text,
-        have_anchors,
-        are_same,
-    } = compared;
-    let is_right = both(have_anchors, are_same);
+    let compared = compare(alloc, file, request, host, crypto, at, depth)?;
+    let is_right = both(compared.have_anchors, compared.are_same);
     let status = status_of(is_right, host.is_read());
-    let metrics = Vec::new(alloc);
-    Ok(Answer {
-        text,
-        metrics,
+    Ok(Ran {
+        text: compared.text,
+        metrics: Vec::new(alloc),
+        report: compared.report,
         status,
     })
 }
 
-/// What is asked for, or the comparison, at this moment and to this depth. Adds to the report what is rejected.
+/// What is asked for, or the comparison, at this moment and to this depth.
 fn response_at<S: Sources, P: PreparingProvider>(
     alloc: Global,
     request: &Request<'_, '_>,
@@ -239,204 +322,114 @@ fn response_at<S: Sources, P: PreparingProvider>(
     crypto: &P,
     at: Time,
     depth: u32,
-    report: &mut Vec<u8>,
-) -> Result<Answer, Denial>
+) -> Result<Ran, Denial>
     requires moment { IsMomentOf (S.clock host.now) (asked_of request.now).moment at }
     requires depth { IsDepth (asked_of request.now).depth depth }
-    ensures { IfOk result (RespondsTo P.rsa_of P.ecdsa_of P.sha1_of P.sha256_of crypto.now (S.holds host.now)
+    ensures ran { IfOk result (RunsOf P.rsa_of P.ecdsa_of P.sha1_of P.sha256_of crypto.now (S.holds host.now)
         (S.clock host.now) request.now) }
+    ensures denied { IfErr result (Denies (S.holds host.now) (S.clock host.now) request.now) }
 {
     match request.compare {
-        Some(file) => comparison_at(alloc, file, request, host, crypto, at, depth, report),
-        None => reply_at(alloc, request, host, crypto, at, depth, report),
+        Some(file) => comparison_at(alloc, file, request, host, crypto, at, depth),
+        None => reply_at(alloc, request, host, crypto, at, depth),
     }
 }
 
-/// What is asked for. Adds to the report what is rejected.
+/// What is asked for.
 fn answer_of<S: Sources, P: PreparingProvider>(
     alloc: Global,
     request: &Request<'_, '_>,
     host: &S,
     crypto: &P,
-    report: &mut Vec<u8>,
-) -> Result<Answer, Denial>
-    ensures { IfOk result (RespondsTo P.rsa_of P.ecdsa_of P.sha1_of P.sha256_of crypto.now (S.holds host.now)
+) -> Result<Ran, Denial>
+    ensures ran { IfOk result (RunsOf P.rsa_of P.ecdsa_of P.sha1_of P.sha256_of crypto.now (S.holds host.now)
         (S.clock host.now) request.now) }
+    ensures denied { IfErr result (Denies (S.holds host.now) (S.clock host.now) request.now) }
 {
     match moment_at(host, request.moment) {
         Some(at) => match depth_of(request.depth) {
-            Some(depth) => response_at(alloc, request, host, crypto, at, depth, report),
+            Some(depth) => response_at(alloc, request, host, crypto, at, depth),
             None => Err(Denial::NoDepth),
         },
         None => Err(Denial::NoMoment),
     }
 }
 
-/// Writes a text, and returns this exit status; 2 if the output fails.
-fn print<W: Write>(text: &[u8], out: &mut W, status: u8) -> u8
-    ensures { Prints (W.contents out.old) (W.contents out.new) text.now status result }
-{
-    match write_whole(out, text) {
-        Ok(()) => status,
-        Err(_) => 2,
-    }
-}
-
-/// Writes to the faults what is wrong with words that ask for nothing, and how the program is used, and returns the
-/// exit status 2.
-///
-/// Returns `AllocError` if allocation fails; then nothing is written.
-fn complain<F: Write>(alloc: Global, words: &[String], err: &mut F) -> Result<u8, AllocError>
-    ensures said { IfOk result (λ n. Prints (F.contents err.old) (F.contents err.new)
-        (complaint_of words.now) 2 n) }
-    ensures kept { IfErr result (λ _. err.new ≡ err.old) }
-{
-    let text = complaint(alloc, words)?;
-    Ok(print(text.as_slice(), err, 2))
-}
-
-/// Writes to the faults why there are no words, and returns the exit status 2.
-pub fn say<F: Write>(wordless: Wordless, err: &mut F) -> u8
-    ensures { Prints (F.contents err.old) (F.contents err.new) (wordless_text wordless) 2 result }
-{
-    print(wordless.text(), err, 2)
-}
-
-/// Writes to the faults that allocation failed, and returns the exit status 2.
-pub fn give_up<F: Write>(err: &mut F) -> u8
-    ensures { Prints (F.contents err.old) (F.contents err.new) OUT_OF_MEMORY.now 2 result }
-{
-    print(OUT_OF_MEMORY, err, 2)
-}
-
-/// Writes to the faults why nothing is written to the output, and returns the exit status 2.
-fn deny<F: Write>(alloc: Global, denial: Denial, request: &Request<'_, '_>, err: &mut F) -> u8
-    ensures status { result ≡ 2 }
-    ensures faults { IsDenied (F.contents err.old) (F.contents err.new) (text_of denial (asked_of request.now)) result }
-{
-    match denial.text(alloc, request.locators, request.exceptions, request.compare) {
-        Ok(text) => print(text.as_slice(), err, 2),
-        Err(_) => give_up(err),
-    }
-}
-
-/// Writes the report to the faults, then the metrics, and then the text to the output. Returns the exit status; 2 if
-/// one of them fails.
-fn give<W: Write, M: Write, F: Write>(
-    answer: &Answer,
-    report: &[u8],
-    out: &mut W,
-    sink: &mut M,
-    err: &mut F,
-) -> u8
-    ensures { Gives W.contents out.old out.new M.contents sink.old sink.new
-        answer.now.text.items answer.now.metrics.items answer.now.status result }
-{
-    if write_whole(err, report).is_err() {
-        return 2;
-    }
-    match write_whole(sink, answer.metrics.as_slice()) {
-        Ok(()) => print(answer.text.as_slice(), out, answer.status),
-        Err(_) => 2,
-    }
-}
-
-/// Writes what is asked for, its metrics, and what is rejected to the faults; or why there is nothing. Returns the exit
-/// status.
-fn validate_all<S: Sources, P: PreparingProvider, W: Write, M: Write, F: Write>(
+/// What is asked for, or why there is nothing.
+fn answered<S: Sources, P: PreparingProvider>(
     alloc: Global,
     request: &Request<'_, '_>,
     host: &S,
     crypto: &P,
-    out: &mut W,
-    sink: &mut M,
-    err: &mut F,
-) -> u8
-    ensures { Runs P.rsa_of P.ecdsa_of P.sha1_of P.sha256_of crypto.now S.holds S.clock host.now
-        W.contents out.old out.new M.contents sink.old sink.new result (asked_of request.now) }
+) -> Result<Ran, AllocError>
+    ensures { IfOk result (RunsOf P.rsa_of P.ecdsa_of P.sha1_of P.sha256_of crypto.now (S.holds host.now)
+        (S.clock host.now) request.now) }
 {
-    let mut report = Vec::new(alloc);
-    match answer_of(alloc, request, host, crypto, &mut report) {
-        Ok(answer) => give(&answer, report.as_slice(), out, sink, err),
-        Err(denial) => match write_whole(err, report.as_slice()) {
-            Ok(()) => deny(alloc, denial, request, err),
-            Err(_) => 2,
-        },
+    match answer_of(alloc, request, host, crypto) {
+        Ok(ran) => Ok(ran),
+        Err(denial) => denied(alloc, denial, request, Vec::new(alloc)),
     }
 }
 
-/// Does what was asked for by these words, in which this was matched, and returns the exit status.
-fn respond<S: Sources, P: PreparingProvider, W: Write, M: Write, F: Write>(
+/// Does what was asked for by these words, in which this was matched.
+fn respond<S: Sources, P: PreparingProvider>(
     alloc: Global,
     words: &[String],
     matches: &ArgMatches<'_>,
     host: &S,
     crypto: &P,
-    out: &mut W,
-    sink: &mut M,
-    err: &mut F,
-) -> Result<u8, AllocError>
-    ensures help { WantsHelp matches.now → IfOk result (λ n. PrintsAlone W.contents out.old out.new
-        HELP.now 0 n ((sink.new ≡ sink.old) × (err.new ≡ err.old))) }
-    ensures version { WantsVersion matches.now → IfOk result (λ n. PrintsAlone W.contents out.old out.new
-        VERSION.now 0 n ((sink.new ≡ sink.old) × (err.new ≡ err.old))) }
-    ensures run { Asks matches.now result (Runs P.rsa_of P.ecdsa_of P.sha1_of P.sha256_of crypto.now S.holds S.clock
-        host.now W.contents out.old out.new M.contents sink.old sink.new) }
-    ensures usage { WantsNothing matches.now → IfOk result (λ n. PrintsAlone F.contents err.old err.new
-        (complaint_of words.now) 2 n ((out.new ≡ out.old) × (sink.new ≡ sink.old))) }
-    ensures kept { IfErr result (λ _. (out.new ≡ out.old) × (sink.new ≡ sink.old)
-        × (err.new ≡ err.old)) }
+) -> Result<Ran, AllocError>
+    ensures help { WantsHelp matches.now → IfOk result (GivesBy HELP.now) }
+    ensures version { WantsVersion matches.now → IfOk result (GivesBy VERSION.now) }
+    ensures run { Asks matches.now result (RunsAs P.rsa_of P.ecdsa_of P.sha1_of P.sha256_of crypto.now
+        (S.holds host.now) (S.clock host.now)) }
+    ensures usage { WantsNothing matches.now → IfOk result (ComplainsBy (complaint_of words.now)) }
 {
     if is_given(matches, "help") {
-        return Ok(print(HELP, out, 0));
+        return given(alloc, HELP);
     }
     if is_given(matches, "version") {
-        return Ok(print(VERSION, out, 0));
+        return given(alloc, VERSION);
     }
     match Request::of(matches) {
-        Some(request) => Ok(validate_all(alloc, &request, host, crypto, out, sink, err)),
-        None => complain(alloc, words, err),
+        Some(request) => answered(alloc, &request, host, crypto),
+        None => {
+            let report = complaint(alloc, words)?;
+            Ok(complained(alloc, report))
+        }
     }
 }
 
-/// Runs what the words, which are the program's arguments, ask for, and returns the exit status. Metrics go to the
-/// sink.
+/// Does in memory what the words, which are the program's arguments, ask for.
 ///
-/// `--help` and `--version` print a text. Else what is written to the output are the payloads that are valid at the
-/// moment in the copy, under the locators, with the local exceptions that are asked for: exactly these, each once, in
-/// order, in the form that is asked for; all of them or, where the output fails, a beginning. Before that their metrics
-/// go to the sink, where they are asked for. Where an object or a route is to be explained, or a file to be compared,
-/// it is that, in their place, without metrics. To the faults goes a line for each object that is rejected, or why
-/// there are no payloads. Of other words it is what is wrong with them, and how the program is used.
+/// `--help` and `--version` are a text. Else it is the payloads that are valid at the moment in the copy, under the
+/// locators, with the local exceptions that are asked for: exactly these, each once, in order, in the form that is
+/// asked for; with their metrics, where they are asked for. Where an object or a route is to be explained, or a file to
+/// be compared, it is that, in their place, without metrics. Standard error is told of each object that is rejected,
+/// each locator without a trust anchor, and how many payloads there are; or why there are none. Of other words it is
+/// what is wrong with them, and how the program is used.
 ///
-/// The status is 0 if all is written; 1 if all is, but a locator has no trust anchor, a file that is there could not be
-/// read, or a file that is compared lists other payloads; 2 for other words, without a moment or a locator, if
-/// allocation fails, if the output, the metrics or the faults fail, and where the file of local exceptions, or that to
-/// be compared, can't be read, or is none. Returns `AllocError` if there is no memory to read the words, or to say what
-/// is wrong with them; then nothing is written.
-pub fn run<S: Sources, P: PreparingProvider, W: Write, M: Write, F: Write>(
+/// The status is 0; 1 if a locator has no trust anchor, a file that is there could not be read, or a file that is
+/// compared lists other payloads; 2 for other words, without a moment or a locator, and where the file of local
+/// exceptions, or that to be compared, can't be read, or is none. Returns `AllocError` if allocation fails.
+pub fn run<S: Sources, P: PreparingProvider>(
     alloc: Global,
     words: &[String],
     host: &S,
     crypto: &P,
-    out: &mut W,
-    sink: &mut M,
-    err: &mut F,
-) -> Result<u8, AllocError>
-    ensures help { AskHelp words.now → IfOk result (λ n. PrintsAlone W.contents out.old out.new
-        HELP.now 0 n ((sink.new ≡ sink.old) × (err.new ≡ err.old))) }
-    ensures version { AskVersion words.now → IfOk result (λ n. PrintsAlone W.contents out.old out.new
-        VERSION.now 0 n ((sink.new ≡ sink.old) × (err.new ≡ err.old))) }
-    ensures run { AskRun words.now result (Runs P.rsa_of P.ecdsa_of P.sha1_of P.sha256_of crypto.now S.holds
-        S.clock host.now W.contents out.old out.new M.contents sink.old sink.new) }
-    ensures usage { AskNothing words.now → IfOk result (λ n. PrintsAlone F.contents err.old err.new
-        (complaint_of words.now) 2 n ((out.new ≡ out.old) × (sink.new ≡ sink.old))) }
-    ensures kept { IfErr result (λ _. (out.new ≡ out.old) × (sink.new ≡ sink.old)
-        × (err.new ≡ err.old)) }
+) -> Result<Ran, AllocError>
+    ensures help { AskHelp words.now → IfOk result (GivesBy HELP.now) }
+    ensures version { AskVersion words.now → IfOk result (GivesBy VERSION.now) }
+    ensures run { AskRun words.now result (RunsAs P.rsa_of P.ecdsa_of P.sha1_of P.sha256_of crypto.now
+        (S.holds host.now) (S.clock host.now)) }
+    ensures usage { AskNothing words.now → IfOk result (ComplainsBy (complaint_of words.now)) }
 {
     match matched(alloc, words) {
-        Ok(Some(matches)) => respond(alloc, words, &matches, host, crypto, out, sink, err),
-        Ok(None) => complain(alloc, words, err),
+        Ok(Some(matches)) => respond(alloc, words, &matches, host, crypto),
+        Ok(None) => {
+            let report = complaint(alloc, words)?;
+            Ok(complained(alloc, report))
+        }
         Err(e) => Err(e),
     }
 }

@@ -1,3 +1,5 @@
+use Rattle.rpki_der.proofs.TriedLaws.{tried-error}
+use Rattle.rpkivalid.specs.ComparedView.{OfFiles}
 use Rattle.rpkivalid.proofs.compared.compare.Goals as goal
 
 pub only_in-requires : goal.only_in-requires
@@ -6,8 +8,8 @@ only_in-requires g c = rw c.as_slice-their.ensures.value c.in_ok-theirs.ensures.
 pub only_in-requires-2 : goal.only_in-requires-2
 only_in-requires-2 g c = rw c.as_slice-our.ensures.value c.in_ok-ours.ensures.order
 
-pub returns : goal.returns
-returns g c = record {
+pub returns-clause-compared : goal.returns-clause-compared
+returns-clause-compared g c = record {
   theirs = c.in_ok-theirs.theirs.items;
   lists = c.in_ok-theirs.ensures.lists;
   ours = c.in_ok-ours.ours.vrps.items;
@@ -15,7 +17,7 @@ returns g c = record {
   alone = c.in_ok-there.there;
   alone_are = rw (c.as_slice-their.ensures.value, c.as_slice-our.ensures.value) at c.in_ok-there.ensures;
   why = c.in_ok-said.said.items;
-  says = c.in_ok-said.ensures;
+  says = c.in_ok-said.ensures.told;
   text_is = rw (
     c.in_ok-text.ensures,
     c.as_slice-3.ensures.value,
@@ -35,3 +37,11 @@ returns g c = record {
     c.as_slice-their.ensures.value,
   ) at c.are_empty-are_same.ensures;
 }
+
+pub returns-in_err-ours-clause-denied : goal.returns-in_err-ours-clause-denied
+returns-in_err-ours-clause-denied g c =
+    tried-error _ _ _ c.from_residual-in_err-ours.ensures (OfFiles c.in_err-ours.ensures.denied)
+
+pub returns-in_err-said-clause-denied : goal.returns-in_err-said-clause-denied
+returns-in_err-said-clause-denied g c =
+    tried-error _ _ _ c.from_residual-in_err-said.ensures (OfFiles c.in_err-said.ensures.denied)

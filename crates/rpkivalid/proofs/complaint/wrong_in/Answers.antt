@@ -1,7 +1,7 @@
 use Rattle.std.proofs.Common.{◌≡◌, ◌∙◌, ◌+◌, ◌<◌, ◌≤◌, length, get_or, take, drop, sym, ap, ap₂, arith}
 use Rattle.std.proofs.Common.{rules, string_bytes, Bool}
 use Rattle.std.proofs.lemmas.List.{take_all, drop_all}
-use Rattle.rpkivalid.specs.Complaint.{in_files_after, wrong_at_end, wrong_behind}
+use Rattle.rpkivalid.specs.Complaint.{wrong_behind}
 use Rattle.rpkivalid.specs.ComplaintView.{texts_of}
 use Rattle.rpkivalid.proofs.ComplaintLaws.{behind-none, behind-wrong, behind-next, names-more, words-at}
 use Rattle.rpkivalid.proofs.complaint.wrong_in.Goals as goal

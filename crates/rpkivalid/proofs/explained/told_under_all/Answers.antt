@@ -20,8 +20,8 @@ locators-preserved g c =
     (told-step R all (map named_of c.in-Some.following.now) (named_of c.in-Some.named.now) c.locators.text.items
     c.locators.have_anchors _ _ before c.in_ok-one.ensures)
 
-pub returns : goal.returns
-returns g c =
+pub returns-clause-told : goal.returns-clause-told
+returns-clause-told g c =
     let basis = basis_with g.P.Provider.rsa_of g.P.Provider.ecdsa_of g.P.Provider.sha1_of g.P.Provider.sha256_of
     c.args.provider.now c.args.strictness c.args.at c.args.depth in
     let R = IsToldOf (g.S.Sources.holds c.args.sources.now) c.args.folder.now c.args.strictness basis

@@ -1,4 +1,4 @@
-use Rattle.std.proofs.Common.{◌∙◌, true, List, ap, subst, sym}
+use Rattle.std.proofs.Common.{◌∙◌, true, List, ap, refl, subst, sym}
 use Rattle.std.specs.Prelude.{Some}
 use Rattle.std.specs.List.{Contains, flat_map}
 use Rattle.rpki_contents.specs.Aspa.{AspaParts}
@@ -11,6 +11,7 @@ use Rattle.rpki_payloads.specs.Vrp.{AreOrigins}
 use Rattle.rpki_valid.specs.Verified.{Holder}
 use Rattle.rpki_validation.specs.declared.payload.Payload.{Payload}
 use Rattle.rpki_validation.specs.Holding.{values}
+use Rattle.rpkivalid.specs.declared.walked.Walk.TheVariants.{Found, NoAnchor}
 use Rattle.rpkivalid.specs.Counted.{tally_of}
 use Rattle.rpkivalid.specs.Ends.{AreEnds}
 use Rattle.rpkivalid.specs.Found.{basis_with, router_keys}
@@ -18,8 +19,8 @@ use Rattle.rpkivalid.specs.LocatorsView.{named_of}
 use Rattle.rpkivalid.proofs.FoundLaws.{flat-values, found-valid, found-none}
 use Rattle.rpkivalid.proofs.found.found_under.Goals as goal
 
-pub returns-in_ok-payloads-in-Ok : goal.returns-in_ok-payloads-in-Ok
-returns-in_ok-payloads-in-Ok g c =
+pub returns-in_ok-payloads-in-Ok-clause-found : goal.returns-in_ok-payloads-in-Ok-clause-found
+returns-in_ok-payloads-in-Ok-clause-found g c =
     let payloads = c.in_ok-payloads-in-Ok.payloads in
     let told = c.in_ok-payloads-in-Ok.ensures in
     let named = told.name ∙ c.as_str-in-Ok.ensures.value ∙ sym c.as_str.ensures.value in
@@ -49,8 +50,8 @@ returns-in_ok-payloads-in-Ok g c =
     (λ published k. (c.in-Ok.ensures published k).rejected)
     (told.tally ∙ ap Some (c.tally_of.ensures ∙ ap (tally_of true) c.as_slice-in-Ok-4.ensures.value))
 
-pub returns-in_ok-payloads-in-Err-Rejected : goal.returns-in_ok-payloads-in-Err-Rejected
-returns-in_ok-payloads-in-Err-Rejected g c =
+pub returns-in_ok-payloads-in-Err-Rejected-clause-found : goal.returns-in_ok-payloads-in-Err-Rejected-clause-found
+returns-in_ok-payloads-in-Err-Rejected-clause-found g c =
     let payloads = c.in_ok-payloads-in-Err-Rejected.payloads in
     let told = c.in_ok-payloads-in-Err-Rejected.ensures in
     let named = told.name ∙ c.as_str-in-Err-Rejected-2.ensures.value ∙ sym c.as_str.ensures.value in
@@ -61,3 +62,23 @@ returns-in_ok-payloads-in-Err-Rejected g c =
     told.timed told.pairs told.keys
     (λ published k. let h = rw c.in-Err-Rejected.field-0-is at c.in-Err-Rejected.ensures published k in h.0)
     (told.tally ∙ ap Some c.tally_of-in-Err-Rejected.ensures)
+
+pub returns-in_ok-payloads-in-Ok-clause-told : goal.returns-in_ok-payloads-in-Ok-clause-told
+returns-in_ok-payloads-in-Ok-clause-told g c = record {
+  walk = Found c.in-Ok.outcome;
+  walk_is = rw (c.as_str.ensures.value, c.as_slice-uris.ensures.value) at c.in-Ok.ensures;
+  lines_are = rw (c.as_slice.ensures.value, c.new-report.ensures.items)
+      at c.in_ok-push_rejections-in-Ok.ensures;
+  anchored_is = refl;
+}
+
+pub returns-in_ok-payloads-in-Err-Rejected-clause-told : goal.returns-in_ok-payloads-in-Err-Rejected-clause-told
+returns-in_ok-payloads-in-Err-Rejected-clause-told g c = record {
+  walk = NoAnchor c.in-Err-Rejected.reason;
+  walk_is = λ published k.
+      let h = rw c.in-Err-Rejected.field-0-is at c.in-Err-Rejected.ensures in
+      (rw (c.as_str.ensures.value, c.as_slice-uris.ensures.value) at h) published k;
+  lines_are = rw (c.as_str-in-Err-Rejected.ensures.value, c.new-report.ensures.items)
+      at c.in_ok-push_missing-in-Err-Rejected.ensures;
+  anchored_is = refl;
+}

@@ -8,4 +8,4 @@ returns-in-Some-clause-run g c = λ a h.
     let same = the-run (rows_in c.args.matches.now) (asked_of c.in-Some.request) a
     (sym c.is_given.ensures ∙ c.if-is_given.false)
     (sym c.is_given-2.ensures ∙ c.if-is_given-2.false) c.in-Some.ensures h in
-    rw (← same) c.validate_all.ensures
+    rw (← same) c.answered.ensures

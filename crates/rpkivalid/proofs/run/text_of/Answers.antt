@@ -1,8 +1,8 @@
 use Rattle.std.proofs.Common.{arith}
-use Rattle.rpkivalid.proofs.run.written.Goals as goal
+use Rattle.rpkivalid.proofs.run.text_of.Goals as goal
 
-pub returns : goal.returns
-returns g c =
+pub returns-clause-written : goal.returns-clause-written
+returns-clause-written g c =
     let counted = c.in_ok-vrp_count.ensures in
     let enough = c.if-branch-least.false in
     record {
@@ -10,6 +10,6 @@ returns g c =
       fewest = c.in-Some.ensures.some;
       enough = grind (arith);
       made = c.in-Some-moment_at.made;
-      dated = c.in-Some-moment_at.ensures;
+      dated = c.in-Some-moment_at.ensures.some;
       lists = c.in_ok-text.ensures;
     }
