@@ -1,2 +1,3 @@
 mod Files
 mod PutLaws
+pub mod SpreadLaws

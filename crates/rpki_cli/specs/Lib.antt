@@ -7,3 +7,4 @@ pub mod Ready
 pub mod Delivered
 -- A machine in memory.
 pub mod Memory
+pub mod Spread

@@ -5,6 +5,8 @@
 //! device, is written to.
 
 use crate::machine::Machine;
+use crate::spread::Folders;
+use std::alloc::{AllocError, Global};
 use std::fs::{File, Metadata, OpenFile, OpenOptions, Permissions};
 use std::io::{ErrorKind, Write};
 use std::os::unix::fs::{MetadataExt, OpenOptionsExt, PermissionsExt, fchown};
@@ -226,5 +228,48 @@ impl Machine for Host<'_> {
 
     fn complain(&mut self, program: &str, name: &str, why: &str) -> bool {
         eprintln!(self.rt; "{program}: {name}: {why}").is_ok()
+    }
+}
+
+/// Whether the name is that of a file that is looked for: it ends so, and is not hidden.
+fn is_wanted(name: &str, ending: &str) -> bool {
+    name.ends_with(ending) && !name.starts_with('.')
+}
+
+/// None of the files of a folder, for this error of the host. Returns `AllocError` if it is that allocation failed.
+fn unlisted(alloc: Global, kind: ErrorKind) -> Result<Vec<String>, AllocError> {
+    match kind {
+        ErrorKind::OutOfMemory => Err(AllocError),
+        _ => Ok(Vec::new(alloc)),
+    }
+}
+
+impl Folders for Host<'_> {
+    ghost use Rattle.std.specs.Prelude.{None};
+
+    ghost listed = { λ _. None };
+
+    fn files_in(
+        &self,
+        alloc: Global,
+        ending: &str,
+        folder: &str,
+    ) -> Result<Vec<String>, AllocError> {
+        let entries = match fs::read_dir(self.rt, folder) {
+            Ok(entries) => entries,
+            Err(e) => return unlisted(alloc, e.kind()),
+        };
+        let mut files = Vec::new(alloc);
+        for entry in entries {
+            let entry = match entry {
+                Ok(entry) => entry,
+                Err(e) => return unlisted(alloc, e.kind()),
+            };
+            if is_wanted(entry.file_name(), ending) {
+                files.push(String::from_str(alloc, entry.path().as_str())?)?;
+            }
+        }
+        files.sort()?;
+        Ok(files)
     }
 }

@@ -12,3 +12,4 @@ pub mod memory;
 pub mod put;
 pub mod ready;
 mod record;
+pub mod spread;
