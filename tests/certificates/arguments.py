@@ -9,11 +9,12 @@ from programs import TOP, ran
 with open(os.path.join(TOP, "include", "rpki.h"), encoding="utf-8") as header:
     VERSION = ".".join(re.findall(r"^#define RPKI_VERSION_[A-Z]+ (\d+)$", header.read(), re.M))
 SYNOPSIS = b"usage: rpkicert [--json] [--check] [--profile NAME] [--lax] [--issuer FILE]"
-USAGE = SYNOPSIS + b" [--at MOMENT] [-r] FILE..\n"
+USAGE = SYNOPSIS + b" [--crl FILE] [--at MOMENT] [-r] FILE..\n"
 # Words that ask for nothing, and what is wrong with them first, from the left; worked by hand.
 FILE, NO_FILE = object(), "no file"
 UNKNOWN, NO_VALUE, VALUE = "unknown option: {}", "{} takes a value", "{} takes no value"
 TWICE, LAX = "{} is given twice", "--lax is for --check and --profile"
+LISTED = "--crl is for --issuer"
 PROFILE = "--profile takes auto, ta, ca, ee, detached or router, not {}"
 WRONG = [
     ([], NO_FILE), (["--json"], NO_FILE), (["--check"], NO_FILE), (["--profile", "ca"], NO_FILE), (["--"], NO_FILE),
@@ -47,6 +48,11 @@ WRONG = [
     (["--version", "--json", "--version"], TWICE.format("--version")),
     (["--lax", FILE], LAX), (["--json", "--lax", FILE], LAX), (["--lax"], LAX), (["--lax", "--", "--profile"], LAX),
     (["--lax", "--", "--check"], LAX), (["--check", "--lax"], NO_FILE), (["--lax", "--check", "--"], NO_FILE),
+    (["--crl", "a", FILE], LISTED), (["--check", FILE, "--crl=a"], LISTED), (["--crl", "a"], LISTED),
+    (["--crl", "a", "--", "--issuer", "b"], LISTED), (["--crl", "a", "--lax", FILE], LAX),
+    (["--crl", "--issuer", "a", FILE], NO_VALUE.format("--crl")), ([FILE, "--crl"], NO_VALUE.format("--crl")),
+    (["--crl=a", "--crl", "b", FILE], TWICE.format("--crl")), (["--crl", "a", "--issuer", "b"], NO_FILE),
+    (["--crls", "a", FILE], UNKNOWN.format("--crls")),
 ]
 
 

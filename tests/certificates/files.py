@@ -10,9 +10,32 @@ from programs import octets_of, ran, write
 
 MOST = 4000000
 # What is said of octets, and of a text, that begin as no object, and have none in PEM: why they are no locator either.
-NO_PEM = "not one certificate or list in PEM"
-NO_LOCATOR = "neither DER nor PEM of an object, nor a trust anchor locator: "
-OTHER, NOTHING = NO_LOCATOR + "line 1: not a URI of a trust anchor", NO_LOCATOR + "line 1: no URI"
+NO_PEM, NO_LOCATOR = "not one certificate or list in PEM", "not a trust anchor locator: "
+OTHER = "neither DER nor PEM of an object, nor a trust anchor locator"
+FOLDER = "Is a directory (-r prints the files in it)"
+# What a text of RFC 7468 has, and what is said of it.
+KEY, PUBLIC, REQUEST, DATA, KIND = (NO_PEM + it for it in (
+    ": a private key", ": a public key", ": a certificate request", ": signed data, which is read as DER",
+    ": of another kind"))
+
+
+# Labels of RFC 7468, OpenSSL and RFC 5915, and what is said of them.
+LABELS = [(f"the label {label}", label.encode(), said) for label, said in (
+    ("PRIVATE KEY", KEY), ("ENCRYPTED PRIVATE KEY", KEY), ("RSA PRIVATE KEY", KEY), ("EC PRIVATE KEY", KEY),
+    ("PUBLIC KEY", PUBLIC), ("CERTIFICATE REQUEST", REQUEST), ("NEW CERTIFICATE REQUEST", REQUEST), ("CMS", DATA),
+    ("PKCS7", DATA), ("ATTRIBUTE CERTIFICATE", KIND), ("DSA PRIVATE KEY", KIND), ("PRIVATE KEYS", KIND), ("", KIND))]
+
+
+def of_openssl(paths):
+    """What openssl writes in PEM that is no certificate."""
+    key, elliptic = paths["ca"] + ".key", paths["router"] + ".key"
+    return [("a key by openssl", octets_of(key), 1, KEY),
+            ("a key of RSA", openssl("rsa", "-in", key, "-traditional"), 1, KEY),
+            ("an elliptic key", openssl("ec", "-in", elliptic), 1, KEY),
+            ("an encrypted key", openssl("pkey", "-in", key, "-aes128", "-passout", "pass:word"), 1, KEY),
+            ("a public key of RSA", openssl("rsa", "-in", key, "-RSAPublicKey_out"), 1, KIND),
+            ("a request", octets_of(paths["ca"] + ".csr"), 1, REQUEST),
+            ("certificates of PKCS #7", openssl("crl2pkcs7", "-nocrl", "-certfile", paths["ca"] + ".pem"), 1, DATA)]
 
 
 def others(program, folder):
@@ -29,12 +52,12 @@ def others(program, folder):
         ("one octet", b"0", 1, none + "truncated value"),
         ("another type", b"\x02\x01\x01", 1, OTHER),
         ("a text", b"hello\n", 1, OTHER),
-        ("a line feed", b"\n", 1, NOTHING),
-        ("DER behind a line feed", b"\n" + der, 1, NOTHING),
+        ("a line feed", b"\n", 1, OTHER),
+        ("DER behind a line feed", b"\n" + der, 1, OTHER),
         ("base 64 alone", b"".join(pem.split(b"\n")[1:-2]), 1, OTHER),
         ("a last line alone", end, 1, OTHER),
         ("four hyphens", pem[1:], 1, OTHER),
-        ("the beginning of PEM", b"-----BEGIN", 1, malformed),
+        ("the beginning of PEM", b"-----BEGIN", 1, KIND),
         ("PEM without its end", pem[:-len(end)], 1, malformed),
         ("PEM cut in its end", pem[:-3], 1, malformed),
         ("PEM and a text after it", pem + b"x", 0, None),
@@ -43,10 +66,12 @@ def others(program, folder):
          None),
         ("PEM behind a key", key + pem, 0, None),
         ("a text before PEM cut in its end", b"subject\n" + pem[:-3], 1, malformed),
-        ("a key", key, 1, malformed),
+        ("a key", key, 1, PUBLIC),
         ("a text that begins as DER", b"0 certificates\n" + pem, 1, None),
-        ("another label", pem.replace(b"CERTIFICATE", b"PUBLIC KEY"), 1, malformed),
+        ("another label", pem.replace(b"CERTIFICATE", b"PUBLIC KEY"), 1, PUBLIC),
         ("the label of a list", pem.replace(b"CERTIFICATE", b"X509 CRL"), 0, None),
+        *((text, pem.replace(b"CERTIFICATE", label), 1, said) for text, label, said in LABELS),
+        *of_openssl(paths),
         ("two labels", pem.replace(b"END CERTIFICATE", b"END X509 CRL"), 1, malformed),
         ("an octet out of base 64", pem.replace(b"\nMII", b"\n*II", 1), 1, malformed),
         ("PEM of octets that are none", b"-----BEGIN CERTIFICATE-----\nBQA=\n" + end, 1, none + "unexpected value"),
@@ -73,7 +98,7 @@ def others(program, folder):
             same = output.decode() == f"{shown}: {said}\n" if said else output.startswith(f"{shown}: {none}".encode())
             yield f"{name}, {words[0][:1]}, checked", (status, same, faults), (wanted, True, b"")
     absent = "No such file or directory"
-    for name, path, cause in [("a folder", folder, "Is a directory"), ("no file", os.path.join(folder, "lost"), absent),
+    for name, path, cause in [("a folder", folder, FOLDER), ("no file", os.path.join(folder, "lost"), absent),
                               ("an empty name", "", absent)]:
         seen = ran(program, path)
         yield name, seen, (2, b"", f"rpkicert: {path}: cannot be read: {cause}\n".encode())

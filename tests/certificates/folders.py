@@ -4,6 +4,7 @@ import os
 import shutil
 
 from fields import verdict
+from files import FOLDER
 from makers import authority
 from programs import octets_of, ran, write
 
@@ -45,7 +46,7 @@ def recursive(program, folder):
     yield "no folder", ran(program, "-r", lost), (
         2, b"", f"rpkicert: {lost}: cannot be read: No such file or directory\n".encode())
     seen = ran(program, top)
-    yield "a folder without -r", seen, (2, b"", f"rpkicert: {top}: cannot be read: Is a directory\n".encode())
+    yield "a folder without -r", seen, (2, b"", f"rpkicert: {top}: cannot be read: {FOLDER}\n".encode())
     issued = ran(program, "-r", "--check", "--issuer", anchor, os.path.join(top, "a"))
     yield "an issuer", issued, ran(program, "--check", "--issuer", anchor, *[
         name for name in names if name.startswith(os.path.join(top, "a", ""))])
@@ -55,7 +56,7 @@ def recursive(program, folder):
     yield "a link to a folder that is named", seen, ran(program, "--check", *[
         os.path.join(link, path) for path in ("b/c/d.pem", "z.cer")])
     status, output, _ = ran(program, "-r", "--check", top)
-    line = f"{link}: cannot be read: Is a directory\n".encode()
+    line = f"{link}: cannot be read: {FOLDER}\n".encode()
     yield "a link to a folder in one", (status, line in output), (2, True)
     os.remove(link)
     broken = os.path.join(top, "zz")

@@ -10,6 +10,7 @@ from datetime import datetime, timedelta, timezone
 import repository
 from arguments import USAGE
 from fields import OK, UNASKED, UNREVOKED
+from files import FOLDER
 from makers import authority, objects, payloads, signing
 from openssl import certify, openssl, said_of, text_of
 from programs import ran
@@ -349,7 +350,7 @@ def none(program, folder):
     with open(text, "wb") as file:
         file.write(b"-----BEGIN CERTIFICATE-----\n")
     lost = os.path.join(folder, "lost")
-    rows = [(lost, "cannot be read: No such file or directory"), (folder, "cannot be read: Is a directory"),
+    rows = [(lost, "cannot be read: No such file or directory"), (folder, "cannot be read: " + FOLDER),
             (crl, "not a certificate"), (text, "not one certificate or list in PEM")]
     for issuer, said in rows:
         for words in ["--issuer", issuer, path], ["--check", path, f"--issuer={issuer}"], \

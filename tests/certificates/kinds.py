@@ -5,7 +5,7 @@ import json
 
 from der import bits, oid, sequence, tlv, unsigned
 from fields import UNASKED
-from files import NO_LOCATOR
+from files import OTHER
 from judges import contents as judged_contents, lists as judged_lists, objects as judged_objects
 from makers import payloads, signing
 from makers.certificate import CERTIFICATE
@@ -86,7 +86,7 @@ def beginning(octets):
     """How what is said of octets begins that are none, by their front."""
     if octets[:1] == b"\x30":
         return f"not a {KINDS[kind(octets)]}: {'' if kind(octets) == 'certificate' else part(octets)}"
-    return NO_LOCATOR if octets else "empty"
+    return OTHER if octets else "empty"
 
 
 def said_of_octets(program, text, octets, expected):

@@ -5,7 +5,7 @@ import json
 import os
 
 from fields import lines_of, size
-from files import NO_LOCATOR
+from files import NO_LOCATOR, OTHER
 from forms import hash_id
 from makers import authority
 from openssl import key_identifier, openssl
@@ -94,7 +94,7 @@ def judged(program, folder):
         seen = ran(program, "--check", "-", octets=text)
         yield f"locator: {name}", seen, (0, f"-: {WELL}\n".encode(), b"")
     for name, text, line, wrong in bad(key):
-        said = f"-: {NO_LOCATOR}line {line}{wrong}\n".encode()
+        said = f"-: {OTHER if line == 1 else f'{NO_LOCATOR}line {line}{wrong}'}\n".encode()
         for words in [], ["--profile", "ta"]:
             yield f"locator: {name}, {words}", ran(program, "--check", *words, "-", octets=text), (1, said, b"")
         yield f"locator: {name}, shown", ran(program, "-", octets=text), (1, b"", b"rpkicert: " + said)

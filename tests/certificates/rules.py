@@ -3,10 +3,12 @@ first, and of changes that break a rule each all of them."""
 import functools
 import itertools
 import json
+import os
 
 import sections
 from fields import UNASKED
 from makers import certificate as made, x509
+from openssl import openssl
 from programs import ran
 from values import changed
 from variants import certificates, names_and_places
@@ -72,12 +74,16 @@ def lax(program, folder):
                 yield f"{text} as {profile}, lax", seen, (0 if good else 1, f"{path}: {said}\n".encode(), b"")
 
 
+NO_POLICY = "RFC 6487 4.8.9: missing certificate policies"
+NO_RESOURCES = "RFC 6487 4.8.10, 4.8.11: missing resources, or ones that are not critical"
 # Changes of an authority's certificate that break one rule each, in the order of the rules, and what is said of it.
 SINGLE = [
     (made.serial(b"\x00"), "RFC 5280 4.1.2.2: serial number is 0"),
     (made.add(x509.UNKNOWN, b"", critical=True), "RFC 5280 4.2: unknown critical extension"),
     (sections.of_issuer(sections.BY_UTF8), sections.ISSUER + "invalid name"),
     (made.turn(x509.SUBJECT_KEY), sections.SUBJECT_KEY + sections.CRITICAL),
+    # Without the policy there is no version either (RFC 8360 4.2), of which nothing more is said.
+    (made.remove(x509.POLICIES), NO_POLICY), (made.remove(x509.ADDRESSES, x509.NUMBERS), NO_RESOURCES),
     (made.subject(sections.BY_UTF8), sections.SUBJECT + "invalid name"),
     (made.put(x509.CONSTRAINTS, sections.WRONG), sections.CONSTRAINTS + "unexpected value"),
     (made.turn(x509.USAGE), sections.USAGE + sections.CRITICAL),
@@ -85,6 +91,15 @@ SINGLE = [
     (made.remove(x509.REVOCATION), certificates.NO_LIST),
     (made.turn(x509.AUTHORITY_ACCESS), sections.AUTHORITY_ACCESS + sections.CRITICAL),
 ]
+# What is said of a certificate of the web, which its own key has signed; worked by hand from RFC 6487 4.
+OF_WEB = [
+    sections.ISSUER + "invalid name", NO_POLICY, NO_RESOURCES, sections.SUBJECT + "invalid name",
+    "RFC 6487 4.8.5: extended key usage of a key of the RPKI", certificates.OTHER_USAGE,
+    "RFC 6487 4.8.8.1: missing URI of the repository", "RFC 6487 4.8.8.1: missing URI of the manifest",
+    "RFC 6487 4.8.8.1, RFC 9286 2: manifest is not in the repository",
+    "RFC 8182 3.2: notifications without an https URI",
+]
+WEB = ["keyUsage=critical,digitalSignature", "extendedKeyUsage=serverAuth", "subjectAltName=DNS:www.example.org"]
 # An authority's certificate under other profiles, and all that is said of it; worked by hand from RFC 6487 4, RFC 8209
 # 3.1 and RFC 9323 2.
 NO_ACCESS = "RFC 8209 3.1.3.3, RFC 9323 2: subject information access"
@@ -125,4 +140,14 @@ def all_rules(program, folder):
             yield f"an authority as {profile}{form}", seen, wanted
 
 
-TABLES = [violations, sectioned, lax, all_rules]
+def of_the_web(program, folder):
+    """Of a certificate of the web each rule that it breaks is told, and none that only follows from another."""
+    path = os.path.join(folder, "web.der")
+    openssl("req", "-x509", "-newkey", "rsa:2048", "-nodes", "-keyout", os.path.join(folder, "web.key"), "-subj",
+            "/C=DE/O=Example/CN=www.example.org", *[word for line in WEB for word in ("-addext", line)], "-outform",
+            "DER", "-out", path)
+    for form, seen, wanted in of_all(program, "auto", path, OF_WEB):
+        yield f"of the web{form}", seen, wanted
+
+
+TABLES = [violations, sectioned, lax, all_rules, of_the_web]

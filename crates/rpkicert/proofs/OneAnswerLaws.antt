@@ -12,8 +12,9 @@ use Rattle.rpki_fields.specs.Object.{objection_to}
 use Rattle.rpki_fields.specs.declared.object.Object.{Object}
 use Rattle.rpkicert.specs.declared.fault.Fault.{Fault}
 use Rattle.rpkicert.specs.declared.fault.Fault.TheVariants.{Unreadable, TooLarge, OutOfMemory, Malformed, Refused}
+use Rattle.rpkicert.specs.declared.fault.Fault.TheVariants.{OtherText}
 use Rattle.rpkicert.specs.declared.fault.Fault.TheVariants.{Empty, Neither, NoLocator}
-use Rattle.rpkicert.specs.declared.fault.Fault.TheVariants.{Violated, Unverified, NoCertificate, OtherAlgorithm}
+use Rattle.rpkicert.specs.declared.fault.Fault.TheVariants.{Violated, Unverified, NoCertificate, NoList, OtherAlgorithm}
 use Rattle.rpki_fields.specs.declared.rendering.Form.{Form}
 use Rattle.rpkicert.specs.Fault.{status_of}
 use Rattle.rpkicert.specs.Outcome.{OutcomeParts, found_parts, Finding, IsHeld, IsJudged, HoldsTo, FindsIn, Finds}
@@ -21,7 +22,7 @@ use Rattle.rpkicert.specs.Outcome.{is_other, form_fault, FindsFormed, FindsBy}
 use Rattle.rpkicert.specs.declared.signature.Signature.{Signature}
 use Rattle.rpkicert.specs.Signature.{signature_found}
 use Rattle.rpkicert.specs.Request.{Asked}
-use Rattle.rpkicert.specs.Requirements.{TermParts, term_parts, no_terms}
+use Rattle.rpkicert.specs.Requirements.{TermParts, term_parts, no_terms, list_terms}
 use Rattle.rpkicert.specs.Output.{file_text, hashed, marked, record_text, IsTextOf, OutputParts, shown_parts, IsOutput}
 use Rattle.rpkicert.specs.Output.{IsSeen}
 use Rattle.rpkicert.specs.Output.{IsChecked, checked_other, fault_line, status_in}
@@ -33,6 +34,7 @@ use Rattle.rpkicert.specs.Output.IsSeenOf.{OfAll, OfLocator, OfEach, OfNone}
 use Rattle.rpkicert.specs.Output.IsRun.{Whole, Cut}
 use Rattle.rpkicert.specs.Moment.{Clock, is_now, NamesBy, IsMoment}
 use Rattle.rpkicert.specs.Run.{Holds, issuer_in, issuer_or, IsIssuerOf, AreRequirements, Sees, IsRunOf}
+use Rattle.rpkicert.specs.Run.{list_in, list_or, IsListOf}
 use Rattle.rpkicert.specs.Run.{AreKnown, IsClockKnown, IsKnown, EndsWellWith}
 use Rattle.rpkicert.specs.Run.IsRunOf.{Held, Denied}
 use Rattle.rpkicert.specs.Values.{ToldParts}
@@ -41,6 +43,7 @@ use Rattle.rpki_fields.proofs.OneObjectLaws.{one-of, none-of}
 use Rattle.rpki_fields.proofs.OneSheetLaws.{one-sheet}
 use Rattle.rpki_fields.proofs.LocatorLaws.{one-locator-sheet}
 use Rattle.rpki_cert.specs.Cert.{TbsParts}
+use Rattle.rpki_crl.specs.Crl.{CrlParts}
 use Rattle.jiff.specs.Types.{DateTime}
 use Rattle.jiff.specs.Words.{civil_nanos}
 use Rattle.jiff.proofs.Family.{same_datetime}
@@ -73,12 +76,14 @@ held-alone terms x (Some (Unverified clause e)) g h = absurd (h.1.not_all g.veri
 held-alone terms x (Some OtherAlgorithm) g h = absurd (false≢true (sym g.inside ∙ h))
 held-alone terms x (Some (Refused kind place e)) g h = absurd h
 held-alone terms x (Some OutOfMemory) g h = absurd h
+held-alone terms x (Some NoList) g h = absurd h
 held-alone terms x (Some (Unreadable cause)) g h = absurd h
 held-alone terms x (Some TooLarge) g h = absurd h
 held-alone terms x (Some Empty) g h = absurd h
 held-alone terms x (Some Neither) g h = absurd h
 held-alone terms x (Some (NoLocator e)) g h = absurd h
 held-alone terms x (Some Malformed) g h = absurd h
+held-alone terms x (Some (OtherText kind)) g h = absurd h
 
 one-held : (terms : TermParts) (octets : List ℕ) (found : OutcomeParts) (f : Finding) → found.fault ≡ None
     → HoldsTo terms octets (Ok found) → HoldsTo terms octets f → IsAlone found f
@@ -92,6 +97,7 @@ one-held terms octets found (Err (Refused kind place e)) n g h =
 one-held terms octets found (Err OutOfMemory) n g h = inr refl
 one-held terms octets found (Err (Violated e)) n g h = absurd h
 one-held terms octets found (Err NoCertificate) n g h = absurd h
+one-held terms octets found (Err NoList) n g h = absurd h
 one-held terms octets found (Err (Unverified clause e)) n g h = absurd h
 one-held terms octets found (Err OtherAlgorithm) n g h = absurd h
 one-held terms octets found (Err (Unreadable cause)) n g h = absurd h
@@ -100,6 +106,7 @@ one-held terms octets found (Err Empty) n g h = absurd h
 one-held terms octets found (Err Neither) n g h = absurd h
 one-held terms octets found (Err (NoLocator e)) n g h = absurd h
 one-held terms octets found (Err Malformed) n g h = absurd h
+one-held terms octets found (Err (OtherText kind)) n g h = absurd h
 
 one-formed : (terms : TermParts) (input : List ℕ) (found : OutcomeParts) (f : Finding) → found.fault ≡ None
     → FindsFormed terms input (Ok found) → FindsFormed terms input f → IsAlone found f
@@ -170,10 +177,12 @@ fault-status Empty e = omega arith
 fault-status Neither e = omega arith
 fault-status (NoLocator y) e = omega arith
 fault-status Malformed e = omega arith
+fault-status (OtherText kind) e = omega arith
 fault-status (Refused kind place x) e = omega arith
 fault-status (Violated x) e = omega arith
 fault-status (Unverified clause x) e = omega arith
 fault-status NoCertificate e = omega arith
+fault-status NoList e = omega arith
 fault-status OtherAlgorithm e = omega arith
 
 shown-status : (check : Bool) (form : Form) (terms : TermParts) (name : List ℕ) (fault : Fault) (s : OutputParts)
@@ -197,9 +206,11 @@ some-status form terms name x Empty s g = ap (λ (w : OutputParts). w.status) g.
 some-status form terms name x Neither s g = ap (λ (w : OutputParts). w.status) g.2
 some-status form terms name x (NoLocator e) s g = ap (λ (w : OutputParts). w.status) g.2
 some-status form terms name x Malformed s g = ap (λ (w : OutputParts). w.status) g.2
+some-status form terms name x (OtherText kind) s g = ap (λ (w : OutputParts). w.status) g.2
 some-status form terms name x (Refused kind place e) s g = ap (λ (w : OutputParts). w.status) g.2
 some-status form terms name x (Unverified clause e) s g = ap (λ (w : OutputParts). w.status) g.2
 some-status form terms name x NoCertificate s g = ap (λ (w : OutputParts). w.status) g.2
+some-status form terms name x NoList s g = ap (λ (w : OutputParts). w.status) g.2
 some-status form terms name x OtherAlgorithm s g =
     ap (λ (w : OutputParts). w.status) g ∙ other-status form name (objection_to x)
 
@@ -437,17 +448,61 @@ one-issuer holds (Some name) (Some t) None known g h = absurd h
 one-issuer holds (Some name) (Some t) (Some u) known g h =
     ap Some (held-issuer (holds name) g.0 h.0 t u known g.1 h.1 g.2 h.2)
 
-same-terms : (t u : TermParts) → t.inspection ≡ u.inspection → t.issuer ≡ u.issuer → t.moment ≡ u.moment → t ≡ u
-same-terms t u p q r =
-    let e : term_parts t.inspection t.issuer t.moment ≡ term_parts u.inspection u.issuer u.moment = rw (p, q, r) refl in
+list-held : (x : Object) (fault : Option Fault) (l : CrlParts) → list_or x fault ≡ Ok l → fault ≡ None
+list-held x None l p = refl
+list-held x (Some fault) l p = absurd (let r = p in cc)
+
+other-list : (found : OutcomeParts) (k : Finding) (l m : CrlParts) → IsAlone found k
+    → list_in (Ok found) ≡ Ok l → list_in k ≡ Ok m → l ≡ m
+other-list found k l m (inl e) p q = let r = sym p ∙ sym (ap list_in e) ∙ q in cc
+other-list found k l m (inr e) p q = absurd (let r = sym (ap list_in e) ∙ q in cc)
+
+same-list : (terms : TermParts) (source : Option (List ℕ)) (f k : Finding) (l m : CrlParts) → Finds terms source f
+    → Finds terms source k → list_in f ≡ Ok l → list_in k ≡ Ok m → l ≡ m
+same-list terms source (Err fault) k l m g h p q = absurd (let r = p in cc)
+same-list terms source (Ok found) k l m g h p q =
+    other-list found k l m
+    (one-finding terms source found (list-held found.object found.fault l p) g k h) p q
+
+held-list : (terms : TermParts) (held : Option (Option (List ℕ))) (f k : Finding) (l m : CrlParts) → IsSome held
+    → IfSome held (λ source. Finds terms source f) → IfSome held (λ source. Finds terms source k)
+    → list_in f ≡ Ok l → list_in k ≡ Ok m → l ≡ m
+held-list terms None f k l m known g h p q = absurd cc
+held-list terms (Some source) f k l m known g h p q = same-list terms source f k l m g h p q
+
+one-list : (holds : Holds) (name : Option (List ℕ)) (t : Option TbsParts) (at : Option DateTime)
+    (l m : Option CrlParts) → IfSome name (λ name. IsSome (holds name)) → IsListOf holds name t at l
+    → IsListOf holds name t at m → l ≡ m
+one-list holds name None at l m known g h = g ∙ sym h
+one-list holds None (Some t) at l m known g h = g ∙ sym h
+one-list holds (Some name) (Some t) at None m known g h = absurd g
+one-list holds (Some name) (Some t) at (Some l) None known g h = absurd h
+one-list holds (Some name) (Some t) at (Some l) (Some m) known g h =
+    ap Some (held-list (list_terms t at) (holds name) g.0 h.0 l m known g.1 h.1 g.2 h.2)
+
+same-terms : (t u : TermParts) → t.inspection ≡ u.inspection → t.issuer ≡ u.issuer → t.revocations ≡ u.revocations
+    → t.moment ≡ u.moment → t ≡ u
+same-terms t u p q l r =
+    let e : term_parts t.inspection t.issuer t.revocations t.moment
+    ≡ term_parts u.inspection u.issuer u.revocations u.moment = rw (p, q, l, r) refl in
     e
+
+-- the same list of the same issuer, at the same moment
+list-of-terms : (holds : Holds) (name : Option (List ℕ)) (t u : TermParts) → IfSome name (λ name. IsSome (holds name))
+    → t.issuer ≡ u.issuer → t.moment ≡ u.moment → IsListOf holds name t.issuer t.moment t.revocations
+    → IsListOf holds name u.issuer u.moment u.revocations → t.revocations ≡ u.revocations
+list-of-terms holds name t u known p q g h =
+    one-list holds name u.issuer u.moment t.revocations u.revocations known
+    (subst (λ (at : Option DateTime). IsListOf holds name u.issuer at t.revocations) q
+    (subst (λ (o : Option TbsParts). IsListOf holds name o t.moment t.revocations) p g)) h
 
 one-terms : (holds : Holds) (clock : Clock) (a : Asked) (t u : TermParts) → IsKnown holds clock a
     → AreRequirements holds clock a t → AreRequirements holds clock a u → u ≡ t
 one-terms holds clock a t u known g h =
-    same-terms u t (h.inspection ∙ sym g.inspection)
-    (one-issuer holds a.issuer u.issuer t.issuer known.issuer h.issuer g.issuer)
-    (one-moment clock a.moment u.moment t.moment known.moment h.moment g.moment)
+    let issuer = one-issuer holds a.issuer u.issuer t.issuer known.issuer h.issuer g.issuer in
+    let moment = one-moment clock a.moment u.moment t.moment known.moment h.moment g.moment in
+    same-terms u t (h.inspection ∙ sym g.inspection) issuer
+    (list-of-terms holds a.list u t known.list issuer moment h.revocations g.revocations) moment
 
 -- ---- a run
 

@@ -15,8 +15,9 @@ use Rattle.rpkicert.specs.declared.fault.Fault.{Fault}
 use Rattle.rpkicert.specs.declared.outcome.Outcome.{Outcome}
 use Rattle.rpkicert.specs.OutcomeView.{finding_of, wrong_finding}
 use Rattle.rpkicert.specs.declared.fault.Fault.TheVariants.{Unreadable, TooLarge, OutOfMemory, Malformed, Refused}
+use Rattle.rpkicert.specs.declared.fault.Fault.TheVariants.{OtherText}
 use Rattle.rpkicert.specs.declared.fault.Fault.TheVariants.{Empty, Neither, NoLocator}
-use Rattle.rpkicert.specs.declared.fault.Fault.TheVariants.{Violated, Unverified, NoCertificate, OtherAlgorithm}
+use Rattle.rpkicert.specs.declared.fault.Fault.TheVariants.{Violated, Unverified, NoCertificate, NoList, OtherAlgorithm}
 use Rattle.rpkicert.specs.Fault.{refusal}
 use Rattle.rpkicert.specs.Requirements.{TermParts, IsVerified, IsUnverifiedBy}
 use Rattle.rpkicert.specs.Outcome.{Finding, IsObject, IsRefusal, IsHeld, IsWrong, HoldsTo, FindsIn, Finds, IsRead}
@@ -108,10 +109,14 @@ wrong-holds terms octets x Empty h (inl e) = absurd cc
 wrong-holds terms octets x Neither h (inl e) = absurd cc
 wrong-holds terms octets x (NoLocator y) h (inl e) = absurd cc
 wrong-holds terms octets x Malformed h (inl e) = absurd cc
+wrong-holds terms octets x (OtherText kind) h (inl e) = absurd cc
 wrong-holds terms octets x Empty h (inr w) = absurd w
 wrong-holds terms octets x Neither h (inr w) = absurd w
 wrong-holds terms octets x (NoLocator e) h (inr w) = absurd w
 wrong-holds terms octets x Malformed h (inr w) = absurd w
+wrong-holds terms octets x (OtherText kind) h (inr w) = absurd w
+wrong-holds terms octets x NoList h (inl e) = absurd cc
+wrong-holds terms octets x NoList h (inr w) = absurd w
 
 -- a file that was not read
 pub not-read : (terms : TermParts) (source : Option (List ℕ)) (f : Fault) → IsRead source (Err f)
@@ -123,10 +128,12 @@ not-read terms (Some octets) Empty h = absurd h
 not-read terms (Some octets) Neither h = absurd h
 not-read terms (Some octets) (NoLocator e) h = absurd h
 not-read terms (Some octets) Malformed h = absurd h
+not-read terms (Some octets) (OtherText kind) h = absurd h
 not-read terms (Some octets) (Refused kind place e) h = absurd h
 not-read terms (Some octets) (Violated v) h = absurd h
 not-read terms (Some octets) (Unverified clause e) h = absurd h
 not-read terms (Some octets) NoCertificate h = absurd h
+not-read terms (Some octets) NoList h = absurd h
 not-read terms (Some octets) OtherAlgorithm h = absurd h
 not-read terms None (Unreadable cause) h = inl (cause, refl)
 not-read terms None TooLarge h = absurd h
@@ -135,10 +142,12 @@ not-read terms None Empty h = absurd h
 not-read terms None Neither h = absurd h
 not-read terms None (NoLocator e) h = absurd h
 not-read terms None Malformed h = absurd h
+not-read terms None (OtherText kind) h = absurd h
 not-read terms None (Refused kind place e) h = absurd h
 not-read terms None (Violated v) h = absurd h
 not-read terms None (Unverified clause e) h = absurd h
 not-read terms None NoCertificate h = absurd h
+not-read terms None NoList h = absurd h
 not-read terms None OtherAlgorithm h = absurd h
 
 -- a file that was read

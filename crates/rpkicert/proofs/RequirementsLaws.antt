@@ -28,7 +28,7 @@ use Rattle.rpkicert.specs.Requirements.{manifest_period, IsSignedWrong, IsCertUn
 use Rattle.rpkicert.specs.Requirements.{IsListUnissued, IsUpdateError, WhereSome, HasSome, WhereBoth, HasBoth}
 use Rattle.rpkicert.specs.Requirements.{HoldsCertAt}
 use Rattle.rpkicert.specs.Requirements.{HoldsListAt, HoldsManifestAt, IsSigned, KeepsResources, IsAnchored}
-use Rattle.rpkicert.specs.Requirements.{HasIssuedCert}
+use Rattle.rpkicert.specs.Requirements.{HasIssuedCert, IsNotRevoked, IsRevokedError, BreaksListed}
 use Rattle.rpkicert.specs.Requirements.{HasIssuedList, Both, AreUpdatesHeld, ArePeriodsHeld, HoldsAlone, IsIssuedBy}
 use Rattle.rpkicert.specs.Requirements.{HasIssuer}
 use Rattle.rpkicert.specs.Requirements.{IsVerified, Wrong, Else, SaysBy, SaysOf, BreaksResources, BreaksUpdates}
@@ -220,6 +220,15 @@ module _ (terms : TermParts) (x : Object) where
   abbrev SaysList : Wrong
   SaysList = SaysBy IsListUnissued terms.issuer (list_of x) C.List
 
+  abbrev SaysRevoked : Wrong
+  SaysRevoked = SaysBy IsRevokedError terms.revocations (signer_of x) C.Revoked
+
+  abbrev RevokedError : ValidationError → Type 0
+  RevokedError e = HasBoth (λ l c. IsRevokedError l c e) terms.revocations (signer_of x)
+
+  abbrev IsListed : Type 0
+  IsListed = Both (HasIssuedList terms x) (IsNotRevoked terms x)
+
   pub issuer-anchor : (r : Result (Unit {0}) Fault) (fault : Fault) → IsTried r fault
       → Broken C.Anchor (IsAnchored terms x) AnchorError fault → Judges (HasIssuer terms x) (BreaksIssuer terms x) r
   issuer-anchor r fault h b =
@@ -233,15 +242,27 @@ module _ (terms : TermParts) (x : Object) where
   issuer-cert r fault h anchored b =
       handed (HasIssuer terms x) (BreaksIssuer terms x) r fault h
       (fault-next (IsAnchored terms x) (IsIssuedBy terms x) SaysAnchor (BreaksIssued terms x) fault anchored
-      (fault-first (HasIssuedCert terms x) (HasIssuedList terms x) SaysCert SaysList fault
+      (fault-first (HasIssuedCert terms x) IsListed SaysCert (BreaksListed terms x) fault
       (broken C.Certificate (HasIssuedCert terms x) CertError fault b)))
 
+  pub issuer-list : (r : Result (Unit {0}) Fault) (fault : Fault) → IsTried r fault → IsAnchored terms x
+      → HasIssuedCert terms x → Broken C.List (HasIssuedList terms x) ListError fault
+      → Judges (HasIssuer terms x) (BreaksIssuer terms x) r
+  issuer-list r fault h anchored cert b =
+      handed (HasIssuer terms x) (BreaksIssuer terms x) r fault h
+      (fault-next (IsAnchored terms x) (IsIssuedBy terms x) SaysAnchor (BreaksIssued terms x) fault anchored
+      (fault-next (HasIssuedCert terms x) IsListed SaysCert (BreaksListed terms x) fault cert
+      (fault-first (HasIssuedList terms x) (IsNotRevoked terms x) SaysList SaysRevoked fault
+      (broken C.List (HasIssuedList terms x) ListError fault b))))
+
   pub issuer-last : (r : Result (Unit {0}) Fault) → IsAnchored terms x → HasIssuedCert terms x
-      → ChecksClause C.List (HasIssuedList terms x) ListError r → Judges (HasIssuer terms x) (BreaksIssuer terms x) r
-  issuer-last r anchored cert h =
+      → HasIssuedList terms x → ChecksClause C.Revoked (IsNotRevoked terms x) RevokedError r
+      → Judges (HasIssuer terms x) (BreaksIssuer terms x) r
+  issuer-last r anchored cert list h =
       and-next (IsAnchored terms x) (IsIssuedBy terms x) SaysAnchor (BreaksIssued terms x) r anchored
-      (and-next (HasIssuedCert terms x) (HasIssuedList terms x) SaysCert SaysList r cert
-      (judged C.List (HasIssuedList terms x) ListError r h))
+      (and-next (HasIssuedCert terms x) IsListed SaysCert (BreaksListed terms x) r cert
+      (and-next (HasIssuedList terms x) (IsNotRevoked terms x) SaysList SaysRevoked r list
+      (judged C.Revoked (IsNotRevoked terms x) RevokedError r h)))
 
 -- ---- all of it
 

@@ -8,8 +8,9 @@ use Rattle.std.specs.Prelude.{IfOk, IfSome}
 use Rattle.rpki_fields.specs.declared.rendering.Form.{Form}
 use Rattle.rpkicert.specs.declared.fault.Fault.{Fault}
 use Rattle.rpkicert.specs.declared.fault.Fault.TheVariants.{Unreadable, TooLarge, OutOfMemory, Malformed, Refused}
+use Rattle.rpkicert.specs.declared.fault.Fault.TheVariants.{OtherText}
 use Rattle.rpkicert.specs.declared.fault.Fault.TheVariants.{Empty, Neither, NoLocator}
-use Rattle.rpkicert.specs.declared.fault.Fault.TheVariants.{Violated, Unverified, NoCertificate, OtherAlgorithm}
+use Rattle.rpkicert.specs.declared.fault.Fault.TheVariants.{Violated, Unverified, NoCertificate, NoList, OtherAlgorithm}
 use Rattle.rpkicert.specs.declared.output.Output.{Output}
 use Rattle.rpkicert.specs.Fault.{most_octets}
 use Rattle.rpkicert.specs.Outcome.{is_other, IsRead}
@@ -154,10 +155,12 @@ unread-seen check form terms name (Some octets) Empty s h k = absurd h
 unread-seen check form terms name (Some octets) Neither s h k = absurd h
 unread-seen check form terms name (Some octets) (NoLocator e) s h k = absurd h
 unread-seen check form terms name (Some octets) Malformed s h k = absurd h
+unread-seen check form terms name (Some octets) (OtherText kind) s h k = absurd h
 unread-seen check form terms name (Some octets) (Refused kind place e) s h k = absurd h
 unread-seen check form terms name (Some octets) (Violated e) s h k = absurd h
 unread-seen check form terms name (Some octets) (Unverified clause e) s h k = absurd h
 unread-seen check form terms name (Some octets) NoCertificate s h k = absurd h
+unread-seen check form terms name (Some octets) NoList s h k = absurd h
 unread-seen check form terms name (Some octets) OtherAlgorithm s h k = absurd h
 
 pub not-seen : {E : Type 0} (held : Option (Option (List ℕ))) (check : Bool) (form : Form) (terms : TermParts)

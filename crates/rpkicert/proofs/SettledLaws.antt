@@ -6,16 +6,18 @@ use Rattle.jiff.specs.Types.{DateTime}
 use Rattle.jiff.specs.Words.{civil_nanos}
 use Rattle.rpki_time.specs.Time.{IsTimeNanos}
 use Rattle.rpki_cert.specs.Cert.{TbsParts}
+use Rattle.rpki_crl.specs.Crl.{CrlParts}
 use Rattle.rpkicert.specs.declared.fault.Fault.{Fault}
 use Rattle.rpkicert.specs.Outcome.{Finding, Finds}
 use Rattle.rpkicert.specs.Request.{Asked}
-use Rattle.rpkicert.specs.Requirements.{term_parts, no_terms}
+use Rattle.rpkicert.specs.Requirements.{term_parts, no_terms, list_terms}
 use Rattle.rpkicert.specs.OutputView.{text_in}
 use Rattle.rpkicert.specs.Words.{Prints, memory_text}
 use Rattle.rpkicert.specs.Moment.{Clock, is_now, moment_of, NamesBy, NamesMoment, NamesNoneBy, NamesNoMoment, IsMoment}
-use Rattle.rpkicert.specs.Run.{Holds, IsIssuer, IsIssuerOf, issuer_in, IsDenied}
+use Rattle.rpkicert.specs.Run.{Holds, IsIssuer, IsIssuerOf, issuer_in, IsDenied, IsList, IsListOf, list_in}
+use Rattle.rpkicert.specs.Run.{RunsAgainst, RunsListed}
 use Rattle.rpkicert.specs.Run.{IsDeniedBy, RunsOver, RunsBy, IsRunOf, wrong_moment_text, wrong_issuer_text}
-use Rattle.rpkicert.specs.Run.IsDenied.{WrongMoment, WrongIssuer, NoMemory}
+use Rattle.rpkicert.specs.Run.IsDenied.{WrongMoment, WrongIssuer, WrongList, NoMemory}
 use Rattle.rpkicert.specs.Run.IsRunOf.{Held, Denied}
 
 -- the moment of the clock, or that of another word
@@ -83,6 +85,63 @@ told-issuer : (holds : Holds) (clock : Clock) (a : Asked) (name : List ℕ) (fau
 told-issuer holds clock a name fault moment said n m h (inl e) = WrongIssuer name fault moment n m h e
 told-issuer holds clock a name fault moment said n m h (inr e) = NoMemory e
 
+-- the list is none
+told-list : (holds : Holds) (clock : Clock) (a : Asked) (name : List ℕ) (issuer : TbsParts) (fault : Fault)
+    (moment : Option DateTime) (said : List ℕ) → a.list ≡ Some name → IsMoment clock a.moment moment
+    → IsIssuerOf holds a.issuer (Some issuer) → IsList holds name issuer moment (Err fault)
+    → (said ≡ wrong_issuer_text name fault) ⊎ (said ≡ memory_text) → IsDenied holds clock a said
+told-list holds clock a name issuer fault moment said n m i h (inl e) = WrongList name issuer fault moment n m i h e
+told-list holds clock a name issuer fault moment said n m i h (inr e) = NoMemory e
+
+-- the list of a file
+pub by-found : (holds : Holds) (name : List ℕ) (issuer : TbsParts) (moment : Option DateTime) (finding : Finding)
+    (list : Result CrlParts Fault) (old new was is : Option (List ℕ)) (status : ℕ) (a : Asked)
+    (asked : Option (List ℕ)) → asked ≡ Some name
+    → IfSome (holds name) (λ source. Finds (list_terms issuer moment) source finding) → list_in finding ≡ list
+    → RunsAgainst holds old new was is status a issuer moment name list
+    → RunsListed holds old new was is status a issuer moment asked
+by-found holds name issuer moment finding list old new was is status a asked n h e r =
+    subst (λ (o : Option (List ℕ)). RunsListed holds old new was is status a issuer moment o) (sym n)
+    (list, (finding, h, e), r)
+
+-- without a list
+pub by-no-list : (holds : Holds) (issuer : TbsParts) (moment : Option DateTime) (old new was is : Option (List ℕ))
+    (status : ℕ) (a : Asked) (asked : Option (List ℕ)) → asked ≡ None
+    → RunsOver holds old new was is status a (term_parts a.inspection (Some issuer) None moment)
+    → RunsListed holds old new was is status a issuer moment asked
+by-no-list holds issuer moment old new was is status a asked n r =
+    subst (λ (o : Option (List ℕ)). RunsListed holds old new was is status a issuer moment o) (sym n) r
+
+-- with an issuer and its list
+against : (holds : Holds) (clock : Clock) (a : Asked) (issuer : TbsParts) (moment : Option DateTime) (name : List ℕ)
+    (list : Result CrlParts Fault) (old new was is : Option (List ℕ)) (status : ℕ)
+    → IsIssuerOf holds a.issuer (Some issuer) → IsMoment clock a.moment moment → a.list ≡ Some name
+    → IsList holds name issuer moment list → RunsAgainst holds old new was is status a issuer moment name list
+    → IsRunOf holds clock old new was is status a
+against holds clock a issuer moment name (Ok l) old new was is status i m n h r =
+    Held (term_parts a.inspection (Some issuer) (Some l) moment) (record {
+      inspection = refl;
+      issuer = i;
+      revocations = subst (λ (o : Option (List ℕ)). IsListOf holds o (Some issuer) moment (Some l)) (sym n) h;
+      moment = m;
+    }) r
+against holds clock a issuer moment name (Err fault) old new was is status i m n h r =
+    Denied r.told.0 (told-list holds clock a name issuer fault moment r.told.0 n m i h r.told.1) r.kept r.told.2
+
+with-list : (holds : Holds) (clock : Clock) (a : Asked) (issuer : TbsParts) (moment : Option DateTime)
+    (asked : Option (List ℕ)) (old new was is : Option (List ℕ)) (status : ℕ)
+    → IsIssuerOf holds a.issuer (Some issuer) → IsMoment clock a.moment moment → a.list ≡ asked
+    → RunsListed holds old new was is status a issuer moment asked → IsRunOf holds clock old new was is status a
+with-list holds clock a issuer moment None old new was is status i m n r =
+    Held (term_parts a.inspection (Some issuer) None moment) (record {
+      inspection = refl;
+      issuer = i;
+      revocations = subst (λ (o : Option (List ℕ)). IsListOf holds o (Some issuer) moment None) (sym n) refl;
+      moment = m;
+    }) r
+with-list holds clock a issuer moment (Some name) old new was is status i m n r =
+    against holds clock a issuer moment name r.0 old new was is status i m n r.1 r.2
+
 -- with an issuer, or none
 pub by-issuer : (holds : Holds) (clock : Clock) (a : Asked) (name : List ℕ) (moment : Option DateTime)
     (finding : Finding) (issuer : Result TbsParts Fault) (old new was is : Option (List ℕ)) (status : ℕ)
@@ -90,22 +149,20 @@ pub by-issuer : (holds : Holds) (clock : Clock) (a : Asked) (name : List ℕ) (m
     → IfSome (holds name) (λ source. Finds no_terms source finding) → issuer_in finding ≡ issuer
     → RunsBy holds old new was is status a name moment issuer → IsRunOf holds clock old new was is status a
 by-issuer holds clock a name moment finding (Ok t) old new was is status n m h e r =
-    Held (term_parts a.inspection (Some t) moment) (record {
-      inspection = refl;
-      issuer = subst (λ (o : Option (List ℕ)). IsIssuerOf holds o (Some t)) (sym n) (finding, h, e);
-      moment = m;
-    }) r
+    with-list holds clock a t moment a.list old new was is status
+    (subst (λ (o : Option (List ℕ)). IsIssuerOf holds o (Some t)) (sym n) (finding, h, e)) m refl r
 by-issuer holds clock a name moment finding (Err fault) old new was is status n m h e r =
     Denied r.told.0 (told-issuer holds clock a name fault moment r.told.0 n m (finding, h, e) r.told.1) r.kept r.told.2
 
 -- without an issuer
 pub by-none : (holds : Holds) (clock : Clock) (a : Asked) (moment : Option DateTime) (old new was is : Option (List ℕ))
     (status : ℕ) → a.issuer ≡ None → IsMoment clock a.moment moment
-    → RunsOver holds old new was is status a (term_parts a.inspection None moment)
+    → RunsOver holds old new was is status a (term_parts a.inspection None None moment)
     → IsRunOf holds clock old new was is status a
 by-none holds clock a moment old new was is status n m r =
-    Held (term_parts a.inspection None moment) (record {
+    Held (term_parts a.inspection None None moment) (record {
       inspection = refl;
       issuer = subst (λ (o : Option (List ℕ)). IsIssuerOf holds o None) (sym n) tt;
+      revocations = refl;
       moment = m;
     }) r

@@ -1,11 +1,14 @@
 -- All of the rules of a profile that a certificate breaks.
-use Rattle.std.specs.Prelude.{◌≡◌, ◌≢◌, ◌⊎◌, Bool, List, [], ◌∷◌, ◌++◌, Option, Some, None}
+use Rattle.std.specs.Prelude.{◌≡◌, ◌≢◌, ◌⊎◌, Bool, true, false, not, if◌then◌else◌, List, [], ◌∷◌, ◌++◌, filter}
+use Rattle.std.specs.Prelude.{Option, Some, None}
+use Rattle.std.specs.List.{list_any}
 use Rattle.rpki_cert.specs.Cert.{TbsParts}
 use Rattle.rpki_cert.specs.Profile.{rules_of}
 use Rattle.rpki_cert.specs.Rule.{Obeys}
 use Rattle.rpki_cert.specs.RuleError.{IsRuleError}
 use Rattle.rpki_cert.specs.declared.profile.Profile.{Profile}
 use Rattle.rpki_cert.specs.declared.profile.rule.CertRule.{CertRule}
+use Rattle.rpki_cert.specs.declared.profile.rule.CertRule.TheVariants.{CertificatePolicies, ResourceVersion}
 use Rattle.rpki_fields.specs.Object.{cert_of}
 use Rattle.rpki_fields.specs.declared.object.Object.{Object}
 use Rattle.rpkicert.specs.declared.profile.Inspection.{Inspection}
@@ -46,3 +49,20 @@ abbrev pub AreViolations : Option Inspection → Object → List Violation → T
 AreViolations asked x vs =
     (AreBrokenBy (asked_inspection asked x) (cert_of x) vs × (vs ≢ []))
     ⊎ (AreBrokenBy (asked_inspection asked x) (cert_of x) [] × AreBrokenBy (own_inspection asked x) (cert_of x) vs)
+
+-- ---- which of them are told
+
+-- the rule is on the policy, which has to be there (RFC 6487 4.8.9)
+abbrev pub is_on_policy : CertRule → Bool
+is_on_policy CertificatePolicies = true
+is_on_policy rule = false
+
+-- the rule is on the version of policy and resources, which are one (RFC 8360 4.2)
+abbrev pub is_on_version : CertRule → Bool
+is_on_version ResourceVersion = true
+is_on_version rule = false
+
+-- all but what only follows: without the policy there is no version, which then says nothing more
+abbrev pub telling : List Violation → List Violation
+telling vs =
+    if list_any (λ v. is_on_policy v.rule) vs then filter (λ v. not (is_on_version v.rule)) vs else vs

@@ -31,6 +31,9 @@ no_profile word = said (codes "--profile takes auto, ta, ca, ee, detached or rou
 abbrev pub lax_alone : List ℕ
 lax_alone = said (codes "--lax is for --check and --profile") [] []
 
+abbrev pub list_alone : List ℕ
+list_alone = said (codes "--crl is for --issuer") [] []
+
 abbrev pub no_file : List ℕ
 no_file = said (codes "no file") [] []
 
@@ -56,12 +59,14 @@ option_in word =
     else if bytes_eq word (codes "-r") || is_of (codes "--recursive") word then Some (codes "--recursive")
     else if is_of (codes "--profile") word then Some (codes "--profile")
     else if is_of (codes "--issuer") word then Some (codes "--issuer")
+    else if is_of (codes "--crl") word then Some (codes "--crl")
     else if is_of (codes "--at") word then Some (codes "--at")
     else None
 
 abbrev pub takes_value : (option : List ℕ) → Bool
 takes_value option =
-    bytes_eq option (codes "--profile") || bytes_eq option (codes "--issuer") || bytes_eq option (codes "--at")
+    bytes_eq option (codes "--profile") || bytes_eq option (codes "--issuer") || bytes_eq option (codes "--crl")
+    || bytes_eq option (codes "--at")
 
 -- the word names the option
 abbrev pub names : (option word : List ℕ) → Bool
@@ -108,12 +113,14 @@ abbrev pub wrong_next : (before : List (List ℕ)) → (word : List ℕ) → Opt
 wrong_next before word None = if is_option word then wrong_option before word (option_in word) else None
 wrong_next before word (Some option) = if is_option word then Some (no_value option) else wrong_value option word
 
--- of these words alone, of which none is wrong: there is no profile for names, or no file
+-- of these words alone, of which none is wrong: there is no profile for names, no issuer for a list, or no file
 abbrev pub wrong_last : (words : List (List ℕ)) → Option (List ℕ) → List ℕ
 wrong_last words (Some option) = no_value option
 wrong_last words None =
     if is_among words (codes "--lax") && not (is_among words (codes "--check") || is_among words (codes "--profile"))
-    then lax_alone else no_file
+    then lax_alone
+    else if is_among words (codes "--crl") && not (is_among words (codes "--issuer")) then list_alone
+    else no_file
 
 abbrev pub wrong_at_end : List (List ℕ) → List ℕ
 wrong_at_end words = wrong_last words (awaited words)

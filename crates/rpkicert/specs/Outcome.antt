@@ -14,11 +14,12 @@ use Rattle.rpki_fields.specs.declared.part.Part.{Part}
 use Rattle.rpkicert.specs.declared.fault.Cause.{Cause}
 use Rattle.rpkicert.specs.declared.fault.Fault.{Fault}
 use Rattle.rpkicert.specs.declared.fault.Fault.TheVariants.{Unreadable, TooLarge, OutOfMemory, Malformed, Refused}
+use Rattle.rpkicert.specs.declared.fault.Fault.TheVariants.{OtherText}
 use Rattle.rpkicert.specs.declared.fault.Fault.TheVariants.{Empty, Neither, NoLocator}
-use Rattle.rpkicert.specs.declared.fault.Fault.TheVariants.{Violated, Unverified, NoCertificate, OtherAlgorithm}
+use Rattle.rpkicert.specs.declared.fault.Fault.TheVariants.{Violated, Unverified, NoCertificate, NoList, OtherAlgorithm}
 use Rattle.rpkicert.specs.Requirements.{TermParts, IsVerified, IsUnverified}
 use Rattle.rpkicert.specs.Profiled.{IsProfiled, IsUnprofiled}
-use Rattle.rpkicert.specs.Pem.{is_pem, octets_of}
+use Rattle.rpkicert.specs.Pem.{from_begin, is_pem, kind_of_text, octets_of}
 use Rattle.rpkicert.specs.Fault.{most_octets}
 
 -- the object is checked against something, and is a certificate of an algorithm that the RPKI doesn't use
@@ -60,9 +61,11 @@ IsRefusal octets Empty = ⊥
 IsRefusal octets Neither = ⊥
 IsRefusal octets (NoLocator e) = ⊥
 IsRefusal octets Malformed = ⊥
+IsRefusal octets (OtherText kind) = ⊥
 IsRefusal octets (Violated v) = ⊥
 IsRefusal octets (Unverified clause e) = ⊥
 IsRefusal octets NoCertificate = ⊥
+IsRefusal octets NoList = ⊥
 IsRefusal octets OtherAlgorithm = ⊥
 
 -- the object holds
@@ -79,12 +82,14 @@ IsWrong terms x NoCertificate = IsUnprofiled terms.inspection x NoCertificate
 IsWrong terms x OtherAlgorithm = is_outside terms x ≡ true
 IsWrong terms x (Refused kind place e) = ⊥
 IsWrong terms x OutOfMemory = ⊥
+IsWrong terms x NoList = ⊥
 IsWrong terms x (Unreadable cause) = ⊥
 IsWrong terms x TooLarge = ⊥
 IsWrong terms x Empty = ⊥
 IsWrong terms x Neither = ⊥
 IsWrong terms x (NoLocator e) = ⊥
 IsWrong terms x Malformed = ⊥
+IsWrong terms x (OtherText kind) = ⊥
 
 -- the object holds, or this is why it doesn't
 abbrev pub IsJudged : TermParts → Object → Option Fault → Type 0
@@ -107,11 +112,15 @@ is_other input = not (length input == 0 || starts_with nat_eq input (48 ∷ []) 
 abbrev pub form_fault : List ℕ → Option Fault
 form_fault input = if length input == 0 then Some Empty else if is_other input then Some Neither else None
 
+-- why a text stands for no octets: it has a certificate or a list, and not exactly one, or something else
+abbrev pub malformed : List ℕ → Fault
+malformed input = if is_some (from_begin input) then Malformed else OtherText (kind_of_text input)
+
 -- The same of an input in one of these forms, which may be a text that stands for octets, or for none.
 abbrev pub FindsFormed : TermParts → List ℕ → Finding → Type 0
 FindsFormed terms input finding =
     ((octets : List ℕ) × (octets_of input ≡ Some octets) × HoldsTo terms octets finding)
-    ⊎ ((octets_of input ≡ None) × (finding ≡ Err Malformed)) ⊎ (finding ≡ Err OutOfMemory)
+    ⊎ ((octets_of input ≡ None) × (finding ≡ Err (malformed input))) ⊎ (finding ≡ Err OutOfMemory)
 
 -- The same of an input whose form is wrong, or isn't.
 abbrev pub FindsBy : Option Fault → TermParts → List ℕ → Finding → Type 0
@@ -144,10 +153,12 @@ IsRead (Some octets) (Err Empty) = ⊥
 IsRead (Some octets) (Err Neither) = ⊥
 IsRead (Some octets) (Err (NoLocator e)) = ⊥
 IsRead (Some octets) (Err Malformed) = ⊥
+IsRead (Some octets) (Err (OtherText kind)) = ⊥
 IsRead (Some octets) (Err (Refused kind place e)) = ⊥
 IsRead (Some octets) (Err (Violated v)) = ⊥
 IsRead (Some octets) (Err (Unverified clause e)) = ⊥
 IsRead (Some octets) (Err NoCertificate) = ⊥
+IsRead (Some octets) (Err NoList) = ⊥
 IsRead (Some octets) (Err OtherAlgorithm) = ⊥
 IsRead None (Ok read) = ⊥
 IsRead None (Err (Unreadable cause)) = Unit {0}
@@ -157,10 +168,12 @@ IsRead None (Err Empty) = ⊥
 IsRead None (Err Neither) = ⊥
 IsRead None (Err (NoLocator e)) = ⊥
 IsRead None (Err Malformed) = ⊥
+IsRead None (Err (OtherText kind)) = ⊥
 IsRead None (Err (Refused kind place e)) = ⊥
 IsRead None (Err (Violated v)) = ⊥
 IsRead None (Err (Unverified clause e)) = ⊥
 IsRead None (Err NoCertificate) = ⊥
+IsRead None (Err NoList) = ⊥
 IsRead None (Err OtherAlgorithm) = ⊥
 
 -- What reading to the end gives where these octets remain; a reader may fail.
@@ -173,8 +186,10 @@ IsReadFrom octets (Err Empty) = ⊥
 IsReadFrom octets (Err Neither) = ⊥
 IsReadFrom octets (Err (NoLocator e)) = ⊥
 IsReadFrom octets (Err Malformed) = ⊥
+IsReadFrom octets (Err (OtherText kind)) = ⊥
 IsReadFrom octets (Err (Refused kind place e)) = ⊥
 IsReadFrom octets (Err (Violated v)) = ⊥
 IsReadFrom octets (Err (Unverified clause e)) = ⊥
 IsReadFrom octets (Err NoCertificate) = ⊥
+IsReadFrom octets (Err NoList) = ⊥
 IsReadFrom octets (Err OtherAlgorithm) = ⊥

@@ -26,7 +26,7 @@ use Rattle.rpkicert.specs.declared.signature.Signature.{Signature}
 use Rattle.rpkicert.specs.declared.signature.Signature.TheVariants.{Unchecked}
 use Rattle.rpkicert.specs.declared.violation.Violation.{Violation}
 use Rattle.rpkicert.specs.Violation.{violation_text}
-use Rattle.rpkicert.specs.Broken.{AreViolations}
+use Rattle.rpkicert.specs.Broken.{AreViolations, telling}
 use Rattle.rpkicert.specs.Signature.{signature_text, signature_of, signature_in, signature_found, well_text}
 use Rattle.rpkicert.specs.Requirements.{TermParts}
 use Rattle.rpkicert.specs.Values.{ToldParts, AreTold, told_text, values_fields, values_found, values_of}
@@ -145,15 +145,15 @@ violated Json name first all =
     (verdict_sheet (signature_in (Violated first)) name (fault_text (Violated first))))
 
 -- The verdict on an object, which doesn't hold for this fault, or holds: where its certificate violates a profile, all
--- of the rules that it breaks; where it is of an algorithm that the RPKI doesn't use, which one.
+-- of the rules that it breaks, but what only follows; where it is of an algorithm that the RPKI doesn't use, which one.
 abbrev pub IsChecked : Form → TermParts → (name : List ℕ) → Object → Option Fault → OutputParts → Type 0
 IsChecked form terms name x None s =
     s
-    ≡ checked_parts form (signature_of (is_some terms.issuer) x) (well_text (is_some terms.issuer) x) name
-    (objection_to x)
+    ≡ checked_parts form (signature_of (is_some terms.issuer) x)
+    (well_text (is_some terms.issuer) (is_some terms.revocations) x) name (objection_to x)
 IsChecked form terms name x (Some (Violated v)) s =
     (all : List Violation) × AreViolations terms.inspection x all
-    × (s ≡ shown_parts (violated form name v all) [] (status_of (Violated v)))
+    × (s ≡ shown_parts (violated form name v (telling all)) [] (status_of (Violated v)))
 IsChecked form terms name x (Some OtherAlgorithm) s = s ≡ checked_other form name (objection_to x)
 IsChecked form terms name x (Some fault) s = IsCheckedFault form terms name x fault s
 

@@ -1,6 +1,8 @@
 -- Certificates and revocation lists in the textual encoding of RFC 7468.
 use Rattle.std.specs.Prelude.{ℕ, nat_eq, nat_lt, ◌-◌, ◌==◌, ◌||◌, ◌&&◌, not, Bool, if◌then◌else◌, List, [], ◌∷◌, length}
-use Rattle.std.specs.Prelude.{take, drop, map, filter, take_while, codes, Option, Some, None, is_some}
+use Rattle.std.specs.Prelude.{take, drop, map, filter, take_while, codes, ◌++◌, Option, Some, None, is_some}
+use Rattle.rpkicert.specs.declared.pem.TextKind.{TextKind}
+use Rattle.rpkicert.specs.declared.pem.TextKind.TheVariants as T
 use Rattle.std.specs.List.{starts_with}
 use Rattle.std.specs.Option.{is_none}
 use Rattle.std.specs.Result.{result_ok}
@@ -75,6 +77,28 @@ text_octets input None = if starts_with nat_eq input (codes "-----BEGIN") then N
 -- unless it begins as another text of RFC 7468.
 abbrev pub octets_of : List ℕ → Option (List ℕ)
 octets_of input = if starts_with nat_eq input (48 ∷ []) then Some input else text_octets input (from_begin input)
+
+-- ---- texts of other kinds
+
+-- the text begins with the first line of this label (RFC 7468 2)
+abbrev pub begins_as : (label text : List ℕ) → Bool
+begins_as label text = starts_with nat_eq text (codes "-----BEGIN " ++ label ++ codes "-----")
+
+-- it begins with that of a private key (RFC 7468 10, 11; PKCS #1 and RFC 5915 4 have labels of their own)
+abbrev pub begins_with_key : List ℕ → Bool
+begins_with_key text =
+    begins_as (codes "PRIVATE KEY") text || begins_as (codes "ENCRYPTED PRIVATE KEY") text
+    || begins_as (codes "RSA PRIVATE KEY") text || begins_as (codes "EC PRIVATE KEY") text
+
+-- what a text has, by its first line (RFC 7468 7 to 13)
+abbrev pub kind_of_text : List ℕ → TextKind
+kind_of_text text =
+    if begins_with_key text then T.PrivateKey
+    else if begins_as (codes "PUBLIC KEY") text then T.PublicKey
+    else if begins_as (codes "CERTIFICATE REQUEST") text || begins_as (codes "NEW CERTIFICATE REQUEST") text
+    then T.Request
+    else if begins_as (codes "CMS") text || begins_as (codes "PKCS7") text then T.SignedData
+    else T.Other
 
 -- ---- several certificates or lists
 

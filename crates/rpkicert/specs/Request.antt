@@ -39,9 +39,9 @@ command_alone =
 abbrev pub command_app : App
 command_app =
     with_rule (with_rule (with_rule (with_rule (with_rule (with_rule (with_rule (with_rule (with_rule (with_rule
-    command_alone (lettered 104 (codes "help"))) (flag (codes "version"))) (flag (codes "json")))
+    (with_rule command_alone (lettered 104 (codes "help"))) (flag (codes "version"))) (flag (codes "json")))
     (flag (codes "check"))) (flag (codes "lax"))) (lettered 114 (codes "recursive"))) (valued (codes "profile")))
-    (valued (codes "issuer"))) (valued (codes "at"))) files_rule
+    (valued (codes "issuer"))) (valued (codes "crl"))) (valued (codes "at"))) files_rule
 
 -- what `clap` matches in the words; None where it finds a fault in them
 abbrev pub matched : List (List ℕ) → Option (List Row)
@@ -84,6 +84,12 @@ named_inspection false true None = None
 named_inspection false false None = Some None
 named_inspection check lax (Some name) = option_map (inspected lax) (choice_of name)
 
+-- the name of the issuer's revocation list, if one was named; without an issuer there is none
+abbrev pub named_list : (issuer list : Option (List ℕ)) → Option (Option (List ℕ))
+named_list issuer None = Some None
+named_list None (Some name) = None
+named_list (Some issuer) (Some name) = Some (Some name)
+
 -- the files, of which there is one at least
 abbrev pub some_files : Option (List (List ℕ)) → Option (List (List ℕ))
 some_files None = None
@@ -91,24 +97,26 @@ some_files (Some []) = None
 some_files (Some (file ∷ files)) = Some (file ∷ files)
 
 -- how objects are printed, whether only a verdict is, whether those in folders are, how certificates are checked
--- against a profile, the file of the issuer, the text of the moment, and the files
+-- against a profile, the file of the issuer, that of its revocation list, the text of the moment, and the files
 pub record Asked : Type 0 where
   pub form : Form
   pub check : Bool
   pub recursive : Bool
   pub inspection : Option Inspection
   pub issuer : Option (List ℕ)
+  pub list : Option (List ℕ)
   pub moment : Option (List ℕ)
   pub files : List (List ℕ)
 
 abbrev pub asked : Option (List ℕ) → Option (List ℕ) → Form → (check recursive : Bool) → Option Inspection
-    → List (List ℕ) → Asked
-asked issuer moment form check recursive inspection files = record {
+    → (list : Option (List ℕ)) → List (List ℕ) → Asked
+asked issuer moment form check recursive inspection list files = record {
   form = form;
   check = check;
   recursive = recursive;
   inspection = inspection;
   issuer = issuer;
+  list = list;
   moment = moment;
   files = files;
 }
@@ -117,13 +125,14 @@ asked issuer moment form check recursive inspection files = record {
 abbrev pub with_files : Asked → List (List ℕ) → Asked
 with_files a files = record a { files = files }
 
--- `--json`, `--check` and `--recursive`, a profile, an issuer and a moment, perhaps, and files
+-- `--json`, `--check` and `--recursive`, a profile, an issuer, its list, and a moment, perhaps, and files
 abbrev pub request_of : List Row → Option Asked
 request_of rows =
-    option_and_then (λ inspection. option_map
+    option_and_then (λ inspection. option_and_then (λ list. option_map
     (asked (first_of (codes "issuer") rows) (first_of (codes "at") rows) (form_of (is_given (codes "json") rows))
-    (is_given (codes "check") rows) (is_given (codes "recursive") rows) inspection)
+    (is_given (codes "check") rows) (is_given (codes "recursive") rows) inspection list)
     (some_files (all_of (codes "FILE") rows)))
+    (named_list (first_of (codes "issuer") rows) (first_of (codes "crl") rows)))
     (named_inspection (is_given (codes "check") rows) (is_given (codes "lax") rows) (first_of (codes "profile") rows))
 
 -- what words ask for: the help, the version, or files

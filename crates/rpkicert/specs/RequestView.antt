@@ -8,7 +8,7 @@ use Rattle.rpkicert.specs.Request.{Asked, asked, Wanted, help, version, files, w
 abbrev pub asked_of : Request → Asked
 asked_of r =
     asked (option_map (λ name. name.now) r.issuer) (option_map (λ word. word.now) r.moment) r.form r.check
-    r.recursive r.inspection (map (λ file. file.now) r.files.now)
+    r.recursive r.inspection (option_map (λ name. name.now) r.list) (map (λ file. file.now) r.files.now)
 
 -- what was matched
 abbrev pub rows_in : ArgMatches → List Row

@@ -11,7 +11,8 @@ use Rattle.rpki.specs.Provider.{Check}
 use Rattle.rpki_rsa.specs.Key.{IsSignatureBy}
 use Rattle.rpki_time.specs.Validity.{Period, HoldsAt}
 use Rattle.rpki_cert.specs.Cert.{TbsParts, CertParts}
-use Rattle.rpki_valid.specs.ErrorTexts.{not_inherited_text}
+use Rattle.rpki_valid.specs.ErrorTexts.{not_inherited_text, revoked_text}
+use Rattle.rpki_valid.specs.Revocation.{IsUnrevoked}
 use Rattle.rpkicert.specs.Fault.{bad_text}
 use Rattle.rpki_valid.specs.Valid.{HasReason, IsPeriodError, Unless, IsSignedBy, IsIssued, IsUnissued}
 use Rattle.rpki_contents.specs.Manifest.{ManifestParts, period_of}
@@ -30,18 +31,24 @@ use Rattle.rpkicert.specs.declared.fault.Clause.TheVariants as C
 use Rattle.rpkicert.specs.declared.fault.Fault.{Fault}
 use Rattle.rpkicert.specs.declared.fault.Fault.TheVariants.{Unverified, OutOfMemory}
 
--- a profile, the certificate of the issuer, and a moment; each may not be asked for
+-- a profile, the certificate of the issuer, its revocation list, and a moment; each may not be asked for
 pub record TermParts : Type 0 where
   pub inspection : Option Inspection
   pub issuer : Option TbsParts
+  pub revocations : Option CrlParts
   pub moment : Option DateTime
 
-abbrev pub term_parts : Option Inspection → Option TbsParts → Option DateTime → TermParts
-term_parts inspection issuer moment = record { inspection = inspection; issuer = issuer; moment = moment }
+abbrev pub term_parts : Option Inspection → Option TbsParts → Option CrlParts → Option DateTime → TermParts
+term_parts inspection issuer revocations moment =
+    record { inspection = inspection; issuer = issuer; revocations = revocations; moment = moment }
 
 -- an object is checked against nothing
 abbrev pub no_terms : TermParts
-no_terms = term_parts None None None
+no_terms = term_parts None None None None
+
+-- a revocation list is checked to be of this issuer, and between its updates at the moment, where that is asked for
+abbrev pub list_terms : TbsParts → Option DateTime → TermParts
+list_terms issuer moment = term_parts None (Some issuer) None moment
 
 -- ---- what an object has that has an issuer, or holds for a time
 
@@ -249,6 +256,13 @@ HasIssuedCert terms x = WhereBoth IsCertIssued terms.issuer (signer_of x)
 abbrev pub HasIssuedList : TermParts → Object → Type 0
 HasIssuedList terms x = WhereBoth IsListIssued terms.issuer (list_of x)
 
+-- the list, which is the issuer's, doesn't have the certificate, by its serial number (RFC 6487 7.2, RFC 5280 6.3.3)
+abbrev pub IsNotOn : CrlParts → CertParts → Type 0
+IsNotOn l c = IsUnrevoked (Some l) c
+
+abbrev pub IsNotRevoked : TermParts → Object → Type 0
+IsNotRevoked terms x = WhereBoth IsNotOn terms.revocations (signer_of x)
+
 -- ---- all of them, in this order
 
 -- P, and then Q
@@ -265,12 +279,12 @@ abbrev pub HoldsAlone : Object → Type 0
 HoldsAlone x = Both (IsSigned x) (KeepsResources x)
 
 abbrev pub IsIssuedBy : TermParts → Object → Type 0
-IsIssuedBy terms x = Both (HasIssuedCert terms x) (HasIssuedList terms x)
+IsIssuedBy terms x = Both (HasIssuedCert terms x) (Both (HasIssuedList terms x) (IsNotRevoked terms x))
 
 abbrev pub HasIssuer : TermParts → Object → Type 0
 HasIssuer terms x = Both (IsAnchored terms x) (IsIssuedBy terms x)
 
--- the periods hold at the moment; the object holds by itself; and it has its issuer
+-- the periods hold at the moment; the object holds by itself; and it has its issuer, which hasn't revoked it
 abbrev pub IsVerified : TermParts → Object → Type 0
 IsVerified terms x = Both (ArePeriodsHeld terms x) (Both (HoldsAlone x) (HasIssuer terms x))
 
@@ -318,10 +332,18 @@ BreaksPeriods terms x =
 abbrev pub BreaksAlone : Object → Wrong
 BreaksAlone x = Else (IsSigned x) (SaysOf IsSignedWrong (signed_of x) C.Object) (BreaksResources x)
 
+-- the error of a certificate that is on a list
+abbrev pub IsRevokedError : CrlParts → CertParts → ValidationError → Type 0
+IsRevokedError l c = HasReason revoked_text
+
+abbrev pub BreaksListed : TermParts → Object → Wrong
+BreaksListed terms x =
+    Else (HasIssuedList terms x) (SaysBy IsListUnissued terms.issuer (list_of x) C.List)
+    (SaysBy IsRevokedError terms.revocations (signer_of x) C.Revoked)
+
 abbrev pub BreaksIssued : TermParts → Object → Wrong
 BreaksIssued terms x =
-    Else (HasIssuedCert terms x) (SaysBy IsCertUnissued terms.issuer (signer_of x) C.Certificate)
-    (SaysBy IsListUnissued terms.issuer (list_of x) C.List)
+    Else (HasIssuedCert terms x) (SaysBy IsCertUnissued terms.issuer (signer_of x) C.Certificate) (BreaksListed terms x)
 
 abbrev pub BreaksIssuer : TermParts → Object → Wrong
 BreaksIssuer terms x =

@@ -10,7 +10,8 @@ use Rattle.rpki_cert.specs.Known.{is_memory}
 use Rattle.rpkicert.specs.Requirements.{TermParts, term_parts, WhereSome, HasSome, WhereBoth, HasBoth, Wrong}
 
 abbrev pub terms_of : Requirements → TermParts
-terms_of x = term_parts x.inspection (option_map (λ t. t.now) x.issuer) x.moment
+terms_of x =
+    term_parts x.inspection (option_map (λ t. t.now) x.issuer) (option_map (λ l. l.now) x.revocations) x.moment
 
 -- the result of a check that this clause asks for
 abbrev pub by_clause : Clause → Result (Unit {0}) ValidationError → Result (Unit {0}) Fault

@@ -4,18 +4,19 @@ use Rattle.std.specs.Prelude.{IsSome, IfSome, All, if◌then◌else◌}
 use Rattle.std.specs.Io.KnownBytes.{Appends}
 use Rattle.jiff.specs.Types.{DateTime}
 use Rattle.rpki_cert.specs.Cert.{TbsParts}
+use Rattle.rpki_crl.specs.Crl.{CrlParts}
 use Rattle.rpki_fields.specs.declared.object.Object.{Object}
 use Rattle.rpki_fields.specs.declared.object.Object.TheVariants.{Certificate, Crl, Manifest, Roa}
 use Rattle.rpki_fields.specs.declared.object.Object.TheVariants.{Aspa, SignedObject, OtherCertificate}
 use Rattle.rpki_fields.specs.declared.object.Object.TheVariants.{Checklist, TrustAnchorKey, Ghostbusters}
 use Rattle.rpki_fields.specs.declared.rendering.Form.{Form}
 use Rattle.rpkicert.specs.declared.fault.Fault.{Fault}
-use Rattle.rpkicert.specs.declared.fault.Fault.TheVariants.{NoCertificate, OtherAlgorithm}
+use Rattle.rpkicert.specs.declared.fault.Fault.TheVariants.{NoCertificate, NoList, OtherAlgorithm}
 use Rattle.rpkicert.specs.Fault.{fault_text}
 use Rattle.rpkicert.specs.Moment.{Clock, is_now, IsMoment, NamesNoMoment}
 use Rattle.rpkicert.specs.Outcome.{Finding, Finds}
 use Rattle.rpkicert.specs.Request.{Asked}
-use Rattle.rpkicert.specs.Requirements.{TermParts, term_parts, no_terms}
+use Rattle.rpkicert.specs.Requirements.{TermParts, term_parts, no_terms, list_terms}
 use Rattle.rpkicert.specs.Output.{line, OutputParts, IsSeenOf, IsRun}
 use Rattle.rpkicert.specs.Words.{Prints, memory_text, usage_text}
 
@@ -60,10 +61,48 @@ IsIssuerOf holds None (Some t) = ⊥
 IsIssuerOf holds (Some name) None = ⊥
 IsIssuerOf holds (Some name) (Some t) = IsIssuer holds name (Ok t)
 
+-- the revocation list that an object is
+abbrev pub list_from : Object → Result CrlParts Fault
+list_from (Certificate c) = Err NoList
+list_from (Crl l) = Ok l
+list_from (Manifest m) = Err NoList
+list_from (Roa r) = Err NoList
+list_from (Aspa a) = Err NoList
+list_from (Checklist o) = Err NoList
+list_from (TrustAnchorKey o) = Err NoList
+list_from (Ghostbusters o) = Err NoList
+list_from (SignedObject o) = Err NoList
+list_from (OtherCertificate c) = Err NoList
+
+-- the same of an object that holds, or doesn't for this fault
+abbrev pub list_or : Object → Option Fault → Result CrlParts Fault
+list_or x None = list_from x
+list_or x (Some fault) = Err fault
+
+-- the same of what was found; or why there is none
+abbrev pub list_in : Finding → Result CrlParts Fault
+list_in (Ok found) = list_or found.object found.fault
+list_in (Err fault) = Err fault
+
+-- what is found in the file of this name, as of a list of this issuer that holds at the moment: the issuer has signed
+-- it, it names the issuer and its key, and the moment is between its updates (RFC 5280 6.3.3)
+abbrev pub IsList : Holds → List ℕ → TbsParts → Option DateTime → Result CrlParts Fault → Type 0
+IsList holds name issuer moment list =
+    (finding : Finding) × IfSome (holds name) (λ source. Finds (list_terms issuer moment) source finding)
+    × (list_in finding ≡ list)
+
+-- the issuer's list in the file of this name; without a name, or an issuer, there is none
+abbrev pub IsListOf : Holds → Option (List ℕ) → Option TbsParts → Option DateTime → Option CrlParts → Type 0
+IsListOf holds name None moment list = list ≡ None
+IsListOf holds None (Some issuer) moment list = list ≡ None
+IsListOf holds (Some name) (Some issuer) moment None = ⊥
+IsListOf holds (Some name) (Some issuer) moment (Some l) = IsList holds name issuer moment (Ok l)
+
 -- objects are checked against what is asked for
 pub record AreRequirements (holds : Holds) (clock : Clock) (a : Asked) (terms : TermParts) : Type 0 where
   pub inspection : terms.inspection ≡ a.inspection
   pub issuer : IsIssuerOf holds a.issuer terms.issuer
+  pub revocations : IsListOf holds a.list terms.issuer terms.moment terms.revocations
   pub moment : IsMoment clock a.moment terms.moment
 
 -- the clock has no moment; or the word is that of none, and how the program is used
@@ -73,18 +112,21 @@ wrong_moment_text word =
     else codes "rpkicert: --at "
     ++ line word (codes "not a moment such as 2026-11-28T12:00:00Z, nor now") ++ usage_text
 
--- the file of this name has no issuer, and why
+-- the file of this name has no issuer, or no list of it, and why
 abbrev pub wrong_issuer_text : List ℕ → Fault → List ℕ
 wrong_issuer_text name fault = codes "rpkicert: " ++ line name (fault_text fault)
 
--- Why nothing is shown: the word names no moment; or it names one, and the file has no certificate; or allocation
--- failed.
+-- Why nothing is shown: the word names no moment; or it names one, and the file has no certificate; or it has one, and
+-- another has no list of it; or allocation failed.
 pub data IsDenied (holds : Holds) (clock : Clock) (a : Asked) (text : List ℕ) : Type 0 where
   WrongMoment : (word : List ℕ) → a.moment ≡ Some word → NamesNoMoment clock word → text ≡ wrong_moment_text word
       → IsDenied holds clock a text
   WrongIssuer : (name : List ℕ) → (fault : Fault) → (moment : Option DateTime) → a.issuer ≡ Some name
       → IsMoment clock a.moment moment → IsIssuer holds name (Err fault) → text ≡ wrong_issuer_text name fault
       → IsDenied holds clock a text
+  WrongList : (name : List ℕ) → (issuer : TbsParts) → (fault : Fault) → (moment : Option DateTime)
+      → a.list ≡ Some name → IsMoment clock a.moment moment → IsIssuerOf holds a.issuer (Some issuer)
+      → IsList holds name issuer moment (Err fault) → text ≡ wrong_issuer_text name fault → IsDenied holds clock a text
   NoMemory : text ≡ memory_text → IsDenied holds clock a text
 
 -- ---- the run
@@ -112,11 +154,27 @@ pub record IsDeniedBy (old new was is : Option (List ℕ)) (status : ℕ) (text 
   pub kept : Appends old new []
   pub told : (said : List ℕ) × ((said ≡ text) ⊎ (said ≡ memory_text)) × Prints was is said 2 status
 
--- the run of the files, checked against this issuer; or why it is none
+-- the run of the files, checked against this issuer and its list; or why that is none
+abbrev pub RunsAgainst : Holds → (old new was is : Option (List ℕ)) → ℕ → Asked → TbsParts → Option DateTime
+    → (name : List ℕ) → Result CrlParts Fault → Type 0
+RunsAgainst holds old new was is status a issuer moment name (Ok l) =
+    RunsOver holds old new was is status a (term_parts a.inspection (Some issuer) (Some l) moment)
+RunsAgainst holds old new was is status a issuer moment name (Err fault) =
+    IsDeniedBy old new was is status (wrong_issuer_text name fault)
+
+-- the same of the list in the file of this name; without one against this issuer alone
+abbrev pub RunsListed : Holds → (old new was is : Option (List ℕ)) → ℕ → Asked → TbsParts → Option DateTime
+    → Option (List ℕ) → Type 0
+RunsListed holds old new was is status a issuer moment None =
+    RunsOver holds old new was is status a (term_parts a.inspection (Some issuer) None moment)
+RunsListed holds old new was is status a issuer moment (Some name) =
+    (list : Result CrlParts Fault) × IsList holds name issuer moment list
+    × RunsAgainst holds old new was is status a issuer moment name list
+
+-- the run of the files, checked against this issuer, and its list, where one is asked for; or why it is none
 abbrev pub RunsBy : Holds → (old new was is : Option (List ℕ)) → ℕ → Asked → (name : List ℕ) → Option DateTime
     → Result TbsParts Fault → Type 0
-RunsBy holds old new was is status a name moment (Ok t) =
-    RunsOver holds old new was is status a (term_parts a.inspection (Some t) moment)
+RunsBy holds old new was is status a name moment (Ok t) = RunsListed holds old new was is status a t moment a.list
 RunsBy holds old new was is status a name moment (Err fault) =
     IsDeniedBy old new was is status (wrong_issuer_text name fault)
 
@@ -128,10 +186,11 @@ AreKnown holds names = All (λ name. IsSome (holds name)) names
 abbrev pub IsClockKnown : Clock → List ℕ → Type 0
 IsClockKnown clock word = is_now word ≡ true → IsSome clock
 
--- what there is by the names of the issuer, if there is one, and of the files is known, and what the clock has, where
--- its moment is asked for
+-- what there is by the names of the issuer and its list, if there are such, and of the files is known, and what the
+-- clock has, where its moment is asked for
 pub record IsKnown (holds : Holds) (clock : Clock) (a : Asked) : Type 0 where
   pub issuer : IfSome a.issuer (λ name. IsSome (holds name))
+  pub list : IfSome a.list (λ name. IsSome (holds name))
   pub moment : IfSome a.moment (IsClockKnown clock)
   pub files : AreKnown holds a.files
 

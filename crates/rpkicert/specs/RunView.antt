@@ -1,15 +1,19 @@
 -- What clauses see of a run over files.
+use denote.Bor.{Bor}
+use Rattle.std.specs.Option.{option_copied}
 use Rattle.std.specs.Prelude.{◌≡◌, ℕ, true, List, Option, Result, Ok, IfOk}
 use Rattle.jiff.specs.Types.{DateTime}
 use Rattle.rpki_cert.specs.Cert.{TbsParts}
+use Rattle.rpki_crl.specs.Crl.{CrlParts}
 use Rattle.rpkicert.specs.declared.outcome.Outcome.{Outcome}
 use Rattle.rpkicert.specs.declared.request.Request.{Request}
 use Rattle.rpkicert.specs.declared.requirements.Requirements.{Requirements}
-use Rattle.rpkicert.specs.OutcomeView.{found_of}
+use Rattle.rpkicert.specs.OutcomeView.{finding_of, found_of}
+use Rattle.rpkicert.specs.declared.fault.Fault.{Fault}
 use Rattle.rpkicert.specs.Request.{Asked}
 use Rattle.rpkicert.specs.RequestView.{asked_of}
 use Rattle.rpkicert.specs.Moment.{Clock, IsMoment}
-use Rattle.rpkicert.specs.Run.{Holds, IsRunOf, RunsOver, RunsBy, issuer_in}
+use Rattle.rpkicert.specs.Run.{Holds, IsRunOf, RunsOver, RunsBy, RunsListed, RunsAgainst, issuer_in, list_in}
 use Rattle.rpkicert.specs.Requirements.{term_parts}
 use Rattle.rpkicert.specs.RequirementsView.{terms_of}
 use Rattle.rpkicert.specs.Under.{Lists, IsRunUnder}
@@ -18,11 +22,23 @@ use Rattle.rpkicert.specs.Under.{Lists, IsRunUnder}
 abbrev pub RunsOn : Holds → (old new was is : Option (List ℕ)) → ℕ → Request → Requirements → Type 0
 RunsOn holds old new was is status r terms = RunsOver holds old new was is status (asked_of r) (terms_of terms)
 
--- to the profile that is asked for, and to this issuer and this moment
-abbrev pub RunsTo : Holds → (old new was is : Option (List ℕ)) → ℕ → Request → Option TbsParts → Option DateTime
-    → Type 0
-RunsTo holds old new was is status r issuer moment =
-    RunsOver holds old new was is status (asked_of r) (term_parts r.inspection issuer moment)
+-- to the profile that is asked for, and to this issuer, this list and this moment
+abbrev pub RunsTo : Holds → (old new was is : Option (List ℕ)) → ℕ → Request → Option (Bor TbsParts)
+    → Option (Bor CrlParts) → Option DateTime → Type 0
+RunsTo holds old new was is status r issuer revocations moment =
+    RunsOver holds old new was is status (asked_of r)
+    (term_parts r.inspection (option_copied issuer) (option_copied revocations) moment)
+
+-- to this issuer, and the list that is asked for, if one is
+abbrev pub RunsWith : Holds → (old new was is : Option (List ℕ)) → ℕ → Request → TbsParts → Option DateTime → Type 0
+RunsWith holds old new was is status r issuer moment =
+    RunsListed holds old new was is status (asked_of r) issuer moment (asked_of r).list
+
+-- to this issuer, and what was found in the file of this name, as its list
+abbrev pub RunsFound : Holds → (old new was is : Option (List ℕ)) → ℕ → Request → TbsParts → Option DateTime
+    → (name : List ℕ) → Result Outcome Fault → Type 0
+RunsFound holds old new was is status r issuer moment name finding =
+    RunsAgainst holds old new was is status (asked_of r) issuer moment name (list_in (finding_of finding))
 
 -- to what was found in the file of this name, as an issuer
 abbrev pub RunsOf : Holds → (old new was is : Option (List ℕ)) → ℕ → Request → (name : List ℕ) → Option DateTime

@@ -1,5 +1,5 @@
 -- What is said of an object's signatures: what was checked of them.
-use Rattle.std.specs.Prelude.{◌&&◌, ℕ, Bool, true, false, if◌then◌else◌, List, codes, Option, Some, None}
+use Rattle.std.specs.Prelude.{◌&&◌, not, ℕ, Bool, true, false, if◌then◌else◌, List, codes, Option, Some, None}
 use Rattle.rpki_cert.specs.Cert.{CertParts}
 use Rattle.rpki_fields.specs.declared.object.Object.{Object}
 use Rattle.rpki_fields.specs.declared.object.Object.TheVariants.{Certificate, Crl, Manifest, Roa}
@@ -9,8 +9,9 @@ use Rattle.rpkicert.specs.declared.fault.Clause.{Clause}
 use Rattle.rpkicert.specs.declared.fault.Clause.TheVariants as C
 use Rattle.rpkicert.specs.declared.fault.Fault.{Fault}
 use Rattle.rpkicert.specs.declared.fault.Fault.TheVariants.{Unreadable, TooLarge, OutOfMemory, Malformed, Refused}
+use Rattle.rpkicert.specs.declared.fault.Fault.TheVariants.{OtherText}
 use Rattle.rpkicert.specs.declared.fault.Fault.TheVariants.{Empty, Neither, NoLocator}
-use Rattle.rpkicert.specs.declared.fault.Fault.TheVariants.{Violated, Unverified, NoCertificate, OtherAlgorithm}
+use Rattle.rpkicert.specs.declared.fault.Fault.TheVariants.{Violated, Unverified, NoCertificate, NoList, OtherAlgorithm}
 use Rattle.rpkicert.specs.declared.signature.Signature.{Signature}
 use Rattle.rpkicert.specs.declared.signature.Signature.TheVariants.{Good, Own, Bad, Unchecked}
 use Rattle.rpkicert.specs.Fault.{is_bad_signature}
@@ -62,10 +63,12 @@ abbrev pub is_revocable : Object → Bool
 is_revocable (Crl l) = false
 is_revocable x = true
 
--- that all is well with an object that holds, and is of the issuer, if one is asked for, whose revocation list isn't
-abbrev pub well_text : (issued : Bool) → Object → List ℕ
-well_text issued x =
-    if issued && is_revocable x then codes "OK, revocation not checked" else good_text (signature_of issued x)
+-- that all is well with an object that holds, and is of the issuer, and not on its revocation list, if these are asked
+-- for
+abbrev pub well_text : (issued listed : Bool) → Object → List ℕ
+well_text issued listed x =
+    if issued && is_revocable x && not listed then codes "OK, revocation not checked"
+    else good_text (signature_of issued x)
 
 -- what was checked before this clause was found broken, with this error
 abbrev pub checked_at : Clause → Bool → Signature
@@ -79,6 +82,7 @@ checked_at C.Customer bad = Own
 checked_at C.Anchor bad = Bad
 checked_at C.Certificate bad = if bad then Bad else Good
 checked_at C.List bad = if bad then Bad else Good
+checked_at C.Revoked bad = Good
 
 -- of a fault
 abbrev pub signature_in : Fault → Signature
@@ -90,9 +94,11 @@ signature_in Empty = Unchecked
 signature_in Neither = Unchecked
 signature_in (NoLocator e) = Unchecked
 signature_in Malformed = Unchecked
+signature_in (OtherText kind) = Unchecked
 signature_in (Refused kind place e) = Unchecked
 signature_in (Violated v) = Unchecked
 signature_in NoCertificate = Unchecked
+signature_in NoList = Unchecked
 signature_in OtherAlgorithm = Unchecked
 
 -- of an object that doesn't hold, for this fault; or that holds, and is of the issuer, if one is asked for

@@ -95,6 +95,7 @@ values_by terms x C.Customer e = None
 values_by terms x C.Anchor e = None
 values_by terms x C.Certificate e = where_said (is_other_name e) (cert_names terms.issuer (signer_of x))
 values_by terms x C.List e = where_said (is_other_name e) (list_names terms.issuer (list_of x))
+values_by terms x C.Revoked e = None
 
 -- of an object's fault
 abbrev pub values_of : TermParts → Object → Fault → Option ValuePair

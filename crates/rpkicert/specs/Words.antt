@@ -1,5 +1,5 @@
 -- Texts of a run that are not of a file.
-use Rattle.std.specs.Prelude.{◌≡◌, ◌⊎◌, ℕ, List, Option, codes}
+use Rattle.std.specs.Prelude.{◌≡◌, ◌⊎◌, ◌++◌, ℕ, List, Option, codes}
 use Rattle.std.specs.Io.KnownBytes.{Appends}
 use Rattle.rpki_der.specs.Written.{AppendsCut}
 
@@ -18,4 +18,5 @@ memory_text = codes "rpkicert: out of memory\n"
 -- how the program is used
 abbrev pub usage_text : List ℕ
 usage_text =
-    codes "usage: rpkicert [--json] [--check] [--profile NAME] [--lax] [--issuer FILE] [--at MOMENT] [-r] FILE..\n"
+    codes "usage: rpkicert [--json] [--check] [--profile NAME] [--lax] [--issuer FILE] [--crl FILE] "
+    ++ codes "[--at MOMENT] [-r] FILE..\n"

@@ -1,8 +1,10 @@
 //! All of the rules of a profile that a certificate breaks.
 
-ghost use Rattle.std.specs.Prelude.{IfOk, OnOk, Some};
+ghost use Rattle.std.specs.Prelude.{◌≡◌, IfOk, OnOk, Some, filter, not};
 ghost use Rattle.std.specs.Option.{option_copied};
+ghost use Rattle.std.specs.List.{list_any};
 ghost use Rattle.rpkicert.specs.Broken.{AddsBroken, AreBroken, AreBrokenBy, AreViolations};
+ghost use Rattle.rpkicert.specs.Broken.{is_on_policy, is_on_version, telling};
 
 use crate::choice::chosen;
 use crate::profile::{Inspection, asked_inspection, own_inspection};
@@ -88,6 +90,55 @@ pub fn violations(
     let all = broken_by(alloc, asked_inspection(asked, object), object.cert())?;
     if all.is_empty() {
         return broken_by(alloc, own_inspection(asked, object), object.cert());
+    }
+    Ok(all)
+}
+
+/// Whether the rule is on the policy, which has to be there.
+fn is_on_policy(rule: CertRule) -> bool
+    ensures { result ≡ is_on_policy rule }
+{
+    match rule {
+        CertRule::CertificatePolicies => true,
+        _ => false,
+    }
+}
+
+/// Whether the rule is on the version of policy and resources.
+fn is_on_version(rule: CertRule) -> bool
+    ensures { result ≡ is_on_version rule }
+{
+    match rule {
+        CertRule::ResourceVersion => true,
+        _ => false,
+    }
+}
+
+/// Whether one of these is on the policy.
+fn one_on_policy(all: &[Violation]) -> bool
+    ensures { result ≡ list_any (λ v. is_on_policy v.rule) all.now }
+{
+    all.iter().any(|violation| is_on_policy(violation.rule))
+}
+
+/// Those that aren't on the version of policy and resources.
+fn without_version(alloc: Global, all: &[Violation]) -> Result<Vec<Violation>, AllocError>
+    ensures { IfOk result (λ vs. vs.items ≡ filter (λ v. not (is_on_version v.rule)) all.now) }
+{
+    all.iter()
+        .copied()
+        .filter(|violation| !is_on_version(violation.rule))
+        .collect(alloc)
+}
+
+/// All of these but what only follows: a certificate without the policy has no version.
+///
+/// Returns `AllocError` if allocation fails.
+pub fn telling(alloc: Global, all: Vec<Violation>) -> Result<Vec<Violation>, AllocError>
+    ensures { IfOk result (λ vs. vs.items ≡ telling all.items) }
+{
+    if one_on_policy(all.as_slice()) {
+        return without_version(alloc, all.as_slice());
     }
     Ok(all)
 }

@@ -79,6 +79,8 @@ fn option_in(word: &[u8]) -> Option<&'static [u8]>
         Some(b"--profile")
     } else if is_of(b"--issuer", word) {
         Some(b"--issuer")
+    } else if is_of(b"--crl", word) {
+        Some(b"--crl")
     } else if is_of(b"--at", word) {
         Some(b"--at")
     } else {
@@ -90,7 +92,10 @@ fn option_in(word: &[u8]) -> Option<&'static [u8]>
 fn takes_value(option: &[u8]) -> bool
     ensures { result ≡ takes_value option.now }
 {
-    is(option, b"--profile") || is(option, b"--issuer") || is(option, b"--at")
+    is(option, b"--profile")
+        || is(option, b"--issuer")
+        || is(option, b"--crl")
+        || is(option, b"--at")
 }
 
 /// Whether the word names the option.
@@ -211,6 +216,8 @@ fn wrong_at_end(words: &[String]) -> Wrong<'_>
             let profiled = is_among(words, b"--check") || is_among(words, b"--profile");
             if is_among(words, b"--lax") && !profiled {
                 said(b"--lax is for --check and --profile", b"", b"")
+            } else if is_among(words, b"--crl") && !is_among(words, b"--issuer") {
+                said(b"--crl is for --issuer", b"", b"")
             } else {
                 said(b"no file", b"", b"")
             }

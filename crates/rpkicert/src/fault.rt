@@ -7,7 +7,9 @@ ghost use Rattle.rpki_fields.specs.PartText.{text_of_part};
 ghost use Rattle.rpkicert.specs.Fault.{cause_of, unreadable_text, clause_text, fault_text, status_of, refusal};
 ghost use Rattle.rpkicert.specs.Fault.{is_bad_signature, clause_told, text_in, line_text};
 ghost use Rattle.rpkicert.specs.Violation.{violation_text};
+ghost use Rattle.rpkicert.specs.Fault.{is_at_first, no_locator_text, text_name};
 
+use crate::pem::TextKind;
 use crate::violation::{Violation, has_section};
 use rpki::der::DecodeError;
 use rpki::repository::error::ValidationError;
@@ -18,6 +20,9 @@ use std::io::ErrorKind;
 
 /// What is said of a certificate of an algorithm that the RPKI doesn't use.
 const OTHER_ALGORITHM: &str = "RFC 7935 2, 3: of an algorithm that the RPKI doesn't use";
+
+/// What is said of what is none of what is read.
+const NO_KIND: &str = "neither DER nor PEM of an object, nor a trust anchor locator";
 
 /// Why a file could not be read to its end.
 #[derive(Clone, Copy, Debug)]
@@ -54,7 +59,7 @@ impl Cause {
         match self {
             Cause::Absent => "cannot be read: No such file or directory",
             Cause::Denied => "cannot be read: Permission denied",
-            Cause::Folder => "cannot be read: Is a directory",
+            Cause::Folder => "cannot be read: Is a directory (-r prints the files in it)",
             Cause::Special => "cannot be read: Not a regular file",
             Cause::Other => "cannot be read",
         }
@@ -84,6 +89,8 @@ pub enum Clause {
     Certificate,
     /// The issuer of a revocation list (RFC 5280 6.3.3).
     List,
+    /// The serial number of a certificate, which the revocation list of its issuer has (RFC 6487 7.2).
+    Revoked,
 }
 
 impl Clause {
@@ -102,6 +109,7 @@ impl Clause {
             Clause::Anchor => "RFC 8630 2.3",
             Clause::Certificate => "RFC 6487 7.2",
             Clause::List => "RFC 5280 6.3.3",
+            Clause::Revoked => "RFC 6487 7.2",
         }
     }
 }
@@ -121,8 +129,10 @@ pub enum Fault {
     Neither,
     /// The same, and it is no trust anchor locator: what is wrong with its first malformed line.
     NoLocator(LocatorError),
-    /// It begins as a text of RFC 7468, and isn't exactly one certificate in that encoding.
+    /// It has the first line of a certificate or a list in the encoding of RFC 7468, and isn't exactly one of these.
     Malformed,
+    /// It begins as a text of RFC 7468 that has something else.
+    OtherText(TextKind),
     /// Its octets are of this kind, and no such object: wrong in this place, where one is known.
     Refused(ObjectType, Option<Part>, DecodeError),
     /// The certificate in it violates the profile.
@@ -131,6 +141,8 @@ pub enum Fault {
     Unverified(Clause, ValidationError),
     /// It is to have a profile, or to be an issuer, and neither is nor has a certificate.
     NoCertificate,
+    /// It is to be a revocation list, and is an object of another kind.
+    NoList,
     /// It is checked against something, or is to be an issuer, and is a certificate of an algorithm that the RPKI
     /// doesn't use.
     OtherAlgorithm,
@@ -167,13 +179,34 @@ fn line_text(alloc: Global, e: LocatorError) -> Result<String, AllocError>
     }
 }
 
-/// That a text is no object and no locator, and why it is no locator.
-fn no_locator_text(alloc: Global, e: LocatorError) -> Result<String, AllocError>
-    ensures { IfOk result (λ text. string_bytes text
-        ≡ codes "neither DER nor PEM of an object, nor a trust anchor locator: " ++ line_text e) }
+/// Whether a text doesn't begin as a locator.
+fn is_at_first(e: LocatorError) -> bool
+    ensures { result ≡ is_at_first e }
 {
+    match e {
+        LocatorError::OtherUri(line) | LocatorError::NoUri(line) => line == 1,
+        _ => false,
+    }
+}
+
+/// That a text is no object and no locator, or why it is no locator, where it begins as one.
+fn no_locator_text(alloc: Global, e: LocatorError) -> Result<String, AllocError>
+    ensures { IfOk result (λ text. string_bytes text ≡ no_locator_text e) }
+{
+    if is_at_first(e) {
+        return String::from_str(alloc, NO_KIND);
+    }
     let said = line_text(alloc, e)?;
-    format!(in alloc; "neither DER nor PEM of an object, nor a trust anchor locator: {said}")
+    format!(in alloc; "not a trust anchor locator: {said}")
+}
+
+/// That a text of RFC 7468 has something else, and what.
+fn other_text(alloc: Global, kind: TextKind) -> Result<String, AllocError>
+    ensures { IfOk result (λ text. string_bytes text
+        ≡ codes "not one certificate or list in PEM: " ++ text_name kind) }
+{
+    let name = kind.text();
+    format!(in alloc; "not one certificate or list in PEM: {name}")
 }
 
 /// That the profile is violated, and how.
@@ -215,8 +248,9 @@ impl Fault {
         match self {
             Fault::Unreadable(_) | Fault::TooLarge | Fault::OutOfMemory => 2,
             Fault::Empty | Fault::Neither | Fault::NoLocator(_) | Fault::Malformed => 1,
-            Fault::Refused(..) | Fault::Violated(_) => 1,
-            Fault::Unverified(..) | Fault::NoCertificate | Fault::OtherAlgorithm => 1,
+            Fault::OtherText(_) | Fault::Refused(..) | Fault::Violated(_) => 1,
+            Fault::Unverified(..) | Fault::NoCertificate | Fault::NoList => 1,
+            Fault::OtherAlgorithm => 1,
         }
     }
 
@@ -234,10 +268,12 @@ impl Fault {
             Fault::Neither => String::from_str(alloc, "neither DER nor PEM of an object"),
             Fault::NoLocator(e) => no_locator_text(alloc, e),
             Fault::Malformed => String::from_str(alloc, "not one certificate or list in PEM"),
+            Fault::OtherText(kind) => other_text(alloc, kind),
             Fault::Refused(kind, place, e) => refused_text(alloc, kind, place, e),
             Fault::Violated(violation) => violated_text(alloc, violation),
             Fault::Unverified(clause, e) => unverified_text(alloc, clause, e),
             Fault::NoCertificate => String::from_str(alloc, "not a certificate"),
+            Fault::NoList => String::from_str(alloc, "not a revocation list"),
             Fault::OtherAlgorithm => String::from_str(alloc, OTHER_ALGORITHM),
         }
     }

@@ -1,9 +1,9 @@
-//! The terms of a run: the moment and the certificate of the issuer, or why there are none.
+//! The terms of a run: the moment, the certificate of the issuer and its revocation list, or why there are none.
 
 ghost use Rattle.std.specs.Prelude.{◌≡◌, IfOk, Ok};
 ghost use Rattle.std.specs.Result.{result_map_both};
-ghost use Rattle.rpkicert.specs.OutcomeView.{found_of};
-ghost use Rattle.rpkicert.specs.Run.{issuer_in, wrong_moment_text, wrong_issuer_text};
+ghost use Rattle.rpkicert.specs.OutcomeView.{finding_of, found_of};
+ghost use Rattle.rpkicert.specs.Run.{issuer_in, list_in, wrong_moment_text, wrong_issuer_text};
 
 use crate::fault::Fault;
 use crate::moment::is_now;
@@ -11,6 +11,7 @@ use crate::outcome::Outcome;
 use crate::output::push_line;
 use crate::texts::{NO_CLOCK, USAGE};
 use rpki_cert::TbsCert;
+use rpki_crl::Crl;
 use rpki_fields::Object;
 use std::alloc::{AllocError, Global};
 
@@ -28,6 +29,31 @@ pub fn issuer_of(found: &Outcome) -> Result<&TbsCert, Fault>
         Object::Certificate(cert) => Ok(cert.tbs()),
         Object::OtherCertificate(_) => Err(Fault::OtherAlgorithm),
         _ => Err(Fault::NoCertificate),
+    }
+}
+
+/// The revocation list that was found, as that of an issuer.
+///
+/// Returns why it doesn't hold, where it doesn't; `NoList` if it is an object of another kind.
+fn own_list(found: &Outcome) -> Result<&Crl, Fault>
+    ensures { result_map_both (λ l. l.now) (λ f. f) result ≡ list_in (Ok (found_of found.now)) }
+{
+    if let Some(fault) = found.fault {
+        return Err(fault);
+    }
+    match found.object.as_ref() {
+        Object::Crl(list) => Ok(list),
+        _ => Err(Fault::NoList),
+    }
+}
+
+/// The same, where anything was found.
+pub fn list_of(finding: &Result<Outcome, Fault>) -> Result<&Crl, Fault>
+    ensures { result_map_both (λ l. l.now) (λ f. f) result ≡ list_in (finding_of finding.now) }
+{
+    match finding {
+        Ok(found) => own_list(found),
+        Err(fault) => Err(*fault),
     }
 }
 
@@ -50,7 +76,7 @@ pub fn wrong_moment(alloc: Global, word: &str) -> Result<Vec<u8>, AllocError>
     Ok(text)
 }
 
-/// That the file of this name has no certificate of an issuer, and why.
+/// That the file of this name has no certificate of an issuer, or no list of it, and why.
 ///
 /// Returns `AllocError` if allocation fails.
 pub fn wrong_issuer(alloc: Global, name: &str, fault: Fault) -> Result<Vec<u8>, AllocError>

@@ -2,18 +2,20 @@
 
 ghost use Rattle.std.specs.Prelude.{IfSome, MatchResult, ◌≡◌, ◌⊎◌};
 ghost use Rattle.rpkicert.specs.Outcome.{IsObject, IsRefusal, IsHeld, IsWrong, HoldsTo, FindsIn, Finds, is_outside};
-ghost use Rattle.rpkicert.specs.Outcome.{is_other, form_fault, FindsFormed};
+ghost use Rattle.rpkicert.specs.Outcome.{is_other, form_fault, malformed, FindsFormed};
 ghost use Rattle.rpkicert.specs.OutcomeView.{finding_of, wrong_finding};
-ghost use Rattle.rpkicert.specs.Requirements.{no_terms};
+ghost use Rattle.rpkicert.specs.Requirements.{no_terms, list_terms};
 ghost use Rattle.rpkicert.specs.RequirementsView.{terms_of};
 ghost use Rattle.rpkicert.specs.declared.fault.Fault.TheVariants.{OutOfMemory};
 
 use crate::fault::{Fault, refusal};
-use crate::pem::{is_pem, octets_of};
+use crate::pem::{TextKind, has_begin, is_pem, octets_of};
 use crate::profile::profiled;
 use crate::requirements::{Requirements, verify};
 use crate::sources::Sources;
 use bytes::Bytes;
+use rpki::repository::x509::Time;
+use rpki_cert::TbsCert;
 use rpki_fields::{Object, ObjectType, Part};
 use std::alloc::Global;
 
@@ -136,13 +138,24 @@ fn form_fault(input: &[u8]) -> Option<Fault>
     None
 }
 
+/// Why a text stands for no octets.
+fn malformed(input: &[u8]) -> Fault
+    ensures { result ≡ malformed input.now }
+{
+    if has_begin(input) {
+        return Fault::Malformed;
+    }
+    Fault::OtherText(TextKind::of(input))
+}
+
 /// The object that an input in one of these forms stands for, and why it doesn't hold, where it doesn't.
 fn found_formed(alloc: Global, terms: &Requirements<'_>, input: Vec<u8>) -> Result<Outcome, Fault>
     ensures { FindsFormed (terms_of terms.now) input.items (finding_of result) }
 {
+    let fault = malformed(input.as_slice());
     match octets_of(alloc, input)? {
         Some(octets) => held(alloc, terms, octets),
-        None => Err(Fault::Malformed),
+        None => Err(fault),
     }
 }
 
@@ -150,8 +163,8 @@ fn found_formed(alloc: Global, terms: &Requirements<'_>, input: Vec<u8>) -> Resu
 /// certificate: of a signed object that of its signer; a revocation list has none.
 ///
 /// Returns `Empty` and `Neither` for what has no octets, or begins neither as DER nor is PEM; `Malformed` for a text
-/// that isn't one certificate; `Refused` for octets that are no object of the kind that they tell; `OutOfMemory` if
-/// allocation fails.
+/// that isn't one certificate; `OtherText` for one of another kind; `Refused` for octets that are no object of the kind
+/// that they tell; `OutOfMemory` if allocation fails.
 pub fn found_in(alloc: Global, terms: &Requirements<'_>, input: Vec<u8>) -> Result<Outcome, Fault>
     ensures { FindsIn (terms_of terms.now) input.items (finding_of result) }
 {
@@ -172,7 +185,32 @@ pub fn find_issuer<S: Sources>(alloc: Global, sources: &S, name: &str) -> Result
     let terms = Requirements {
         inspection: None,
         issuer: None,
+        revocations: None,
         moment: None,
+    };
+    found_in(alloc, &terms, input)
+}
+
+/// The object in the file of this name, which is checked against this issuer and this moment, so that it can be the
+/// issuer's revocation list.
+///
+/// The errors are those of [find_issuer].
+pub fn find_list<S: Sources>(
+    alloc: Global,
+    sources: &S,
+    name: &str,
+    issuer: &TbsCert,
+    moment: Option<Time>,
+) -> Result<Outcome, Fault>
+    ensures { IfSome (S.holds sources.now name.now)
+        (λ source. Finds (list_terms issuer.now moment) source (finding_of result)) }
+{
+    let input = sources.read(alloc, name)?;
+    let terms = Requirements {
+        inspection: None,
+        issuer: Some(issuer),
+        revocations: None,
+        moment,
     };
     found_in(alloc, &terms, input)
 }

@@ -15,7 +15,7 @@ ghost use Rattle.rpkicert.specs.Values.{told_text};
 ghost use Rattle.rpkicert.specs.ValuesView.{told_of};
 ghost use Rattle.rpkicert.specs.declared.fault.Fault.TheVariants.{Violated};
 
-use crate::broken::violations;
+use crate::broken::{telling, violations};
 use crate::fault::Fault;
 use crate::outcome::Outcome;
 use crate::requirements::Requirements;
@@ -375,7 +375,8 @@ fn checked_rules(
         IsChecked form (terms_of terms.now) name.now object.now (Some (Violated first)) (parts_of s)) }
 {
     let all = violations(alloc, terms.inspection, object)?;
-    let output = violated(alloc, form, name, first, all.as_slice())?;
+    let told = telling(alloc, all)?;
+    let output = violated(alloc, form, name, first, told.as_slice())?;
     let faults = Vec::new(alloc);
     Ok(Output {
         output,
@@ -418,13 +419,14 @@ fn checked_found(
         Some(fault) => checked_wrong(alloc, form, terms, name, found.object.as_ref(), fault),
         None => {
             let issued = terms.issuer.is_some();
+            let listed = terms.revocations.is_some();
             let object = found.object.as_ref();
             let signature = signature_of(issued, object);
             checked(
                 alloc,
                 form,
                 signature,
-                well_text(issued, object),
+                well_text(issued, listed, object),
                 name,
                 object,
             )

@@ -4,6 +4,7 @@ ghost use Rattle.std.specs.Prelude.{◌≡◌, map, codes, IfOk, false, option_m
 ghost use Rattle.clap.specs.Words.{all_of, app_of, first_of, rule_of};
 ghost use Rattle.rpkicert.specs.Request.{flag, lettered, valued, files_rule, command_app, matched, is_given};
 ghost use Rattle.rpkicert.specs.Request.{form_of, inspected, named_inspection, some_files, request_of, with_files};
+ghost use Rattle.rpkicert.specs.Request.{named_list};
 ghost use Rattle.rpkicert.specs.RequestView.{asked_of, rows_in};
 
 use crate::choice::{Choice, choice_of};
@@ -26,6 +27,8 @@ pub struct Request<'m, 'a, 'f> {
     pub inspection: Option<Inspection>,
     /// The name of the file of the issuer.
     pub issuer: Option<&'a str>,
+    /// The name of the file of the issuer's revocation list.
+    pub list: Option<&'a str>,
     /// The text of the moment.
     pub moment: Option<&'a str>,
     /// The names of the files.
@@ -82,6 +85,7 @@ fn command<'a>(alloc: Global) -> Result<Command<'a>, AllocError>
         .arg(lettered(alloc, 'r', "recursive"))?
         .arg(valued(alloc, "profile"))?
         .arg(valued(alloc, "issuer"))?
+        .arg(valued(alloc, "crl"))?
         .arg(valued(alloc, "at"))?
         .arg(files_rule(alloc))
 }
@@ -152,6 +156,20 @@ fn named_inspection(check: bool, lax: bool, name: Option<&str>) -> Option<Option
     }
 }
 
+/// The name of the issuer's revocation list, if one is named. None if one is, and no issuer.
+fn named_list<'a>(issuer: Option<&str>, list: Option<&'a str>) -> Option<Option<&'a str>>
+    ensures { option_map (λ list. option_map (λ name. name.now) list) result
+        ≡ named_list (option_map (λ name. name.now) issuer.entry) (option_map (λ name. name.now) list.entry) }
+{
+    match list {
+        None => Some(None),
+        Some(name) => match issuer {
+            Some(_) => Some(Some(name)),
+            None => None,
+        },
+    }
+}
+
 /// These files. None if there are none.
 fn some_files<'m, 'a>(files: Option<&'m [&'a str]>) -> Option<&'m [&'a str]>
     ensures { option_map (λ files. map (λ file. file.now) files.now) result
@@ -164,15 +182,17 @@ fn some_files<'m, 'a>(files: Option<&'m [&'a str]>) -> Option<&'m [&'a str]>
 }
 
 impl<'m, 'a> Request<'m, 'a, 'a> {
-    /// What is asked for of files: how objects are printed, whether those in folders are, a profile, an issuer and a
-    /// moment, perhaps, and the files.
-    /// None if there are none, or what belongs to a profile is asked for without one and without a verdict.
+    /// What is asked for of files: how objects are printed, whether those in folders are, a profile, an issuer, its
+    /// revocation list, and a moment, perhaps, and the files.
+    /// None if there are none, or what belongs to a profile is asked for without one and without a verdict, or the list
+    /// without an issuer.
     pub fn of(matches: &'m ArgMatches<'a>) -> Option<Request<'m, 'a, 'a>>
         ensures { option_map asked_of result ≡ request_of (rows_in matches.entry.now) }
     {
         let check = is_given(matches, "check");
         let lax = is_given(matches, "lax");
         let inspection = named_inspection(check, lax, matches.get_str("profile"))?;
+        let list = named_list(matches.get_str("issuer"), matches.get_str("crl"))?;
         let files = some_files(matches.get_raw("FILE"))?;
         Some(Request {
             form: form_of(is_given(matches, "json")),
@@ -180,6 +200,7 @@ impl<'m, 'a> Request<'m, 'a, 'a> {
             recursive: is_given(matches, "recursive"),
             inspection,
             issuer: matches.get_str("issuer"),
+            list,
             moment: matches.get_str("at"),
             files,
         })
@@ -199,6 +220,7 @@ pub fn with_files<'m, 'a, 'f>(
         recursive: request.recursive,
         inspection: request.inspection,
         issuer: request.issuer,
+        list: request.list,
         moment: request.moment,
         files,
     }

@@ -9,7 +9,8 @@ ghost use Rattle.rpkicert.specs.Fault.{bad_text};
 ghost use Rattle.rpkicert.specs.Requirements.{signer_of, list_of, signer_period, list_period, manifest_period};
 ghost use Rattle.rpkicert.specs.Requirements.{IsCertIssued, IsCertUnissued, IsListIssued, IsListUnissued};
 ghost use Rattle.rpkicert.specs.Requirements.{ArePeriodsHeld, BreaksPeriods, HasIssuer, BreaksIssuer, IsSelfSigned};
-ghost use Rattle.rpkicert.specs.Requirements.{self_issued, anchor_of};
+ghost use Rattle.rpkicert.specs.Requirements.{self_issued, anchor_of, IsNotOn, IsRevokedError};
+ghost use Rattle.rpki_valid.specs.ErrorTexts.{revoked_text};
 ghost use Rattle.rpkicert.specs.Requirements.{IsUpdateError, IsVerified, IsUnverifiedBy};
 ghost use Rattle.rpkicert.specs.RequirementsView.{terms_of, by_clause, ChecksBoth, HoldsBoth, HoldsOne, Judges};
 ghost use Rattle.rpkicert.specs.declared.fault.Clause.TheVariants as C;
@@ -33,6 +34,8 @@ pub struct Requirements<'a> {
     pub inspection: Option<Inspection>,
     /// The certificate that has issued it.
     pub issuer: Option<&'a TbsCert>,
+    /// The issuer's revocation list, which doesn't have it.
+    pub revocations: Option<&'a Crl>,
     /// A moment within its periods.
     pub moment: Option<Time>,
 }
@@ -151,6 +154,31 @@ fn check_list(issuer: Option<&TbsCert>, list: Option<&Crl>) -> Result<(), Valida
     }
 }
 
+/// Whether the list doesn't have the certificate.
+///
+/// The error is `Verification` with the text `RFC 6487 7.2: revoked certificate`.
+fn verify_unrevoked(list: &Crl, cert: &Cert) -> Result<(), ValidationError>
+    ensures { ChecksBy (IsNotOn list.now cert.now) (HasReason revoked_text) result }
+{
+    if list.contains(cert.tbs().serial_number()) {
+        return Err(unverified("RFC 6487 7.2: revoked certificate"));
+    }
+    Ok(())
+}
+
+/// The same where both are there.
+fn check_revoked(list: Option<&Crl>, cert: Option<&Cert>) -> Result<(), ValidationError>
+    ensures { ChecksBoth IsNotOn IsRevokedError (option_copied list.entry) (option_copied cert.entry) result }
+{
+    match list {
+        Some(list) => match cert {
+            Some(cert) => verify_unrevoked(list, cert),
+            None => Ok(()),
+        },
+        None => Ok(()),
+    }
+}
+
 /// Whether the period holds at the moment; where both are there.
 fn check_period(period: Option<Validity>, moment: Option<Time>) -> Result<(), ValidationError>
     ensures { ChecksBoth HoldsAt IsPeriodError period moment result }
@@ -228,6 +256,17 @@ fn hold_list(terms: &Requirements<'_>, object: &Object) -> Result<(), Fault>
     by(Clause::List, check_list(terms.issuer, list(object)))
 }
 
+/// The clause that the issuer's revocation list doesn't have the certificate.
+fn hold_unrevoked(terms: &Requirements<'_>, object: &Object) -> Result<(), Fault>
+    ensures { HoldsBoth C.Revoked IsNotOn IsRevokedError (terms_of terms.now).revocations (signer_of object.now)
+        result }
+{
+    by(
+        Clause::Revoked,
+        check_revoked(terms.revocations, signer(object)),
+    )
+}
+
 /// The clause that the period of the certificate holds.
 fn hold_cert_at(terms: &Requirements<'_>, object: &Object) -> Result<(), Fault>
     ensures { HoldsBoth C.Period HoldsAt IsPeriodError (signer_period object.now) terms.now.moment result }
@@ -270,17 +309,19 @@ fn hold_periods(terms: &Requirements<'_>, object: &Object) -> Result<(), Fault>
 }
 
 /// The clauses of the issuer: that a self-issued certificate, where none is asked for, is signed by its own key; that
-/// the issuer has issued the certificate, and the list.
+/// the issuer has issued the certificate, and the list; and that its revocation list doesn't have the certificate.
 fn hold_issuer(terms: &Requirements<'_>, object: &Object) -> Result<(), Fault>
     ensures { Judges (HasIssuer (terms_of terms.now) object.now) (BreaksIssuer (terms_of terms.now) object.now) result }
 {
     hold_anchor(terms, object)?;
     hold_cert(terms, object)?;
-    hold_list(terms, object)
+    hold_list(terms, object)?;
+    hold_unrevoked(terms, object)
 }
 
 /// Whether the object's periods hold at the moment, where one is asked for; whether it holds by itself; and whether it
-/// has the issuer, where one is asked for, or is signed by its own key, where it is self-issued.
+/// has the issuer, where one is asked for, and isn't on its revocation list, or is signed by its own key, where it is
+/// self-issued.
 ///
 /// The error is `Unverified` with the first clause that is broken: [hold_periods]; [hold_alone]; [hold_issuer];
 /// `OutOfMemory` if allocation fails.

@@ -3,11 +3,10 @@
 ghost use Rattle.std.specs.Prelude.{◌≡◌, Some, None, IfOk, IfErr, map, string_bytes};
 ghost use Rattle.rpkicert.specs.Request.{help, version};
 ghost use Rattle.rpkicert.specs.RequestView.{asked_of, wanted_by, AskedIn, AskHelp, AskVersion, AskRun, AskNothing};
-ghost use Rattle.std.specs.Option.{option_copied};
 ghost use Rattle.rpkicert.specs.Arguments.{wordless_text};
 ghost use Rattle.rpkicert.specs.ComplaintView.{complaint_of};
 ghost use Rattle.rpkicert.specs.Run.{IsRunOf};
-ghost use Rattle.rpkicert.specs.RunView.{RunsAt, RunsTo, RunsOf, RunsOn, RunsUnder, RunsBelow};
+ghost use Rattle.rpkicert.specs.RunView.{RunsAt, RunsTo, RunsOf, RunsOn, RunsUnder, RunsBelow, RunsWith, RunsFound};
 ghost use Rattle.rpkicert.specs.Under.{AreUnder};
 ghost use Rattle.rpkicert.specs.Output.{WritesBoth};
 ghost use Rattle.rpkicert.specs.OutputView.{seen_of, text_in};
@@ -15,10 +14,11 @@ ghost use Rattle.rpkicert.specs.Words.{Prints, PrintsAlone};
 
 use crate::arguments::Wordless;
 use crate::complaint::complaint;
+use crate::fault::Fault;
 use crate::files::seen;
-use crate::issuer::{issuer_of, wrong_issuer, wrong_moment};
+use crate::issuer::{issuer_of, list_of, wrong_issuer, wrong_moment};
 use crate::moment::moment_at;
-use crate::outcome::{Outcome, find_issuer};
+use crate::outcome::{Outcome, find_issuer, find_list};
 use crate::output::Output;
 use crate::request::{Request, is_given, matched, with_files};
 use crate::requirements::Requirements;
@@ -28,6 +28,7 @@ use clap::ArgMatches;
 use rpki::der::write_whole;
 use rpki::repository::x509::Time;
 use rpki_cert::TbsCert;
+use rpki_crl::Crl;
 use std::alloc::{AllocError, Global};
 use std::io;
 use std::io::Write;
@@ -125,26 +126,85 @@ fn deny<F: Write>(text: Result<Vec<u8>, AllocError>, err: &mut F) -> u8
     }
 }
 
-/// Shows the files, whose objects are checked against the profile that is asked for, to this issuer, and to this
-/// moment. Returns the exit status.
+/// Shows the files, whose objects are checked against the profile that is asked for, to this issuer, to its revocation
+/// list, and to this moment. Returns the exit status.
 fn show_held<S: Sources, W: Write, F: Write>(
     alloc: Global,
     request: &Request<'_, '_, '_>,
     issuer: Option<&TbsCert>,
+    list: Option<&Crl>,
     moment: Option<Time>,
     sources: &S,
     out: &mut W,
     err: &mut F,
 ) -> u8
     ensures { RunsTo (S.holds sources.now) (W.contents out.old) (W.contents out.new) (F.contents err.old)
-        (F.contents err.new) result request.now (option_copied issuer.entry) moment }
+        (F.contents err.new) result request.now issuer.entry list.entry moment }
 {
     let terms = Requirements {
         inspection: request.inspection,
         issuer,
+        revocations: list,
         moment,
     };
     show_each(alloc, request, &terms, sources, out, err)
+}
+
+/// Shows the files, whose objects are checked against what is asked for, to this issuer, to the list that was found,
+/// and to this moment; or why that is none. Returns the exit status.
+fn show_found<S: Sources, W: Write, F: Write>(
+    alloc: Global,
+    request: &Request<'_, '_, '_>,
+    issuer: &TbsCert,
+    name: &str,
+    found: &Result<Outcome, Fault>,
+    at: Option<Time>,
+    sources: &S,
+    out: &mut W,
+    err: &mut F,
+) -> u8
+    ensures { RunsFound (S.holds sources.now) (W.contents out.old) (W.contents out.new) (F.contents err.old)
+        (F.contents err.new) result request.now issuer.now at name.now found.now }
+{
+    match list_of(found) {
+        Ok(list) => {
+            let by = Some(issuer);
+            show_held(alloc, request, by, Some(list), at, sources, out, err)
+        }
+        Err(fault) => deny(wrong_issuer(alloc, name, fault), err),
+    }
+}
+
+/// Shows the files, whose objects are checked against what is asked for, to this issuer, to its list, where that is
+/// asked for, and to this moment; or why the list is none. Returns the exit status.
+fn show_with<S: Sources, W: Write, F: Write>(
+    alloc: Global,
+    request: &Request<'_, '_, '_>,
+    issuer: &TbsCert,
+    moment: &Option<Time>,
+    sources: &S,
+    out: &mut W,
+    err: &mut F,
+) -> u8
+    ensures { RunsWith (S.holds sources.now) (W.contents out.old) (W.contents out.new) (F.contents err.old)
+        (F.contents err.new) result request.now issuer.now moment.now }
+{
+    let Some(name) = request.list else {
+        return show_held(
+            alloc,
+            request,
+            Some(issuer),
+            None,
+            *moment,
+            sources,
+            out,
+            err,
+        );
+    };
+    let found = find_list(alloc, sources, name, issuer, *moment);
+    show_found(
+        alloc, request, issuer, name, &found, *moment, sources, out, err,
+    )
 }
 
 /// Shows the files, whose objects are checked against what is asked for, to the certificate that was found, and to this
@@ -163,7 +223,7 @@ fn show_issued<S: Sources, W: Write, F: Write>(
         (F.contents err.new) result request.now name.now moment found.now }
 {
     match issuer_of(found) {
-        Ok(issuer) => show_held(alloc, request, Some(issuer), moment, sources, out, err),
+        Ok(issuer) => show_with(alloc, request, issuer, &moment, sources, out, err),
         Err(fault) => deny(wrong_issuer(alloc, name, fault), err),
     }
 }
@@ -182,7 +242,7 @@ fn show_at<S: Sources, W: Write, F: Write>(
         (F.contents err.old) (F.contents err.new) result request.now moment }
 {
     match request.issuer {
-        None => show_held(alloc, request, None, moment, sources, out, err),
+        None => show_held(alloc, request, None, None, moment, sources, out, err),
         Some(name) => match find_issuer(alloc, sources, name) {
             Ok(found) => show_issued(alloc, request, name, &found, moment, sources, out, err),
             Err(fault) => deny(wrong_issuer(alloc, name, fault), err),
@@ -318,11 +378,13 @@ fn answer<S: Sources, W: Write, F: Write>(
 /// by its fields and items, and a fault by a line among the faults; with `--check` a line for either to the output. A
 /// text with several certificates is shown as so many files. With `-r` the files in a folder, and in the folders in it,
 /// are shown as if each had been named, in the order of their names. The moment `now` is that of the clock, which no
-/// other word asks for. If the words name an issuer that is no certificate, or a moment that isn't one, only that is
-/// told, among the faults. Of other words what is wrong with them first, and how the program is used.
+/// other word asks for. If the words name an issuer that is no certificate, a list that isn't the issuer's or doesn't
+/// hold at the moment, or a moment that isn't one, only that is told, among the faults. Of other words what is wrong
+/// with them first, and how the program is used.
 ///
 /// The status is 0 if all is well; 1 if a file is no such object, breaks a rule of its own, violates the profile, is of
-/// another issuer, or holds at another time; 2 if one can't be read, without the issuer or the moment, for other words,
+/// another issuer, is revoked, or holds at another time; 2 if one can't be read, without the issuer, its list or the
+/// moment, for other words,
 /// if allocation fails, and if the output or the faults fail; of several the greatest. Returns `AllocError` if there is
 /// no memory to read the words, or to say what is wrong with them; then nothing is written.
 pub fn run<S: Sources, W: Write, F: Write>(

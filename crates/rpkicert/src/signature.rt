@@ -91,11 +91,11 @@ fn is_revocable(object: &Object) -> bool
     }
 }
 
-/// The verdict on an object that holds, and is of the issuer, if one was asked for.
-pub fn well_text(issued: bool, object: &Object) -> &'static [u8]
-    ensures { result.now ≡ well_text issued object.now }
+/// The verdict on an object that holds, and is of the issuer, and not on its revocation list, if these were asked for.
+pub fn well_text(issued: bool, listed: bool, object: &Object) -> &'static [u8]
+    ensures { result.now ≡ well_text issued listed object.now }
 {
-    if issued && is_revocable(object) {
+    if issued && is_revocable(object) && !listed {
         return b"OK, revocation not checked";
     }
     signature_of(issued, object).verdict()
@@ -117,6 +117,7 @@ fn checked_at(clause: Clause, bad: bool) -> Signature
         Clause::Inherited | Clause::Origins | Clause::Customer => Signature::Own,
         Clause::Anchor => Signature::Bad,
         Clause::Certificate | Clause::List => { if bad { Signature::Bad } else { Signature::Good } }
+        Clause::Revoked => Signature::Good,
     }
 }
 

@@ -2,8 +2,8 @@
 
 /// How the program is used.
 pub const USAGE: &[u8] =
-    b"usage: rpkicert [--json] [--check] [--profile NAME] [--lax] [--issuer FILE] [--at MOMENT] \
-[-r] FILE..\n";
+    b"usage: rpkicert [--json] [--check] [--profile NAME] [--lax] [--issuer FILE] [--crl FILE] \
+[--at MOMENT] [-r] FILE..\n";
 
 /// The program's name and version.
 pub const VERSION: &[u8] = b"rpkicert 0.2.0\n";
@@ -22,7 +22,7 @@ pub const HELP: &[u8] = b"\
 rpkicert - verify and print the objects of a repository of the RPKI
 
 usage: rpkicert [--json] [--check] [--profile NAME] [--lax] [--issuer FILE]
-                [--at MOMENT] [-r] FILE..
+                [--crl FILE] [--at MOMENT] [-r] FILE..
        rpkicert -h | --help
        rpkicert --version
 
@@ -48,8 +48,8 @@ disagree both are told: the one that was found, and the one that is expected.
 
   --json       print an object of JSON a line
   --check      print a verdict a line and file: its name, and OK, OK, issuer not
-               checked, of a locator OK, certificate not checked, or what is
-               wrong; of a profile each rule that is broken, a line each; with
+               checked, OK, revocation not checked, of a locator OK, certificate
+               not checked, or what is wrong; of a profile each rule that is broken, a line each; with
                --json as an object of JSON, with file, signature, verdict,
                found and expected, and violations. The profile is auto where
                none is named
@@ -64,6 +64,10 @@ disagree both are told: the one that was found, and the one that is expected.
                and each revocation list to its issuer, whose certificate alone
                is in F: to the signature, the name, the key identifiers, and known
                extensions (RFC 6487 7.2, RFC 5280 6.3.3)
+  --crl F      hold each certificate, and that of the signer of each signed
+               object, to the issuer's revocation list, which is in F: it isn't
+               on it. The list is held to the issuer and the moment first, and
+               where it is another's, or stale, nothing else is printed
   --at MOMENT  hold periods of certificates, and those between the updates of
                revocation lists and manifests (RFC 9286 6.3), to a moment such
                as 2026-11-26T12:00:00Z (RFC 3339); now is that of the clock
@@ -72,6 +76,7 @@ disagree both are told: the one that was found, and the one that is expected.
                folders in it, in the order of their paths, as if each were named
 
 Exit status: 0 if all is well; 1 if a file is no such object, breaks a rule of
-its own, violates the profile, is of another issuer, or holds at another time; 2
-if a file can't be read, for a wrong usage, and if writing fails.
+its own, violates the profile, is of another issuer, is revoked, or holds at
+another time; 2 if a file, the issuer or its list can't be read or is none, for a
+wrong usage, and if writing fails.
 ";

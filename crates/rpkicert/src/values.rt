@@ -205,7 +205,8 @@ fn tell_by(
             let differ = says(alloc, e, b"issuer name mismatch")?;
             tell_list(alloc, differ, terms.issuer, list(object))
         }
-        Clause::Inherited | Clause::Origins | Clause::Customer | Clause::Anchor => Ok(None),
+        Clause::Inherited | Clause::Origins | Clause::Customer => Ok(None),
+        Clause::Anchor | Clause::Revoked => Ok(None),
     }
 }
 

@@ -22,6 +22,7 @@ returns c =
     ∙ ap₂ with_rule lax c.lettered-2.ensures.rule in
     let profile = c.in_ok-arg-7.ensures.shape c.valued.ensures.local ∙ ap₂ with_rule recursive c.valued.ensures.rule in
     let issuer = c.in_ok-arg-8.ensures.shape c.valued-2.ensures.local ∙ ap₂ with_rule profile c.valued-2.ensures.rule in
-    let moment = c.in_ok-arg-9.ensures.shape c.valued-3.ensures.local ∙ ap₂ with_rule issuer c.valued-3.ensures.rule in
-    IfOk-weaker c.arg-10.result _ _ (λ r h. h.shape c.files_rule.ensures.local
-    ∙ ap₂ with_rule moment c.files_rule.ensures.rule) c.arg-10.ensures
+    let list = c.in_ok-arg-9.ensures.shape c.valued-3.ensures.local ∙ ap₂ with_rule issuer c.valued-3.ensures.rule in
+    let moment = c.in_ok-arg-10.ensures.shape c.valued-4.ensures.local ∙ ap₂ with_rule list c.valued-4.ensures.rule in
+    IfOk-weaker c.arg-11.result _ _ (λ r h. h.shape c.files_rule.ensures.local
+    ∙ ap₂ with_rule moment c.files_rule.ensures.rule) c.arg-11.ensures

@@ -3,7 +3,7 @@ use Rattle.rpkicert.proofs.SettledLaws.{denied-by}
 use Rattle.rpkicert.proofs.runs.show_issued.Goals as goal
 
 pub returns-in-Ok : goal.returns-in-Ok
-returns-in-Ok g c = rw (← c.in-Ok.ensures) c.show_held.ensures
+returns-in-Ok g c = rw (← c.in-Ok.ensures) c.show_with.ensures
 
 pub returns-in-Err : goal.returns-in-Err
 returns-in-Err g c =
