@@ -97,4 +97,27 @@ def none(program, folder):
                                       + line(ta_list, OF_LIST + BAD) + line(manifest, OK), b"")
 
 
-TABLES = [revoked, none]
+def long_lists(program, folder):
+    """Lists of many serial numbers in no order, with and without that of an object; openssl counts them."""
+    place = repository.made(os.path.join(folder, "long"))
+    work, published = os.path.join(place, "work"), os.path.join(place, "rpki.example/repo")
+    objects = [os.path.join(published, "ca", name) for name in ("roa.roa", "one.roa", "ca.mft")]
+    numbers = [said_of(os.path.join(work, entity + ".cer"), "-serial") for entity in ("roa", "one", "camft")]
+    with open(os.path.join(work, "ca.cnf"), encoding="ascii") as file:
+        write(work, "long.cnf", file.read().replace("ca.index", "long.index").encode())
+    others = [f"{number * 7919 % 10007 + 2 ** 70:020X}" for number in range(5000)]
+    for name, has in ("no object", []), ("the first", [0]), ("the last", [2]), ("each", [0, 1, 2]):
+        listed = [*others[:2500], *(numbers[at] for at in has), *others[2500:]]
+        lines = "".join(f"R\t360101000000Z\t260101000000Z\t{number}\tunknown\t/CN=gone\n" for number in listed)
+        write(work, "long.index", lines.encode())
+        openssl("ca", "-gencrl", "-config", "long.cnf", "-keyfile", "ca.key", "-cert", "ca.pem", "-out", "long.pem",
+                cwd=work)
+        crl = os.path.join(work, "long.crl")
+        openssl("crl", "-in", "long.pem", "-outform", "DER", "-out", crl, cwd=work)
+        yield f"a long list of {name}, by openssl", len(serials(crl)), len(listed)
+        seen = ran(program, "--check", "--issuer", os.path.join(published, "ta/ca.cer"), "--crl", crl, *objects)
+        wanted = b"".join(line(path, REVOKED if at in has else OK) for at, path in enumerate(objects))
+        yield f"a long list of {name}", seen, (int(bool(has)), wanted, b"")
+
+
+TABLES = [revoked, none, long_lists]

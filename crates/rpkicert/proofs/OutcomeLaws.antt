@@ -167,3 +167,12 @@ was-read-of terms (Some source) input finding h k = was-read terms source input 
 pub by-form : (terms : TermParts) (input : List ℕ) (wrong : Option Fault) (f : Finding) → wrong ≡ form_fault input
     → FindsBy wrong terms input f → FindsIn terms input f
 by-form terms input wrong f e h = subst (λ (w : Option Fault). FindsBy w terms input f) e h
+
+-- the same finding, or that allocation failed
+pub or-memory : (terms : TermParts) (held : Option (Option (List ℕ))) (f g : Finding)
+    → IfSome held (λ source. Finds terms source f) → (g ≡ f) ⊎ (g ≡ Err OutOfMemory)
+    → IfSome held (λ source. Finds terms source g)
+or-memory terms None f g h e = tt
+or-memory terms (Some source) f g h (inl e) = subst (λ (w : Finding). Finds terms source w) (sym e) h
+or-memory terms (Some None) f g h (inr e) = inr e
+or-memory terms (Some (Some input)) f g h (inr e) = inr (inr e)

@@ -1,6 +1,6 @@
 //! What is found of a file.
 
-ghost use Rattle.std.specs.Prelude.{IfSome, MatchResult, ◌≡◌, ◌⊎◌};
+ghost use Rattle.std.specs.Prelude.{IfSome, MatchResult, Err, ◌≡◌, ◌⊎◌};
 ghost use Rattle.rpkicert.specs.Outcome.{IsObject, IsRefusal, IsHeld, IsWrong, HoldsTo, FindsIn, Finds, is_outside};
 ghost use Rattle.rpkicert.specs.Outcome.{is_other, form_fault, malformed, FindsFormed};
 ghost use Rattle.rpkicert.specs.OutcomeView.{finding_of, wrong_finding};
@@ -191,6 +191,20 @@ pub fn find_issuer<S: Sources>(alloc: Global, sources: &S, name: &str) -> Result
     found_in(alloc, &terms, input)
 }
 
+/// What was found, with the serial numbers in order where it is a revocation list, so that each is looked for in few
+/// steps.
+///
+/// Returns `OutOfMemory` if allocation fails.
+fn in_order(alloc: Global, finding: Result<Outcome, Fault>) -> Result<Outcome, Fault>
+    ensures { (finding_of result ≡ finding_of finding) ⊎ (finding_of result ≡ Err OutOfMemory) }
+{
+    let mut found = finding?;
+    if let Object::Crl(list) = found.object.as_mut() {
+        list.cache_serials(alloc)?;
+    }
+    Ok(found)
+}
+
 /// The object in the file of this name, which is checked against this issuer and this moment, so that it can be the
 /// issuer's revocation list.
 ///
@@ -212,5 +226,5 @@ pub fn find_list<S: Sources>(
         revocations: None,
         moment,
     };
-    found_in(alloc, &terms, input)
+    in_order(alloc, found_in(alloc, &terms, input))
 }

@@ -49,10 +49,10 @@ disagree both are told: the one that was found, and the one that is expected.
   --json       print an object of JSON a line
   --check      print a verdict a line and file: its name, and OK, OK, issuer not
                checked, OK, revocation not checked, of a locator OK, certificate
-               not checked, or what is wrong; of a profile each rule that is broken, a line each; with
-               --json as an object of JSON, with file, signature, verdict,
-               found and expected, and violations. The profile is auto where
-               none is named
+               not checked, or what is wrong; of a profile each rule that is
+               broken, a line each; with --json as an object of JSON, with file,
+               signature, verdict, found and expected, and violations. The
+               profile is auto where none is named
   --profile P  hold each certificate, and that of the signer of each signed
                object, to the profile of a trust anchor (ta), a certification
                authority (ca), an end entity (ee), one without subject
@@ -62,8 +62,8 @@ disagree both are told: the one that was found, and the one that is expected.
   --lax        don't hold the names to the profile
   --issuer F   hold each certificate, that of the signer of each signed object,
                and each revocation list to its issuer, whose certificate alone
-               is in F: to the signature, the name, the key identifiers, and known
-               extensions (RFC 6487 7.2, RFC 5280 6.3.3)
+               is in F: to the signature, the name, the key identifiers, and
+               known extensions (RFC 6487 7.2, RFC 5280 6.3.3)
   --crl F      hold each certificate, and that of the signer of each signed
                object, to the issuer's revocation list, which is in F: it isn't
                on it. The list is held to the issuer and the moment first, and
@@ -77,6 +77,6 @@ disagree both are told: the one that was found, and the one that is expected.
 
 Exit status: 0 if all is well; 1 if a file is no such object, breaks a rule of
 its own, violates the profile, is of another issuer, is revoked, or holds at
-another time; 2 if a file, the issuer or its list can't be read or is none, for a
-wrong usage, and if writing fails.
+another time; 2 if a file, the issuer or its list can't be read or is none, for
+a wrong usage, and if writing fails.
 ";
