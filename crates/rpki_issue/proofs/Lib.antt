@@ -1,13 +1,20 @@
 -- Which lemma file answers which question.
 --
 -- Contents of extensions that are written, and that they have one value: ContentsLaws, UniqueLaws. An extension, and a
--- list of them: RowsLaws, PartsLaws. What is signed of a certificate: TbsLaws. That it
--- has its profile: ResourcesLaws, ProfileLaws.
+-- list of them: RowsLaws, PartsLaws, ListedLaws. What is signed of a certificate: TbsLaws, WrittenTbsLaws. That it
+-- has its profile: ResourcesLaws, ProfileLaws. What is refused: UriLaws, PlanLaws, RefusedLaws. What is signed is read
+-- as what was to be signed: CertLaws.
 
 pub mod ContentsLaws
 pub mod UniqueLaws
 pub mod RowsLaws
 pub mod PartsLaws
+pub mod ListedLaws
+pub mod UriLaws
 pub mod TbsLaws
+pub mod WrittenTbsLaws
+pub mod CertLaws
+pub mod PlanLaws
 pub mod ResourcesLaws
 pub mod ProfileLaws
+pub mod RefusedLaws

@@ -63,7 +63,7 @@ module _ (x : Issued) (e : List ℕ) (short : IsShortTbs x e) where
   pub period-short : length (period_octets x.validity) < 2 ^ 32
   period-short = front-few (period_octets x.validity) (keyed_octets x e) validity-short
 
-  subject-short : length (key_octets x.key ++ extensions_octets e) < 2 ^ 32
+  pub subject-short : length (key_octets x.key ++ extensions_octets e) < 2 ^ 32
   subject-short =
       back-few x.subject (key_octets x.key ++ extensions_octets e)
       (back-few (period_octets x.validity) (keyed_octets x e) validity-short)

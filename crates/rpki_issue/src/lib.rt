@@ -1,12 +1,22 @@
 //! What an authority of the RPKI writes of certificates (RFC 5280 4.1, RFC 6487 4): the contents of each extension, and
-//! what is signed around any list of extensions. [laws] says that what is issued has its profile.
+//! what is signed around any list of extensions. A certificate is issued in two steps: [TbsCertBuilder::to_sign] is
+//! what the issuer's key signs, and [UnsignedCert::signed] takes a signature, from whoever made it, and verifies it.
+//! [laws] says that what is issued has its profile.
 #![tactic(auto)]
 
+mod capture;
 mod contents;
+mod error;
 mod frame;
 mod kind;
 pub mod laws;
+mod listed;
+mod row;
+mod signing;
 mod tbs;
+mod unsigned_cert;
+mod uris;
+mod written;
 
 pub use contents::{
     AccessEncoder, ConstraintsEncoder, DescriptionEncoder, PointsEncoder, PoliciesEncoder,
@@ -14,6 +24,8 @@ pub use contents::{
     encode_constraints, encode_points, encode_policies, encode_purposes, encode_repository,
     encode_subject_identifier, encode_usage,
 };
+pub use error::IssueError;
 pub use frame::ContextThreeFrame;
 pub use kind::{CertExtensions, CertKind, Issuance, Repository};
 pub use tbs::{TbsCertBuilder, TbsCertEncoder};
+pub use unsigned_cert::UnsignedCert;

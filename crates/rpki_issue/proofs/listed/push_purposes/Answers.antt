@@ -1,0 +1,11 @@
+use Rattle.std.proofs.Common.{List, ℕ, sym, subst}
+use Rattle.rpki.specs.ExtensionValue.{AreShort}
+use Rattle.rpki_issue.specs.RowNames.{row_parts}
+use Rattle.rpki_issue.specs.declared.row.Row.TheVariants.{ExtendedKeyUsage}
+use Rattle.rpki_issue.proofs.RowsLaws.{purposes-legal}
+use Rattle.rpki_issue.proofs.listed.push_purposes.Goals as goal
+
+pub push-requires-clause-all : goal.push-requires-clause-all
+push-requires-clause-all c =
+    subst (λ (w : List ℕ). AreShort (row_parts ExtendedKeyUsage w)) (sym c.encode_purposes.ensures.octets)
+    (purposes-legal).short
