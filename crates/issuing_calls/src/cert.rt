@@ -1,58 +1,13 @@
 //! Certificates.
 
-use crate::signing::{Refusal, signed, to_sign};
+use crate::signing::refusal;
 use crate::words::{
     Text, bytes_of, digits, held_of, https_of, key_of, name_of, period_of, rsync_of, serial_of,
     wanted,
 };
-use rpki_cert::CertRule;
-use rpki_digests::Digests;
+use rpki_digests::{Digests, RsaProvider};
 use rpki_issue::{CertExtensions, CertKind, Issuance, Repository, TbsCertBuilder};
 use std::alloc::Global;
-
-/// The name of a rule.
-fn rule_name(rule: CertRule) -> &'static str {
-    match rule {
-        CertRule::SerialNumber => "Rule SerialNumber",
-        CertRule::CriticalExtensions => "Rule CriticalExtensions",
-        CertRule::Issuer => "Rule Issuer",
-        CertRule::IssuerSize => "Rule IssuerSize",
-        CertRule::Validity => "Rule Validity",
-        CertRule::Subject => "Rule Subject",
-        CertRule::RouterSubject => "Rule RouterSubject",
-        CertRule::SubjectSize => "Rule SubjectSize",
-        CertRule::RouterSerialNumber => "Rule RouterSerialNumber",
-        CertRule::RsaKey => "Rule RsaKey",
-        CertRule::RouterKey => "Rule RouterKey",
-        CertRule::BasicConstraints => "Rule BasicConstraints",
-        CertRule::NoBasicConstraints => "Rule NoBasicConstraints",
-        CertRule::SubjectKeyIdentifier => "Rule SubjectKeyIdentifier",
-        CertRule::AuthorityKeyIdentifier => "Rule AuthorityKeyIdentifier",
-        CertRule::OwnAuthority => "Rule OwnAuthority",
-        CertRule::SelfIssued => "Rule SelfIssued",
-        CertRule::AuthorityUsage => "Rule AuthorityUsage",
-        CertRule::EndUsage => "Rule EndUsage",
-        CertRule::NoExtendedKeyUsage => "Rule NoExtendedKeyUsage",
-        CertRule::RouterPurpose => "Rule RouterPurpose",
-        CertRule::RevocationList => "Rule RevocationList",
-        CertRule::NoRevocationList => "Rule NoRevocationList",
-        CertRule::IssuerCertificate => "Rule IssuerCertificate",
-        CertRule::NoIssuerCertificate => "Rule NoIssuerCertificate",
-        CertRule::Repository => "Rule Repository",
-        CertRule::Manifest => "Rule Manifest",
-        CertRule::ManifestPlace => "Rule ManifestPlace",
-        CertRule::SignedObject => "Rule SignedObject",
-        CertRule::ObjectAccess => "Rule ObjectAccess",
-        CertRule::Notifications => "Rule Notifications",
-        CertRule::NoSubjectAccess => "Rule NoSubjectAccess",
-        CertRule::CertificatePolicies => "Rule CertificatePolicies",
-        CertRule::Resources => "Rule Resources",
-        CertRule::ResourceVersion => "Rule ResourceVersion",
-        CertRule::ResourceBlocks => "Rule ResourceBlocks",
-        CertRule::OwnResources => "Rule OwnResources",
-        CertRule::RouterNumbers => "Rule RouterNumbers",
-    }
-}
 
 /// `KIND SERIAL FROM TO SUBJECT ISSUER LIST CERTIFICATE BASE MANIFEST NOTIFICATION PRACTICES V4 V6 AS SIGNATURE`: what
 /// is to be signed where the signature is `_`, and else the certificate.
@@ -148,17 +103,16 @@ pub fn certificate(alloc: Global, kind: &str, words: &[&str]) -> Text {
         ip: held.ip.as_ref(),
         asn: held.asn.as_ref(),
     };
-    let octets = match to_sign(alloc, &builder, &extensions) {
-        Ok(octets) => octets,
-        Err(Refusal::Rule(rule)) => return Err(rule_name(rule)),
-        Err(Refusal::Other(text)) => return Err(text),
+    let unsigned = match builder.to_sign(alloc, &extensions) {
+        Ok(unsigned) => unsigned,
+        Err(e) => return Err(refusal(e)),
     };
     if *signature == "_" {
-        return digits(alloc, octets.as_slice());
+        return digits(alloc, unsigned.message());
     }
     let signature = bytes_of(alloc, Some(signature))?;
-    match signed(alloc, octets, &issuer, signature) {
+    match unsigned.signed(alloc, &RsaProvider, &issuer, signature) {
         Ok(made) => digits(alloc, made.as_slice()),
-        Err(text) => Err(text),
+        Err(e) => Err(refusal(e)),
     }
 }

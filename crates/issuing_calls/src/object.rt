@@ -1,8 +1,8 @@
 //! Revocation lists, contents and signed objects.
 
-use crate::signing::signed;
+use crate::signing::refusal;
 use crate::words::{
-    Text, bytes_of, captured, digits, key_of, name_of, octets_of, serial_of, time_of, written,
+    Text, bytes_of, digits, key_of, name_of, octets_of, serial_of, time_of, written,
 };
 use bytes::Bytes;
 use rpki::crypto::RpkiSignatureAlgorithm;
@@ -14,7 +14,8 @@ use rpki_contents::{
     RouteOriginAttestation, is_file_name,
 };
 use rpki_crl::{CrlEntry, CrlExtensions, TbsCertList};
-use rpki_digests::Digests;
+use rpki_digests::{Digests, RsaProvider};
+use rpki_issue::UnsignedCrl;
 use rpki_objects::{SignedObjectBuilder, SignedObjectParts};
 use rpki_resources::{Address, Prefix};
 use std::alloc::Global;
@@ -75,14 +76,17 @@ pub fn list(alloc: Global, words: &[&str]) -> Text {
             crl_number,
         },
     };
-    let octets = captured(alloc, &list.encode_ref())?;
+    let unsigned = match UnsignedCrl::new(alloc, list) {
+        Ok(unsigned) => unsigned,
+        Err(e) => return Err(refusal(e)),
+    };
     if *signature == "_" {
-        return digits(alloc, octets.as_slice());
+        return digits(alloc, unsigned.message());
     }
     let signature = bytes_of(alloc, Some(signature))?;
-    match signed(alloc, octets, &issuer, signature) {
+    match unsigned.signed(alloc, &RsaProvider, &issuer, signature) {
         Ok(made) => digits(alloc, made.as_slice()),
-        Err(text) => Err(text),
+        Err(e) => Err(refusal(e)),
     }
 }
 

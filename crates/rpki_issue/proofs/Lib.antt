@@ -3,7 +3,7 @@
 -- Contents of extensions that are written, and that they have one value: ContentsLaws, UniqueLaws. An extension, and a
 -- list of them: RowsLaws, PartsLaws, ListedLaws. What is signed of a certificate: TbsLaws, WrittenTbsLaws. That it
 -- has its profile: ResourcesLaws, ProfileLaws. What is refused: UriLaws, PlanLaws, RefusedLaws. What is signed is read
--- as what was to be signed: CertLaws.
+-- as what was to be signed: CertLaws, ListLaws.
 
 pub mod ContentsLaws
 pub mod UniqueLaws
@@ -14,6 +14,7 @@ pub mod UriLaws
 pub mod TbsLaws
 pub mod WrittenTbsLaws
 pub mod CertLaws
+pub mod ListLaws
 pub mod PlanLaws
 pub mod ResourcesLaws
 pub mod ProfileLaws

@@ -8,5 +8,6 @@ pub mod Issuing
 pub mod Refusal
 pub mod Written
 pub mod Signing
+pub mod SignedList
 -- Lemmas that an impl cites.
 pub mod TagLaws

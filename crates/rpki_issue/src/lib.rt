@@ -1,11 +1,12 @@
-//! What an authority of the RPKI writes of certificates (RFC 5280 4.1, RFC 6487 4): the contents of each extension, and
-//! what is signed around any list of extensions. A certificate is issued in two steps: [TbsCertBuilder::to_sign] is
-//! what the issuer's key signs, and [UnsignedCert::signed] takes a signature, from whoever made it, and verifies it.
-//! [laws] says that what is issued has its profile.
+//! What an authority of the RPKI issues (RFC 6487 4, 5). Of certificates there are encoders of the contents of each
+//! extension, and of what is signed around any list of extensions. A certificate or a revocation list is issued in two
+//! steps: [TbsCertBuilder::to_sign] and [UnsignedCrl::new] are what the issuer's key signs, and `signed` takes a
+//! signature, from whoever made it, and verifies it. [laws] says that what is issued has its profile.
 #![tactic(auto)]
 
 mod capture;
 mod contents;
+mod crl_written;
 mod error;
 mod frame;
 mod kind;
@@ -15,6 +16,7 @@ mod row;
 mod signing;
 mod tbs;
 mod unsigned_cert;
+mod unsigned_crl;
 mod uris;
 mod written;
 
@@ -29,3 +31,4 @@ pub use frame::ContextThreeFrame;
 pub use kind::{CertExtensions, CertKind, Issuance, Repository};
 pub use tbs::{TbsCertBuilder, TbsCertEncoder};
 pub use unsigned_cert::UnsignedCert;
+pub use unsigned_crl::UnsignedCrl;

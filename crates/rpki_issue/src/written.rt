@@ -15,7 +15,7 @@ use rpki::der::{Around, Captured, PrimitiveContent, Sequence, Values};
 use std::alloc::{AllocError, Global};
 
 /// Adds the values. Requires that they fit.
-fn put<V: Values + Drop>(octets: &mut Vec<u8>, values: V) -> Result<(), AllocError>
+pub(crate) fn put<V: Values + Drop>(octets: &mut Vec<u8>, values: V) -> Result<(), AllocError>
     requires short { V.is_short values }
     requires few { length (V.encoded values) < 2 ^ 63 }
     ensures { IfOk result (λ _. octets.new.items ≡ octets.old.items ++ V.encoded values) }
