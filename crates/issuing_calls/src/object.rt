@@ -8,15 +8,13 @@ use bytes::Bytes;
 use rpki::crypto::RpkiSignatureAlgorithm;
 use rpki::der::{Constructed, Oid};
 use rpki::oid;
-use rpki_attributes::{AttributesBuilder, KnownAttributes};
 use rpki_contents::{
     AsProviderAttestation, FileAndHash, ManifestContent, MessageDigest, RoaIpAddress,
     RouteOriginAttestation, is_file_name,
 };
 use rpki_crl::{CrlEntry, CrlExtensions, TbsCertList};
 use rpki_digests::{Digests, RsaProvider};
-use rpki_issue::UnsignedCrl;
-use rpki_objects::{SignedObjectBuilder, SignedObjectParts};
+use rpki_issue::{UnsignedCrl, UnsignedObject};
 use rpki_resources::{Address, Prefix};
 use std::alloc::Global;
 use std::net::IpAddr;
@@ -244,7 +242,7 @@ fn type_of(text: &str) -> Result<&'static [u8], &'static str> {
     }
 }
 
-/// `message TYPE CONTENT TIME`: what is to be signed. `object TYPE CONTENT TIME CERTIFICATE KEY SIGNATURE`
+/// `object TYPE CONTENT TIME`: what is to be signed. `object TYPE CONTENT TIME CERTIFICATE SIGNATURE`: the object.
 pub fn object(alloc: Global, words: &[&str]) -> Text {
     let [kind, content, time, others @ ..] = words else {
         return Err("usage");
@@ -255,34 +253,22 @@ pub fn object(alloc: Global, words: &[&str]) -> Text {
         Ok(time) => time,
         Err(e) => return Err(e),
     };
-    let attributes = KnownAttributes {
-        content_type: Oid(kind),
-        message_digest: MessageDigest::of(&Digests, content.as_slice()),
-        signing_time: Some(time),
-        binary_signing_time: None,
+    let made = UnsignedObject::new(alloc, &Digests, Oid(kind), content.as_slice(), time);
+    let unsigned = match made {
+        Ok(unsigned) => unsigned,
+        Err(e) => return Err(refusal(e)),
     };
-    let [certificate, key, signature] = others else {
-        return match AttributesBuilder::new(&attributes) {
-            Some(builder) => written(alloc, &builder.encode_message()),
-            None => Err("no such attributes"),
-        };
+    let [certificate, signature] = others else {
+        return digits(alloc, unsigned.message());
     };
     let certificate = octets_of(alloc, Some(certificate))?;
     let captured = match Constructed::from_slice(certificate.as_slice()).capture_one(alloc) {
         Ok(captured) => captured,
         Err(_) => return Err("no value"),
     };
-    let key = key_of(alloc, Some(key))?;
-    let signature = octets_of(alloc, Some(signature))?;
-    let parts = SignedObjectParts {
-        attributes,
-        content: content.as_slice(),
-        certificate: &captured,
-        signer_identifier: key.key_identifier(&Digests),
-        signature: signature.as_slice(),
-    };
-    match SignedObjectBuilder::new(&parts) {
-        Some(builder) => written(alloc, &builder.encode()),
-        None => Err("no such object"),
+    let signature = bytes_of(alloc, Some(signature))?;
+    match unsigned.signed(alloc, &RsaProvider, &captured, signature) {
+        Ok(made) => digits(alloc, made.as_slice()),
+        Err(e) => Err(refusal(e)),
     }
 }

@@ -54,6 +54,8 @@ pub fn refusal(error: IssueError) -> &'static str {
         IssueError::Resources => "Resources",
         IssueError::TooLong => "TooLong",
         IssueError::Rule(rule) => rule_name(rule),
+        IssueError::ContentType => "ContentType",
+        IssueError::Certificate => "Certificate",
         IssueError::BadSignature => "BadSignature",
         IssueError::OutOfMemory => "OutOfMemory",
     }

@@ -3,7 +3,7 @@
 -- Contents of extensions that are written, and that they have one value: ContentsLaws, UniqueLaws. An extension, and a
 -- list of them: RowsLaws, PartsLaws, ListedLaws. What is signed of a certificate: TbsLaws, WrittenTbsLaws. That it
 -- has its profile: ResourcesLaws, ProfileLaws. What is refused: UriLaws, PlanLaws, RefusedLaws. What is signed is read
--- as what was to be signed: CertLaws, ListLaws.
+-- as what was to be signed: CertLaws, ListLaws, ObjectLaws.
 
 pub mod ContentsLaws
 pub mod UniqueLaws
@@ -15,6 +15,7 @@ pub mod TbsLaws
 pub mod WrittenTbsLaws
 pub mod CertLaws
 pub mod ListLaws
+pub mod ObjectLaws
 pub mod PlanLaws
 pub mod ResourcesLaws
 pub mod ProfileLaws

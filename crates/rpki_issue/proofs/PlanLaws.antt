@@ -5,7 +5,7 @@ use Rattle.rpki_cert.specs.Profile.{HasProfile}
 use Rattle.rpki_cert.specs.Cert.{TbsParts, SpellsTbs, AreExtensions}
 use Rattle.rpki_issue.specs.declared.error.IssueError.{IssueError}
 use Rattle.rpki_issue.specs.declared.error.IssueError.TheVariants.{Uri, Resources, TooLong, Rule, BadSignature}
-use Rattle.rpki_issue.specs.declared.error.IssueError.TheVariants.{OutOfMemory}
+use Rattle.rpki_issue.specs.declared.error.IssueError.TheVariants.{ContentType, Certificate, OutOfMemory}
 use Rattle.rpki_issue.specs.declared.kind.CertExtensions.{CertExtensions}
 use Rattle.rpki_issue.specs.Extensions.{extensions_of, profile_of, AreUris}
 use Rattle.rpki_issue.specs.Tbs.{Issued, tbs_octets, IsShortTbs, normal_tbs}
@@ -37,6 +37,8 @@ module _ (x : Issued) (e : CertExtensions) where
   list-refused Resources h = h
   list-refused TooLong h = λ hold short. h hold
   list-refused (Rule r) h = absurd h
+  list-refused ContentType h = h
+  list-refused Certificate h = h
   list-refused BadSignature h = h
   list-refused OutOfMemory h = h
 
@@ -46,6 +48,8 @@ module _ (x : Issued) (e : CertExtensions) where
   octets-refused listed Resources l h = absurd h
   octets-refused listed TooLong l h = λ hold short. h (subst (λ (o : List ℕ). IsShortTbs x o) (sym l.list) short)
   octets-refused listed (Rule r) l h = absurd h
+  octets-refused listed ContentType l h = h
+  octets-refused listed Certificate l h = h
   octets-refused listed BadSignature l h = h
   octets-refused listed OutOfMemory l h = h
 
@@ -56,5 +60,7 @@ module _ (x : Issued) (e : CertExtensions) where
   profile-refused profile TooLong same h = absurd h
   profile-refused profile (Rule r) same h =
       subst (λ (p : Profile). IsProfileRefusal p (normal_tbs x (extensions_of e)) (Rule r)) same h
+  profile-refused profile ContentType same h = h
+  profile-refused profile Certificate same h = h
   profile-refused profile BadSignature same h = h
   profile-refused profile OutOfMemory same h = h

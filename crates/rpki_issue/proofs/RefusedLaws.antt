@@ -6,7 +6,7 @@ use Rattle.rpki_resources.specs.declared.resources.AsResources.{AsResources}
 use Rattle.rpki_resources.specs.EncodedResources.{CanWriteIp, CanWriteAs}
 use Rattle.rpki_issue.specs.declared.error.IssueError.{IssueError}
 use Rattle.rpki_issue.specs.declared.error.IssueError.TheVariants.{Uri, Resources, TooLong, Rule, BadSignature}
-use Rattle.rpki_issue.specs.declared.error.IssueError.TheVariants.{OutOfMemory}
+use Rattle.rpki_issue.specs.declared.error.IssueError.TheVariants.{ContentType, Certificate, OutOfMemory}
 use Rattle.rpki_issue.specs.declared.kind.CertExtensions.{CertExtensions}
 use Rattle.rpki_issue.specs.Extensions.{extensions_of, extensions_listed, CanHoldIp, CanHoldAs, CanHold}
 use Rattle.rpki_issue.specs.Tbs.{Issued, IsShortTbs}
@@ -32,5 +32,7 @@ not-refused x e Uri can short h = absurd (h can.uris)
 not-refused x e Resources can short h = absurd (h (writes e can.resources))
 not-refused x e TooLong can short h = absurd (h can.resources short)
 not-refused x e (Rule r) can short h = absurd (h.1 (has-profile x e can))
+not-refused x e ContentType can short h = absurd h
+not-refused x e Certificate can short h = absurd h
 not-refused x e BadSignature can short h = absurd h
 not-refused x e OutOfMemory can short h = refl

@@ -9,7 +9,7 @@ use Rattle.rpki.specs.PublicKey.{key_octets}
 use Rattle.rpki_x509.proofs.WrittenLaws.{front-few, back-few}
 use Rattle.rpki_issue.specs.declared.error.IssueError.{IssueError}
 use Rattle.rpki_issue.specs.declared.error.IssueError.TheVariants.{Uri, Resources, TooLong, Rule, BadSignature}
-use Rattle.rpki_issue.specs.declared.error.IssueError.TheVariants.{OutOfMemory}
+use Rattle.rpki_issue.specs.declared.error.IssueError.TheVariants.{ContentType, Certificate, OutOfMemory}
 use Rattle.rpki_issue.specs.Tbs.{Issued, extensions_octets, IsShortTbs}
 use Rattle.rpki_issue.specs.Written.{IsKeyedRefusal, IsWriteRefusal, ArePartsSpelled, IsRead}
 use Rattle.rpki_issue.proofs.TbsLaws.{subject-short, tbs-spelled}
@@ -24,6 +24,8 @@ weaker A B Uri f h = h
 weaker A B Resources f h = h
 weaker A B TooLong f h = λ b. h (f b)
 weaker A B (Rule r) f h = h
+weaker A B ContentType f h = h
+weaker A B Certificate f h = h
 weaker A B BadSignature f h = h
 weaker A B OutOfMemory f h = h
 

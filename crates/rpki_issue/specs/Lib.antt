@@ -9,5 +9,6 @@ pub mod Refusal
 pub mod Written
 pub mod Signing
 pub mod SignedList
+pub mod SignedObjects
 -- Lemmas that an impl cites.
 pub mod TagLaws

@@ -7,7 +7,7 @@ use Rattle.rpki_resources.specs.declared.resources.AsResources.{AsResources}
 use Rattle.rpki_resources.specs.EncodedResources.{CanWriteIp, CanWriteAs}
 use Rattle.rpki_issue.specs.declared.error.IssueError.{IssueError}
 use Rattle.rpki_issue.specs.declared.error.IssueError.TheVariants.{Uri, Resources, TooLong, Rule, BadSignature}
-use Rattle.rpki_issue.specs.declared.error.IssueError.TheVariants.{OutOfMemory}
+use Rattle.rpki_issue.specs.declared.error.IssueError.TheVariants.{ContentType, Certificate, OutOfMemory}
 use Rattle.rpki_issue.specs.declared.kind.CertExtensions.{CertExtensions}
 use Rattle.rpki_issue.specs.Extensions.{extensions_of, extensions_listed, CanHoldIp, CanHoldAs, CanHold}
 use Rattle.rpki_issue.specs.Issuing.{AreKeys}
@@ -18,6 +18,8 @@ issue_text Uri = codes "URI of 3,080 octets or more"
 issue_text Resources = codes "resources that no extension says"
 issue_text TooLong = codes "more octets than a length announces"
 issue_text (Rule r) = codes "rule of the profile broken"
+issue_text ContentType = codes "content type that is no object identifier"
+issue_text Certificate = codes "certificate that is none"
 issue_text BadSignature = codes "signature not by the key"
 issue_text OutOfMemory = codes "out of memory"
 
@@ -38,6 +40,8 @@ IsHeldRefusal legal held Uri = ⊥
 IsHeldRefusal legal held Resources = legal → ⊥
 IsHeldRefusal legal held TooLong = held → ⊥
 IsHeldRefusal legal held (Rule r) = ⊥
+IsHeldRefusal legal held ContentType = ⊥
+IsHeldRefusal legal held Certificate = ⊥
 IsHeldRefusal legal held BadSignature = ⊥
 IsHeldRefusal legal held OutOfMemory = Unit {0}
 

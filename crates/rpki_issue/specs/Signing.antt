@@ -13,7 +13,7 @@ use Rattle.rpki_cert.specs.Profile.{HasProfile, rules_of}
 use Rattle.rpki_cert.specs.Rule.{IsFirstBroken}
 use Rattle.rpki_issue.specs.declared.error.IssueError.{IssueError}
 use Rattle.rpki_issue.specs.declared.error.IssueError.TheVariants.{Uri, Resources, TooLong, Rule, BadSignature}
-use Rattle.rpki_issue.specs.declared.error.IssueError.TheVariants.{OutOfMemory}
+use Rattle.rpki_issue.specs.declared.error.IssueError.TheVariants.{ContentType, Certificate, OutOfMemory}
 use Rattle.rpki_issue.specs.declared.kind.CertExtensions.{CertExtensions}
 use Rattle.rpki_issue.specs.Extensions.{extensions_of, extensions_listed, profile_of, AreUris, CanHold}
 use Rattle.rpki_issue.specs.Tbs.{Issued, tbs_octets, IsShortTbs, normal_tbs}
@@ -54,6 +54,8 @@ IsSigningRefusal rsa ecdsa key octets value Uri = ⊥
 IsSigningRefusal rsa ecdsa key octets value Resources = ⊥
 IsSigningRefusal rsa ecdsa key octets value TooLong = IsShortWhole octets value → ⊥
 IsSigningRefusal rsa ecdsa key octets value (Rule r) = ⊥
+IsSigningRefusal rsa ecdsa key octets value ContentType = ⊥
+IsSigningRefusal rsa ecdsa key octets value Certificate = ⊥
 IsSigningRefusal rsa ecdsa key octets value BadSignature = IsSignatureBy rsa ecdsa key octets value → ⊥
 IsSigningRefusal rsa ecdsa key octets value OutOfMemory = Unit {0}
 
@@ -78,6 +80,8 @@ IsProfileRefusal profile t Resources = ⊥
 IsProfileRefusal profile t TooLong = ⊥
 IsProfileRefusal profile t (Rule r) =
     IsFirstBroken true t (rules_of profile) r × (HasProfile profile true t → ⊥)
+IsProfileRefusal profile t ContentType = ⊥
+IsProfileRefusal profile t Certificate = ⊥
 IsProfileRefusal profile t BadSignature = ⊥
 IsProfileRefusal profile t OutOfMemory = Unit {0}
 
@@ -94,6 +98,8 @@ IsPlanRefusal x e Uri = AreUris e → ⊥
 IsPlanRefusal x e Resources = CanWrite e → ⊥
 IsPlanRefusal x e TooLong = CanHold e → IsShortTbs x (extensions_listed (extensions_of e)) → ⊥
 IsPlanRefusal x e (Rule r) = IsProfileRefusal (profile_of e.kind) (normal_tbs x (extensions_of e)) (Rule r)
+IsPlanRefusal x e ContentType = ⊥
+IsPlanRefusal x e Certificate = ⊥
 IsPlanRefusal x e BadSignature = ⊥
 IsPlanRefusal x e OutOfMemory = Unit {0}
 

@@ -11,7 +11,7 @@ use Rattle.rpki.specs.ExtensionValue.{ExtensionParts}
 use Rattle.rpki_cert.specs.Cert.{SpellsTbs, AreExtensions}
 use Rattle.rpki_issue.specs.declared.error.IssueError.{IssueError}
 use Rattle.rpki_issue.specs.declared.error.IssueError.TheVariants.{Uri, Resources, TooLong, Rule, BadSignature}
-use Rattle.rpki_issue.specs.declared.error.IssueError.TheVariants.{OutOfMemory}
+use Rattle.rpki_issue.specs.declared.error.IssueError.TheVariants.{ContentType, Certificate, OutOfMemory}
 use Rattle.rpki_issue.specs.Tbs.{Issued, version_octets, tbs_octets, IsShortTbs, normal_tbs}
 
 -- the version, the serial number and the algorithm
@@ -45,6 +45,8 @@ IsKeyedRefusal short Uri = ⊥
 IsKeyedRefusal short Resources = ⊥
 IsKeyedRefusal short TooLong = short → ⊥
 IsKeyedRefusal short (Rule r) = ⊥
+IsKeyedRefusal short ContentType = ⊥
+IsKeyedRefusal short Certificate = ⊥
 IsKeyedRefusal short BadSignature = ⊥
 IsKeyedRefusal short OutOfMemory = Unit {0}
 

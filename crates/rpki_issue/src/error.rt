@@ -19,7 +19,11 @@ pub enum IssueError {
     TooLong,
     /// The certificate breaks this rule of its profile, the first in the profile's order.
     Rule(CertRule),
-    /// The signature is not one of these octets by the issuer's key.
+    /// The content type is no object identifier, or has 2^31 octets or more (RFC 5652 11.1).
+    ContentType,
+    /// The signer's certificate is none.
+    Certificate,
+    /// The signature is not one of these octets by the signer's key.
     BadSignature,
     /// Allocation failed.
     OutOfMemory,
@@ -38,6 +42,8 @@ impl fmt::Display for IssueError {
             IssueError::Resources => f.write_str("resources that no extension says"),
             IssueError::TooLong => f.write_str("more octets than a length announces"),
             IssueError::Rule(_) => f.write_str("rule of the profile broken"),
+            IssueError::ContentType => f.write_str("content type that is no object identifier"),
+            IssueError::Certificate => f.write_str("certificate that is none"),
             IssueError::BadSignature => f.write_str("signature not by the key"),
             IssueError::OutOfMemory => f.write_str("out of memory"),
         }

@@ -1,7 +1,8 @@
-//! What an authority of the RPKI issues (RFC 6487 4, 5). Of certificates there are encoders of the contents of each
-//! extension, and of what is signed around any list of extensions. A certificate or a revocation list is issued in two
-//! steps: [TbsCertBuilder::to_sign] and [UnsignedCrl::new] are what the issuer's key signs, and `signed` takes a
-//! signature, from whoever made it, and verifies it. [laws] says that what is issued has its profile.
+//! What an authority of the RPKI issues (RFC 6487 4, 5, RFC 6488). Of certificates there are encoders of the contents
+//! of each extension, and of what is signed around any list of extensions. A certificate, a revocation list or a signed
+//! object is issued in two steps: [TbsCertBuilder::to_sign], [UnsignedCrl::new] and [UnsignedObject::new] are what is
+//! signed, and `signed` takes a signature, from whoever made it, and verifies it. [laws] says that what is issued has
+//! its profile.
 #![tactic(auto)]
 
 mod capture;
@@ -17,6 +18,7 @@ mod signing;
 mod tbs;
 mod unsigned_cert;
 mod unsigned_crl;
+mod unsigned_object;
 mod uris;
 mod written;
 
@@ -32,3 +34,4 @@ pub use kind::{CertExtensions, CertKind, Issuance, Repository};
 pub use tbs::{TbsCertBuilder, TbsCertEncoder};
 pub use unsigned_cert::UnsignedCert;
 pub use unsigned_crl::UnsignedCrl;
+pub use unsigned_object::UnsignedObject;

@@ -1,0 +1,97 @@
+-- A signed object that is written is read as the object that was to be signed.
+use Rattle.std.proofs.Common.{◌≡◌, ℕ, Bool, true, false, List, refl, sym, subst, ap, ◌∙◌}
+use Rattle.rpki_der.specs.declared.error.DecodeError.{DecodeError}
+use Rattle.rpki_der.specs.declared.error.DecodeError.TheVariants.{Truncated, BadTag, BadLength, Unexpected, Content}
+use Rattle.rpki_der.specs.declared.error.DecodeError.TheVariants.{Trailing, OutOfMemory}
+use Rattle.rpki_der.specs.Prelude.{UnlessMemory, SpellsNothing}
+use Rattle.rpki_cert.specs.Cert.{CertParts, SpellsCert}
+use Rattle.rpki.specs.Provider.{Check}
+use Rattle.rpki.specs.PublicKey.{KeyParts}
+use Rattle.rpki_attributes.specs.SignedAttributes.{AttributeValues}
+use Rattle.rpki_objects.specs.SignedObject.{signed_object, object_fields_of}
+use Rattle.rpki_objects.specs.EncodedObject.{BuiltObject, object_octets, CanWriteObject, normal_object}
+use Rattle.rpki_objects.specs.EncodedObject.{IsObjectReadBack}
+use Rattle.rpki_issue.specs.declared.error.IssueError.{IssueError}
+use Rattle.rpki_issue.specs.declared.error.IssueError.TheVariants.{Uri, Resources, TooLong, Rule, BadSignature}
+use Rattle.rpki_issue.specs.declared.error.IssueError.TheVariants.{ContentType, Certificate}
+use Rattle.rpki_issue.specs.declared.error.IssueError.TheVariants.{OutOfMemory as NoMemory}
+use Rattle.rpki_issue.specs.Signing.{IsSignatureBy}
+use Rattle.rpki_issue.specs.SignedObjects.{ObjectToSign, AreTimed, built, IsOnlyCert, IsIssuedObject, IsObjectRefused}
+use Rattle.rpki_issue.specs.SignedObjects.{IsBuildRefused}
+
+pub only-cert : (s o : List ℕ) (c : CertParts) → s ≡ o
+    → SpellsCert c s × ((w : CertParts) → SpellsCert w s → w ≡ c) → IsOnlyCert o c
+only-cert s o c same h = record {
+  spelled = subst (λ (w : List ℕ). SpellsCert c w) same h.0;
+  only = λ x there. h.1 x (subst (λ (w : List ℕ). SpellsCert x w) (sym same) there);
+}
+
+pub no-cert : (s o : List ℕ) (e : DecodeError) → s ≡ o → (e ≡ OutOfMemory → ⊥)
+    → UnlessMemory e (SpellsNothing SpellsCert s) → (x : CertParts) → SpellsCert x o → ⊥
+no-cert s o Truncated same other h x there = h x (subst (λ (w : List ℕ). SpellsCert x w) (sym same) there)
+no-cert s o BadTag same other h x there = h x (subst (λ (w : List ℕ). SpellsCert x w) (sym same) there)
+no-cert s o BadLength same other h x there = h x (subst (λ (w : List ℕ). SpellsCert x w) (sym same) there)
+no-cert s o Unexpected same other h x there = h x (subst (λ (w : List ℕ). SpellsCert x w) (sym same) there)
+no-cert s o (Content e) same other h x there = h x (subst (λ (w : List ℕ). SpellsCert x w) (sym same) there)
+no-cert s o Trailing same other h x there = h x (subst (λ (w : List ℕ). SpellsCert x w) (sym same) there)
+no-cert s o OutOfMemory same other h x there = other refl
+
+-- ---- a signature, of equals
+
+pub moved : (rsa ecdsa : Check) (k key : KeyParts) (m message v value : List ℕ) → k ≡ key → m ≡ message → v ≡ value
+    → IsSignatureBy rsa ecdsa k m v → IsSignatureBy rsa ecdsa key message value
+moved rsa ecdsa k key m message v value p q r h =
+    subst (λ (w : List ℕ). IsSignatureBy rsa ecdsa key message w) r
+    (subst (λ (w : List ℕ). IsSignatureBy rsa ecdsa key w v) q
+    (subst (λ (x : KeyParts). IsSignatureBy rsa ecdsa x m v) p h))
+
+-- ---- the object
+
+module _ (rsa ecdsa : Check) (sha1 : List ℕ → List ℕ) (made : ObjectToSign) (certificate value : List ℕ)
+    (cert : CertParts) (one : IsOnlyCert certificate cert) where
+  pub built-same : (a : AttributeValues) (content signer signature : List ℕ) → a ≡ made.attributes
+      → content ≡ made.content → signer ≡ sha1 cert.tbs.key.bits.octets → signature ≡ value
+      → record {
+        attributes = a;
+        content = content;
+        certificate = certificate;
+        signer = signer;
+        signature = signature;
+      } ≡ built sha1 made certificate cert value
+  built-same a content signer signature p q r s = rw (p, q, r, s) refl
+
+  pub signature-refused : (IsSignatureBy rsa ecdsa cert.tbs.key made.message value → ⊥) → (x : CertParts)
+      → SpellsCert x certificate → IsSignatureBy rsa ecdsa x.tbs.key made.message value → ⊥
+  signature-refused other x there h =
+      other (subst (λ (t : CertParts). IsSignatureBy rsa ecdsa t.tbs.key made.message value) (one.only x there) h)
+
+  module _ (b : BuiltObject) (same : b ≡ built sha1 made certificate cert value) where
+    pub object-issued : (whole : List ℕ) → IsSignatureBy rsa ecdsa cert.tbs.key made.message value
+        → whole ≡ object_octets b → IsObjectReadBack b → AreTimed made.attributes
+        → IsIssuedObject rsa ecdsa sha1 made certificate value whole
+    object-issued whole verified written back timed =
+        let x = built sha1 made certificate cert value in
+        let is : whole ≡ object_octets x = written ∙ ap object_octets same in
+        let reads : IsObjectReadBack x = subst (λ (o : BuiltObject). IsObjectReadBack o) same back in
+        record {
+          cert = cert;
+          spelled = one.spelled;
+          verified = verified;
+          written = is;
+          read_back = λ strict. subst
+              (λ (o : List ℕ). (signed_object strict).spells (object_fields_of (normal_object cert x)) o) (sym is)
+              (reads strict cert one.spelled (timed strict));
+        }
+
+    pub build-refused : (w : IssueError) → IsBuildRefused b w
+        → IsObjectRefused rsa ecdsa sha1 made certificate value w
+    build-refused Uri h = h
+    build-refused Resources h = h
+    build-refused TooLong h = λ x there can.
+        h (subst (λ (o : BuiltObject). CanWriteObject o) (sym same)
+        (subst (λ (t : CertParts). CanWriteObject (built sha1 made certificate t value)) (one.only x there) can))
+    build-refused (Rule r) h = h
+    build-refused ContentType h = h
+    build-refused Certificate h = absurd h
+    build-refused BadSignature h = absurd h
+    build-refused NoMemory h = h
