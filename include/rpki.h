@@ -16,10 +16,11 @@
  * rpki_signed_data take up to 24 octets for each level of nesting, and 64 more. rpki_signed_data_write and
  * rpki_signed_data_make take that, and once it is freed as many octets as they write. The others that write values take
  * up to two octets for each that they read or write, and 512 more; rpki_base64_read of more than 128 octets takes up to
- * three for each that it reads, and 512 more. rpki_ip_settle, rpki_as_settle and rpki_roa_is_within take up to 384
- * octets for each block and prefix that they read or write, and 1,024 more. All others take none (those on names and
- * certificates, the others on resources, rpki_hex, rpki_base64_write, rpki_serial_decimal, those that count times on,
- * and the calls on URIs too), and so never return RPKI_OUT_OF_MEMORY.
+ * three for each that it reads, and 512 more. rpki_ip_settle, rpki_as_settle, rpki_roa_is_within and the calls on
+ * authorities take up to 384 octets for each block and prefix that they read or write, and 1,024 more, but for
+ * rpki_authority_list and rpki_authority_manifest. All others take none (those on names and certificates, the others on
+ * resources, rpki_hex, rpki_base64_write, rpki_serial_decimal, those that count times on, and the calls on URIs too),
+ * and so never return RPKI_OUT_OF_MEMORY.
  * So bound the size of what strangers send before you hand it in.
  *
  * What the caller owes, which no call can check:
@@ -135,6 +136,11 @@ enum {
     RPKI_INVALID_LAST_SYMBOL = 42, /* the last symbol has bits that stand for nothing */
     RPKI_INVALID_PADDING = 43,     /* padding is missing */
 
+    /* Of the calls on authorities, beside 62 and 63. */
+    RPKI_TOO_DEEP = 44,   /* the path has RPKI_MOST_STEPS steps already */
+    RPKI_NO_LIST = 45,    /* the authority has no revocation list yet: rpki_authority_list gives it one */
+    RPKI_SAME_NAMES = 46, /* a manifest names two of its files alike (RFC 9286 4.2.1) */
+
     /* Of rpki_validity_at: why a period doesn't hold at a moment. */
     RPKI_TOO_NEW = 50, /* the period begins after the moment */
     RPKI_TOO_OLD = 51, /* the period ended before the moment */
@@ -152,6 +158,8 @@ enum {
     RPKI_NOT_INHERITED = 59,   /* a manifest's certificate has resources of its own (RFC 9286 5.1) */
     RPKI_OTHER_ANCHOR = 60,    /* a certificate's key is not that of the locator (RFC 8630 3) */
     RPKI_OTHER_KINDS = 61,     /* a signer's certificate lists other kinds of resources than it has to (RFC 9582 5) */
+    RPKI_REVOKED = 62,         /* a certificate is on the revocation list of its issuer (RFC 6487 7.2) */
+    RPKI_ON_PATH = 63,         /* an authority's key is that of one on its path already, itself among them */
 
     /* The parts below are tested in the order of their numbers, but where a call says another; a part is also what
        follows a SEQUENCE that is to be all, or the last. So octets after the whole come before all that is inside. */
@@ -655,6 +663,41 @@ struct rpki_as_block {
     uint32_t low;      /* the lowest number */
     uint32_t high;     /* the highest number */
     bool is_inherited; /* whether the AS numbers are those of the issuer; then `low` and `high` are 0 */
+};
+
+/* The resources of a certificate, settled under those of its issuer, in the caller's two arrays. */
+struct rpki_resources {
+    const struct rpki_ip_block *ip_blocks; /* the addresses, those of IPv4 first, in canonical form */
+    size_t ip_count;
+    const struct rpki_as_block *as_blocks; /* the AS numbers, likewise */
+    size_t as_count;
+};
+
+/* The identifier of a key: the SHA-1 digest of its bits (RFC 6487 4.8.2). */
+struct rpki_key_octets {
+    uint8_t octets[20];
+};
+
+/* How many steps a path has at most, from its trust anchor down. */
+#define RPKI_MOST_STEPS 32
+
+/*
+ * An authority of a path, which begins at a trust anchor: what is asked of all that the authority issues. Only
+ * rpki_authority_anchor, rpki_authority_list and rpki_authority_under fill it in, and nothing else is to write to it:
+ * what they say of an authority rests on that of the one above it. It lends the octets of its certificate and of its
+ * list, and the arrays of its blocks, as long as it is used. One that is zeroed is refused: it has no certificate.
+ */
+struct rpki_authority {
+    struct rpki_span certificate;          /* its certificate */
+    struct rpki_span revoked_certs;        /* the entries of its list, in sequence */
+    const struct rpki_ip_block *ip_blocks; /* the addresses that it has, in canonical form */
+    size_t ip_count;
+    const struct rpki_as_block *as_blocks; /* the AS numbers that it has, likewise */
+    size_t as_count;
+    struct rpki_moment moment;       /* the moment at which all of the path is asked */
+    struct rpki_key_octets keys[33]; /* the keys of the path: the trust anchor's first, its own at keys[depth] */
+    uint32_t depth;                  /* how many steps lead up to the trust anchor, at most RPKI_MOST_STEPS */
+    bool has_list;                   /* whether it has a list */
 };
 
 /* The parts of an rsync URI, rsync://AUTHORITY/MODULE/PATH (RFC 5781). */
@@ -1208,32 +1251,23 @@ rpki_status rpki_as_block_text(const struct rpki_as_block *block, uint8_t *out, 
 
 /*
  * Each call below returns RPKI_OK where all holds that it asks, and else the first that does not; rpki_crl_contains and
- * rpki_manifest_names answer by `*out`, which is to be looked at too. An authority is a certificate, its list, and the
- * blocks that it has. The manifest comes first, since it lists the list, which may revoke the manifest's certificate:
+ * rpki_manifest_names answer by `*out`, which is to be looked at too. They ask of one thing each. "Authorities of a
+ * path" has calls that ask all at once, in this order, and that can't be asked in another:
  *
- *     rpki_object_verify(object, .., strict)                              of a signed object, whose certificate is then
- *     rpki_manifest_names(content, ..), rpki_manifest_file_is(digest, ..) of a manifest: no name twice, and each file
- *     rpki_crl_issued_by(list, .., authority, .., &now)                   once, of its list
- *     rpki_certificate_checked(certificate, .., PROFILE, true, ..)        its profile: _CA, _EE or _ROUTER
- *     rpki_certificate_signed_by(certificate, .., authority, ..)          names, keys, signature
- *     rpki_validity_at(&parts.validity, &now)                             its period
- *     rpki_crl_contains(revoked_certs, .., parts.serial_number, &is)      whether it is revoked
- *     rpki_ip_settle(certificate, .., ip_blocks, ..), rpki_as_settle(..)  the blocks that it has
+ *     rpki_authority_anchor(certificate, key of the locator, &now, ..)   begins a path
+ *     rpki_manifest_file_is(digest, ..)                                  of each file that the manifest lists, and so
+ * of rpki_authority_list(&authority, list, .., &with_list)              the list: before it nothing is valid
+ *     rpki_authority_manifest(&with_list, manifest, ..)                  after it, since it may revoke its certificate
+ *     rpki_authority_origin, _providers(&with_list, object, ..)
+ *     rpki_authority_end(&with_list, certificate, .., _ROUTER, ..)
+ *     rpki_authority_under(&with_list, certificate, .., &next)           an authority below it; then likewise
  *
- * and of what an object contains, by rpki_content_type:
- *
- *     rpki_manifest_inherits(certificate, ..), rpki_manifest(content, ..)
- *     rpki_validity_at(this update to the next, &now)                     it is current
- *     rpki_roa_signer(certificate, ..), rpki_roa_is_within(content, .., ip_blocks of the certificate, ..)
- *     rpki_aspa_signer(certificate, ..), rpki_aspa_is_within(content, .., as_blocks of the certificate, ..)
- *
- * A certificate that a manifest lists is that of an authority where `is_ca` of rpki_known_extensions is true, and else
- * of a router. An authority may certify itself, or one above it: go to none that is on the path already. A trust anchor
- * is of the profile _TA, rpki_anchor_verify accepts it, its period holds, and it has the blocks that rpki_ip_blocks and
- * rpki_as_blocks read in its extensions. The URIs of the list, the issuer and the object that certificates have are not
- * looked at. Of a certificate that has both the extension of RFC 3779 and that of RFC 8360 for one kind of resources
- * the calls below look at the first: rpki_certificate_checked refuses it (RPKI_RULE_RESOURCE_VERSION).
- * examples/validate does all this of route origins.
+ * Of a certificate that a manifest lists `is_ca` of rpki_known_extensions says whether it is that of an authority, and
+ * else it is a router's. Which files there are says a manifest before it is valid: they are read by its names, its list
+ * among them, and nothing that they say counts until rpki_authority_manifest and each rpki_manifest_file_is return
+ * RPKI_OK. The URIs of the list, the issuer and the object that certificates have are not looked at. Of a certificate
+ * that has both the extension of RFC 3779 and that of RFC 8360 for one kind of resources the small calls look at the
+ * first: rpki_certificate_checked refuses it (RPKI_RULE_RESOURCE_VERSION). examples/validate does all this.
  */
 
 /*
@@ -1341,6 +1375,98 @@ rpki_status rpki_manifest_inherits(const uint8_t *octets, size_t size) RPKI_CHEC
 
 /* Whether the octets are those of the file that a manifest lists with this digest (RFC 9286 6.5): RPKI_OTHER_DIGEST. */
 rpki_status rpki_manifest_file_is(const uint8_t digest[32], const uint8_t *octets, size_t size) RPKI_CHECKED;
+
+/* ---- Authorities of a path ---- */
+
+/*
+ * The authority of a trust anchor, with which a path begins. The certificate has the profile _TA, names included; its
+ * key is that of the locator, as rpki_anchor_verify asks; and it is valid at the moment, at which all of the path is
+ * asked, and of which the seconds are not looked at. Its blocks are written to the front of the two arrays, which are
+ * lent to `out`. It has no list yet.
+ *
+ * The statuses, in this order: those of rpki_certificate_checked; RPKI_OTHER_ANCHOR; RPKI_CONTENT: the years 0 to 9999
+ * have no such moment; RPKI_OTHER_KEY; RPKI_KEY_NOT_ACCEPTED or RPKI_BAD_SIGNATURE; RPKI_TOO_NEW; RPKI_TOO_OLD;
+ * RPKI_OUT_OF_MEMORY; RPKI_TOO_SMALL: an array has no room. Else than with RPKI_OK the arrays hold nothing of use.
+ */
+rpki_status rpki_authority_anchor(const uint8_t *octets, size_t size, const uint8_t *key, size_t key_size,
+                                  const struct rpki_moment *moment, struct rpki_ip_block *ip_room, size_t ip_capacity,
+                                  struct rpki_as_block *as_room, size_t as_capacity,
+                                  struct rpki_authority *out) RPKI_CHECKED;
+
+/*
+ * The same authority with its revocation list, which it has issued, and which is in force at the moment of the path:
+ * what rpki_crl_issued_by asks. Nothing that it issues is valid before. Takes no memory. The statuses are those of
+ * rpki_crl_issued_by, of the authority's certificate and moment.
+ */
+rpki_status rpki_authority_list(const struct rpki_authority *by, const uint8_t *octets, size_t size,
+                                struct rpki_authority *out) RPKI_CHECKED;
+
+/*
+ * The authority of a certificate that another one has issued (RFC 5280 6.1.3, RFC 6487 7.2). It has the profile _CA,
+ * names included; the other has issued it, as rpki_certificate_signed_by asks; it is valid at the moment of the path;
+ * the other's list doesn't have it; and its key is that of none on the path, so that each path ends. Its blocks are
+ * those that rpki_ip_settle and rpki_as_settle find under the other's, and are written to the front of the two arrays,
+ * which are lent to `out`. It has no list yet.
+ *
+ * The statuses, in this order: those of rpki_certificate_checked; RPKI_NO_ISSUER: the other has no certificate;
+ * RPKI_CONTENT: its moment is none; RPKI_OTHER_ISSUER; RPKI_OTHER_AUTHORITY; RPKI_OTHER_KEY; RPKI_KEY_NOT_ACCEPTED or
+ * RPKI_BAD_SIGNATURE; RPKI_TOO_NEW; RPKI_TOO_OLD; RPKI_NO_LIST; those of rpki_crl_contains; RPKI_REVOKED;
+ * RPKI_TOO_DEEP; RPKI_ON_PATH; RPKI_NO_ANSWER: a block of the other is inherited; RPKI_OTHER_RESOURCES;
+ * RPKI_OUT_OF_MEMORY; RPKI_TOO_SMALL: an array has no room. Else than with RPKI_OK the arrays hold nothing of use.
+ */
+rpki_status rpki_authority_under(const struct rpki_authority *by, const uint8_t *octets, size_t size,
+                                 struct rpki_ip_block *ip_room, size_t ip_capacity, struct rpki_as_block *as_room,
+                                 size_t as_capacity, struct rpki_authority *out) RPKI_CHECKED;
+
+/*
+ * The resources of an end entity's certificate that an authority has issued: one that signs an object, or a router's.
+ * `profile` is RPKI_CERTIFICATE_EE, _ROUTER or _DETACHED_EE; else it is as rpki_authority_under, but that its key may
+ * be any. Whether it has signed an object, rpki_object_verify says.
+ *
+ * The statuses, in this order: RPKI_NO_PROFILE: it is another number; those of rpki_authority_under, but for
+ * RPKI_TOO_DEEP and RPKI_ON_PATH. Else than with RPKI_OK the arrays hold nothing of use.
+ */
+rpki_status rpki_authority_end(const struct rpki_authority *by, const uint8_t *octets, size_t size, uint8_t profile,
+                               struct rpki_ip_block *ip_room, size_t ip_capacity, struct rpki_as_block *as_room,
+                               size_t as_capacity, struct rpki_resources *out) RPKI_CHECKED;
+
+/*
+ * Whether a signed object is a route origin attestation that is valid below an authority (RFC 6488 3, RFC 9582 5): the
+ * key of its certificate has signed it, as rpki_object_verify asks; its certificate is valid below the authority, as
+ * rpki_authority_end asks of one with the profile _EE; it lists addresses alone, as rpki_roa_signer asks; and it has
+ * those of each prefix. `strict` is as of rpki_signed_object and rpki_roa. What it says, rpki_roa reads.
+ *
+ * The statuses, in this order: those of rpki_signed_object; RPKI_OTHER_TYPE: the content is of another type, or not of
+ * the one that is signed; RPKI_OTHER_DIGEST; of the certificate, those of rpki_authority_under up to RPKI_REVOKED, of
+ * the profile _EE; RPKI_OTHER_SIGNER; RPKI_KEY_NOT_ACCEPTED or RPKI_BAD_SIGNATURE; RPKI_OTHER_KINDS; RPKI_NO_ANSWER;
+ * RPKI_OTHER_RESOURCES; those of rpki_roa; RPKI_OTHER_RESOURCES; or RPKI_OUT_OF_MEMORY.
+ */
+rpki_status rpki_authority_origin(const struct rpki_authority *by, const uint8_t *octets, size_t size,
+                                  bool strict) RPKI_CHECKED;
+
+/*
+ * The same of an attestation of providers: its certificate lists AS numbers alone, as rpki_aspa_signer asks, and has
+ * that of the customer (draft-ietf-sidrops-aspa-profile 4). The statuses are those of rpki_authority_origin, but with
+ * those of rpki_aspa in place of rpki_roa.
+ */
+rpki_status rpki_authority_providers(const struct rpki_authority *by, const uint8_t *octets, size_t size,
+                                     bool strict) RPKI_CHECKED;
+
+/*
+ * Whether a signed object is a manifest that is valid below an authority (RFC 9286 6.2, 6.3): the key of its
+ * certificate has signed it, as rpki_object_verify asks; its certificate is valid below the authority, as
+ * rpki_authority_end asks of one with the profile _EE; all resources that it names are the authority's, as
+ * rpki_manifest_inherits asks; no two files have the same name; and the moment of the path is not before this update
+ * nor after the next. `room` has `capacity` places, one for each file at least, and is written over. n files take n log
+ * n steps. Whether the files are as it says, rpki_manifest_file_is asks of each; the list is one of them. Takes no
+ * memory.
+ *
+ * The statuses, in this order: those of rpki_authority_origin up to RPKI_BAD_SIGNATURE; RPKI_NOT_INHERITED; those of
+ * rpki_manifest; RPKI_TOO_SMALL: `room` has too few places; RPKI_SAME_NAMES; RPKI_CONTENT: the moment is none;
+ * RPKI_TOO_NEW; RPKI_TOO_OLD.
+ */
+rpki_status rpki_authority_manifest(const struct rpki_authority *by, const uint8_t *octets, size_t size, bool strict,
+                                    struct rpki_span *room, size_t capacity) RPKI_CHECKED;
 
 /* ---- URIs ---- */
 
@@ -1832,6 +1958,24 @@ RPKI_ASSERT(as_block, sizeof(struct rpki_as_block) == 12);
 RPKI_ASSERT_AT(as_block, low, 0);
 RPKI_ASSERT_AT(as_block, high, 4);
 RPKI_ASSERT_AT(as_block, is_inherited, 8);
+RPKI_ASSERT(resources, sizeof(struct rpki_resources) == 32);
+RPKI_ASSERT_AT(resources, ip_blocks, 0);
+RPKI_ASSERT_AT(resources, ip_count, 8);
+RPKI_ASSERT_AT(resources, as_blocks, 16);
+RPKI_ASSERT_AT(resources, as_count, 24);
+RPKI_ASSERT(key_octets, sizeof(struct rpki_key_octets) == 20);
+RPKI_ASSERT_AT(key_octets, octets, 0);
+RPKI_ASSERT(authority, sizeof(struct rpki_authority) == 768);
+RPKI_ASSERT_AT(authority, certificate, 0);
+RPKI_ASSERT_AT(authority, revoked_certs, 16);
+RPKI_ASSERT_AT(authority, ip_blocks, 32);
+RPKI_ASSERT_AT(authority, ip_count, 40);
+RPKI_ASSERT_AT(authority, as_blocks, 48);
+RPKI_ASSERT_AT(authority, as_count, 56);
+RPKI_ASSERT_AT(authority, moment, 64);
+RPKI_ASSERT_AT(authority, keys, 96);
+RPKI_ASSERT_AT(authority, depth, 756);
+RPKI_ASSERT_AT(authority, has_list, 760);
 RPKI_ASSERT(rsync_parts, sizeof(struct rpki_rsync_parts) == 48);
 RPKI_ASSERT_AT(rsync_parts, authority, 0);
 RPKI_ASSERT_AT(rsync_parts, module_name, 16);
@@ -1885,6 +2029,11 @@ static inline const char *rpki_status_text(rpki_status status) {
         case RPKI_NOT_INHERITED: return "resources that are not inherited";
         case RPKI_OTHER_ANCHOR: return "key is not that of the locator";
         case RPKI_OTHER_KINDS: return "other kinds of resources than the object asks for";
+        case RPKI_REVOKED: return "certificate is revoked";
+        case RPKI_ON_PATH: return "authority is on its own path";
+        case RPKI_TOO_DEEP: return "path is too long";
+        case RPKI_NO_LIST: return "authority has no revocation list";
+        case RPKI_SAME_NAMES: return "two files of one name";
         case RPKI_PART_CERTIFICATE: return "not a certificate";
         case RPKI_PART_SIGNED: return "malformed signed data";
         case RPKI_PART_ALGORITHM: return "signature algorithm is not the RPKI's";
@@ -2032,6 +2181,11 @@ static inline const char *rpki_status_name(rpki_status status) {
         case RPKI_NOT_INHERITED: return "RPKI_NOT_INHERITED";
         case RPKI_OTHER_ANCHOR: return "RPKI_OTHER_ANCHOR";
         case RPKI_OTHER_KINDS: return "RPKI_OTHER_KINDS";
+        case RPKI_REVOKED: return "RPKI_REVOKED";
+        case RPKI_ON_PATH: return "RPKI_ON_PATH";
+        case RPKI_TOO_DEEP: return "RPKI_TOO_DEEP";
+        case RPKI_NO_LIST: return "RPKI_NO_LIST";
+        case RPKI_SAME_NAMES: return "RPKI_SAME_NAMES";
         case RPKI_PART_CERTIFICATE: return "RPKI_PART_CERTIFICATE";
         case RPKI_PART_SIGNED: return "RPKI_PART_SIGNED";
         case RPKI_PART_ALGORITHM: return "RPKI_PART_ALGORITHM";
@@ -2209,6 +2363,8 @@ static inline const char *rpki_rule_text(rpki_status status) {
         case RPKI_NOT_INHERITED: return "RFC 9286 5.1";
         case RPKI_OTHER_ANCHOR: return "RFC 8630 3";
         case RPKI_OTHER_KINDS: return "RFC 9582 5";
+        case RPKI_REVOKED: return "RFC 6487 7.2";
+        case RPKI_SAME_NAMES: return "RFC 9286 4.2.1";
         case RPKI_OTHER_ISSUER: return "RFC 5280 6.1.3";
         default: return "";
     }

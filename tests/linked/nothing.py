@@ -51,7 +51,7 @@ def arguments(parameters):
     for number, text in enumerate(parameters):
         kind, name = re.fullmatch(r"(.*?)(\w+)(?:\[\d+\])?", text).groups()
         after = parameters[number + 1] if number + 1 < len(parameters) else ""
-        if name.endswith("size") or name == "capacity":
+        if name.endswith(("size", "capacity")):
             yield "0"
         elif kind == "const uint8_t *" and after.startswith("size_t"):
             yield "octets"
@@ -59,11 +59,11 @@ def arguments(parameters):
             yield "(const void *)octets"
         elif name == "rest":
             yield "rest_of_none(octets)"
-        elif "*" in kind and after == "size_t capacity":
+        elif "*" in kind and re.fullmatch(r"size_t \w*capacity", after):
             yield f"({kind.strip()})(void *)room_of_none"
         elif "*" in kind or "[" in text:
             yield f"(void *)(room + {at})"
-            at += 512
+            at += 1024
         else:
             yield "0"
 

@@ -7,6 +7,7 @@
 -- Parts of parsed URIs, by their places: PlaceLaws.
 -- Parts of certificates, and one that is checked against a profile: CertificateLaws; of revocation lists, signed
 --   objects, manifests and attestations: ObjectLaws. Tables of serial numbers: SerialTableLaws.
+-- Certificates, lists and objects of which each status is 0, as the layer says it: BelowLaws.
 -- Resources: entries of blocks, how many there are, what their contents' statuses say, and settled: ResourceLaws.
 
 mod VerificationLaws
@@ -21,3 +22,4 @@ mod TextLaws
 mod SerialTableLaws
 pub mod ObjectLaws
 mod ResourceLaws
+mod BelowLaws

@@ -25,6 +25,7 @@ use Rattle.rpki_resources.specs.declared.ip_view.IpResourcesView.{IpResourcesVie
 use Rattle.rpki_resources.specs.declared.resources.IpResources.{IpResources}
 use Rattle.rpki_resources.specs.Listed.{SpellsNext, SpellsFollowing}
 use Rattle.rpki_resources.specs.Encoded.{AreBlocksOf}
+use Rattle.rpki_resources.specs.Settled.{IsAnchored}
 use Rattle.rpki_resources.specs.Extension.{SpellsChoice, SpellsNamed, AreFamilies, SpellsIpResources, SpellsAsResources}
 use Rattle.rpki_resources.specs.Extension.AreFamilies.{OnlyV4, OnlyV6, BothFamilies}
 use Rattle.rpki_resources.specs.Kept.{IsChoiceOf, AreIpResourcesOf, SpellsIp, SpellsAs}
@@ -374,3 +375,10 @@ pub numbers-fit : (found : Option ExtensionParts) (said : Option ChoiceView) →
 numbers-fit found None h Missing k = tt
 numbers-fit found None h v k = absurd k
 numbers-fit found (Some x) h v k = claim-fits x h.0.content h.3 v k
+
+-- of a trust anchor
+pub anchored-fits : (v : ResourcesChoice) (own : List Block) → AreFitting v → IsAnchored v own
+    → AreBlocksOf AsNumbers own
+anchored-fits Missing own f h = subst (AreBlocksOf AsNumbers) (sym h) tt
+anchored-fits Inherit own f h = absurd h
+anchored-fits (Blocks bs) own f h = subst (AreBlocksOf AsNumbers) (sym h) f

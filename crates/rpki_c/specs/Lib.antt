@@ -32,3 +32,7 @@ pub mod Moments
 pub mod SignedObject
 pub mod Issued
 pub mod SignerResources
+pub mod Below
+pub mod Owned
+pub mod Authority
+pub mod AuthorityObject

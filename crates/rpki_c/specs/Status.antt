@@ -122,3 +122,23 @@ other_anchor = 60
 -- a certificate lists other kinds of resources than one that signs an object of a type has to
 abbrev pub other_kinds : ℕ
 other_kinds = 61
+
+-- an authority would be more steps below its trust anchor than a path may have
+abbrev pub too_deep : ℕ
+too_deep = 44
+
+-- an authority has no revocation list yet
+abbrev pub no_list : ℕ
+no_list = 45
+
+-- a manifest names two of its files alike
+abbrev pub same_names : ℕ
+same_names = 46
+
+-- a certificate is on the revocation list of its issuer
+abbrev pub revoked : ℕ
+revoked = 62
+
+-- an authority has the key of one that is on its path already
+abbrev pub on_path : ℕ
+on_path = 63

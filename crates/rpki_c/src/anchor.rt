@@ -12,7 +12,7 @@ use crate::verification::verified;
 use rpki_cert::{CertView, is_identifier};
 
 /// Whether these are the octets of the certificate's key.
-fn has_key(found: &CertView<'_>, key: &[u8]) -> bool
+pub(crate) fn has_key(found: &CertView<'_>, key: &[u8]) -> bool
     ensures { (s : List ℕ) (x : CertParts) (h : IsCertAt s found.now x)
         → IsTrue result ↔ (key.now ≡ key_octets x s h.spelled) }
 {

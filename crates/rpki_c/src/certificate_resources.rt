@@ -17,7 +17,7 @@ use rpki_resources::{ChoiceView, IpResourcesView};
 use std::alloc::Global;
 
 /// The resources that an extension of addresses says; none of either family where it isn't there.
-fn claimed_addresses<'a>(found: Option<IpResourcesView<'a>>) -> IpResourcesView<'a>
+pub(crate) fn claimed_addresses<'a>(found: Option<IpResourcesView<'a>>) -> IpResourcesView<'a>
     ensures { result ≡ claimed_addresses found.entry }
 {
     match found {
@@ -30,7 +30,7 @@ fn claimed_addresses<'a>(found: Option<IpResourcesView<'a>>) -> IpResourcesView<
 }
 
 /// The resources that an extension of AS numbers says; none where it isn't there.
-fn claimed_numbers<'a>(found: Option<ChoiceView<'a>>) -> ChoiceView<'a>
+pub(crate) fn claimed_numbers<'a>(found: Option<ChoiceView<'a>>) -> ChoiceView<'a>
     ensures { result ≡ claimed_numbers found.entry }
 {
     match found {

@@ -151,7 +151,7 @@ fn lists_no_numbers(keyed: &Keyed<'_>) -> bool
 }
 
 /// Whether all resources that the extensions name are those of the issuer.
-fn are_inherited(keyed: &Keyed<'_>) -> bool
+pub(crate) fn are_inherited(keyed: &Keyed<'_>) -> bool
     ensures { OfListed keyed.now.extensions (λ xs. IsTrue result ↔ AreInherited xs) }
 {
     lists_no_addresses(keyed) && lists_no_numbers(keyed)

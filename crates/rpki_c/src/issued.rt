@@ -11,7 +11,7 @@ ghost use Rattle.rpki_c.specs.Issued.{TestsNames, IsIssuedRead, IsIssuerRead};
 use crate::known_cert::{KnownCert, known_cert};
 use crate::status::{NO_ISSUER, OTHER_AUTHORITY, OTHER_ISSUER};
 use rpki::crypto::KeyIdentifier;
-use rpki_cert::{CertView, is_identifier};
+use rpki_cert::{CertView, KnownView, is_identifier};
 use rpki_digests::Digests;
 
 /// Whether the issuer of the one has the name of the other's subject, octet for octet.
@@ -38,16 +38,20 @@ pub(crate) struct IssuedCert<'a> {
     pub(crate) issuer: CertView<'a>,
 }
 
-/// Tests that the second may have issued the first, by their names and keys. The error is `OTHER_ISSUER` or
-/// `OTHER_AUTHORITY`.
-fn test_names(subject: &KnownCert<'_>, issuer: &CertView<'_>) -> Result<(), u8>
-    ensures { (s t : List ℕ) (x y : CertParts) → IsKnownAt s subject.now x → IsCertAt t issuer.now y
-        → TestsNames x y subject.now.known result }
+/// Tests that the second may have issued the first, whose extensions say this, by their names and keys. The error is
+/// `OTHER_ISSUER` or `OTHER_AUTHORITY`.
+pub(crate) fn test_names(
+    subject: &CertView<'_>,
+    known: &KnownView,
+    issuer: &CertView<'_>,
+) -> Result<(), u8>
+    ensures { (s t : List ℕ) (x y : CertParts) → IsCertAt s subject.now x → IsCertAt t issuer.now y
+        → TestsNames x y known.now result }
 {
-    if !is_named(&subject.cert, issuer) {
+    if !is_named(subject, issuer) {
         return Err(OTHER_ISSUER);
     }
-    if !is_identifier(subject.known.authority_key_identifier, key_of(issuer)) {
+    if !is_identifier(known.authority_key_identifier, key_of(issuer)) {
         return Err(OTHER_AUTHORITY);
     }
     Ok(())
@@ -66,7 +70,7 @@ pub(crate) fn read_issued<'a>(octets: &'a [u8], issuer: &'a [u8]) -> Result<Issu
         Ok(authority) => authority,
         Err(_) => return Err(NO_ISSUER),
     };
-    match test_names(&subject, &authority) {
+    match test_names(&subject.cert, &subject.known, &authority) {
         Ok(()) => Ok(IssuedCert {
             subject,
             issuer: authority,

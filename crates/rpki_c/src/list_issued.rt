@@ -60,7 +60,7 @@ fn list_verified(list: &CrlView<'_>, issuer: &CertView<'_>) -> u8
 }
 
 /// Whether the subject of the certificate has issued the list, and whether it is in force at the moment.
-fn list_told(list: &CrlView<'_>, issuer: &CertView<'_>, moment: &Moment) -> u8
+pub(crate) fn list_told(list: &CrlView<'_>, issuer: &CertView<'_>, moment: &Moment) -> u8
     ensures { (s t : List ℕ) (x : CrlParts) (y : CertParts) → IsCrlAt s list.now x → IsCertAt t issuer.now y
         → IsListTold x y moment.now result }
 {

@@ -38,7 +38,11 @@ fn attributes_digest(attributes: &[u8]) -> [u8; 32]
 }
 
 /// The status of a signature of the attributes by the key.
-fn attributes_verified(key: &PublicKeyView<'_>, attributes: &[u8], signature: &[u8]) -> u8
+pub(crate) fn attributes_verified(
+    key: &PublicKeyView<'_>,
+    attributes: &[u8],
+    signature: &[u8],
+) -> u8
     ensures { IsVerifiedBy key.now (message_of attributes.now) signature.now result }
 {
     if key.algorithm() != PublicKeyFormat::Rsa {
@@ -59,7 +63,7 @@ fn attributes_verified(key: &PublicKeyView<'_>, attributes: &[u8], signature: &[
 
 /// Tests that the type of the content and its digest are those that are signed. The error is `OTHER_TYPE` or
 /// `OTHER_DIGEST`.
-fn test_content(found: &SignedObjectView<'_>) -> Result<(), u8>
+pub(crate) fn test_content(found: &SignedObjectView<'_>) -> Result<(), u8>
     ensures { (strict : Bool) (s : List ℕ) (x : ObjectParts) → IsObjectAt strict s found.now x
         → MatchResult result (λ _. HasSignedContent x) (λ status. IsContentWrong x status) }
 {

@@ -24,7 +24,7 @@ use std::alloc::Global;
 /// What is settled of one kind.
 ///
 /// Returns `Overclaim` where the policy rejects what the issuer doesn't have; `OutOfMemory` if allocation fails.
-fn settle(
+pub(crate) fn settle(
     alloc: Global,
     policy: Overclaim,
     choice: &ChoiceView<'_>,
@@ -50,7 +50,7 @@ fn settle(
 }
 
 /// How an error is passed.
-fn settle_number(error: SettleError) -> u8
+pub(crate) fn settle_number(error: SettleError) -> u8
     ensures overclaim { error ≡ SettleError.Overclaim → result ≡ 58 }
     ensures memory { error ≢ SettleError.Overclaim → result ≡ 7 }
 {
@@ -75,7 +75,7 @@ fn write_blocks(family: AddressFamily, blocks: &[Block], entries: &mut [IpEntry]
 }
 
 /// Fills addresses of both families in.
-fn fill(v4: &[Block], v6: &[Block], entries: &mut [IpEntry], count: &mut usize) -> u8
+pub(crate) fn fill(v4: &[Block], v6: &[Block], entries: &mut [IpEntry], count: &mut usize) -> u8
     requires { length v4.now + length v6.now < 2 ^ 64 }
     ensures { IsFilled (settled_entries v4.now v6.now) result entries.old entries.new count.new }
 {
@@ -120,7 +120,7 @@ pub(crate) fn settle_addresses(
 }
 
 /// Fills AS numbers in.
-fn fill_as(blocks: &[Block], entries: &mut [AsEntry], count: &mut usize) -> u8
+pub(crate) fn fill_as(blocks: &[Block], entries: &mut [AsEntry], count: &mut usize) -> u8
     requires { AreBlocksOf AsNumbers blocks.now }
     ensures { IsFilled (map as_entry blocks.now) result entries.old entries.new count.new }
 {

@@ -51,14 +51,14 @@ fn has_own_numbers(keyed: &Keyed<'_>) -> bool
 }
 
 /// Whether addresses are listed, and no numbers are named.
-fn lists_addresses(keyed: &Keyed<'_>) -> bool
+pub(crate) fn lists_addresses(keyed: &Keyed<'_>) -> bool
     ensures { OfListed keyed.now.extensions (λ xs. IsTrue result ↔ ListsAddresses xs) }
 {
     has_addresses(keyed) && has_own_addresses(keyed) && !has_numbers(keyed)
 }
 
 /// Whether numbers are listed, and no addresses are named.
-fn lists_numbers(keyed: &Keyed<'_>) -> bool
+pub(crate) fn lists_numbers(keyed: &Keyed<'_>) -> bool
     ensures { OfListed keyed.now.extensions (λ xs. IsTrue result ↔ ListsNumbers xs) }
 {
     has_numbers(keyed) && has_own_numbers(keyed) && !has_addresses(keyed)

@@ -113,3 +113,18 @@ pub(crate) const OTHER_ANCHOR: u8 = 60;
 
 /// A certificate lists other kinds of resources than one that signs an object of a type has to.
 pub(crate) const OTHER_KINDS: u8 = 61;
+
+/// An authority would be more steps below its trust anchor than a path may have.
+pub(crate) const TOO_DEEP: u8 = 44;
+
+/// An authority has no revocation list yet.
+pub(crate) const NO_LIST: u8 = 45;
+
+/// A manifest names two of its files alike.
+pub(crate) const SAME_NAMES: u8 = 46;
+
+/// A certificate is on the revocation list of its issuer.
+pub(crate) const REVOKED: u8 = 62;
+
+/// An authority has the key of one that is on its path already.
+pub(crate) const ON_PATH: u8 = 63;

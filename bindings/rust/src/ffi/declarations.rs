@@ -13,6 +13,7 @@ pub(crate) const VERSION_MINOR: u32 = 2;
 pub(crate) const VERSION_PATCH: u32 = 0;
 pub(crate) const NO_PARENT: usize = usize::MAX;
 pub(crate) const MOST_EXTENSIONS: usize = 64;
+pub(crate) const MOST_STEPS: usize = 32;
 pub(crate) const OK: Status = 0;
 pub(crate) const TRUNCATED: Status = 1;
 pub(crate) const BAD_TAG: Status = 2;
@@ -31,6 +32,9 @@ pub(crate) const INVALID_SYMBOL: Status = 40;
 pub(crate) const INVALID_LENGTH: Status = 41;
 pub(crate) const INVALID_LAST_SYMBOL: Status = 42;
 pub(crate) const INVALID_PADDING: Status = 43;
+pub(crate) const TOO_DEEP: Status = 44;
+pub(crate) const NO_LIST: Status = 45;
+pub(crate) const SAME_NAMES: Status = 46;
 pub(crate) const TOO_NEW: Status = 50;
 pub(crate) const TOO_OLD: Status = 51;
 pub(crate) const KEY_NOT_ACCEPTED: Status = 52;
@@ -43,6 +47,8 @@ pub(crate) const OTHER_RESOURCES: Status = 58;
 pub(crate) const NOT_INHERITED: Status = 59;
 pub(crate) const OTHER_ANCHOR: Status = 60;
 pub(crate) const OTHER_KINDS: Status = 61;
+pub(crate) const REVOKED: Status = 62;
+pub(crate) const ON_PATH: Status = 63;
 pub(crate) const PART_CERTIFICATE: Status = 64;
 pub(crate) const PART_SIGNED: Status = 65;
 pub(crate) const PART_ALGORITHM: Status = 66;
@@ -504,6 +510,39 @@ pub(crate) struct AsBlock {
 const _: () = assert!(size_of::<AsBlock>() == 12);
 
 #[repr(C)]
+#[derive(Clone, Copy)]
+pub(crate) struct Resources {
+    pub(crate) ip_blocks: *const IpBlock,
+    pub(crate) ip_count: usize,
+    pub(crate) as_blocks: *const AsBlock,
+    pub(crate) as_count: usize,
+}
+const _: () = assert!(size_of::<Resources>() == 32);
+
+#[repr(C)]
+#[derive(Clone, Copy, Default)]
+pub(crate) struct KeyOctets {
+    pub(crate) octets: [u8; 20],
+}
+const _: () = assert!(size_of::<KeyOctets>() == 20);
+
+#[repr(C)]
+#[derive(Clone, Copy)]
+pub(crate) struct Authority {
+    pub(crate) certificate: Span,
+    pub(crate) revoked_certs: Span,
+    pub(crate) ip_blocks: *const IpBlock,
+    pub(crate) ip_count: usize,
+    pub(crate) as_blocks: *const AsBlock,
+    pub(crate) as_count: usize,
+    pub(crate) moment: Moment,
+    pub(crate) keys: [KeyOctets; 33],
+    pub(crate) depth: u32,
+    pub(crate) has_list: bool,
+}
+const _: () = assert!(size_of::<Authority>() == 768);
+
+#[repr(C)]
 #[derive(Clone, Copy, Default)]
 pub(crate) struct RsyncParts {
     pub(crate) authority: Place,
@@ -713,6 +752,60 @@ extern "C" {
     pub(super) fn rpki_aspa_signer(octets: *const u8, size: usize) -> Status;
     pub(super) fn rpki_manifest_inherits(octets: *const u8, size: usize) -> Status;
     pub(super) fn rpki_manifest_file_is(digest: *const [u8; 32], octets: *const u8, size: usize) -> Status;
+    pub(super) fn rpki_authority_anchor(
+        octets: *const u8,
+        size: usize,
+        key: *const u8,
+        key_size: usize,
+        moment: *const Moment,
+        ip_room: *mut IpBlock,
+        ip_capacity: usize,
+        as_room: *mut AsBlock,
+        as_capacity: usize,
+        out: *mut Authority,
+    ) -> Status;
+    pub(super) fn rpki_authority_list(
+        by: *const Authority,
+        octets: *const u8,
+        size: usize,
+        out: *mut Authority,
+    ) -> Status;
+    pub(super) fn rpki_authority_under(
+        by: *const Authority,
+        octets: *const u8,
+        size: usize,
+        ip_room: *mut IpBlock,
+        ip_capacity: usize,
+        as_room: *mut AsBlock,
+        as_capacity: usize,
+        out: *mut Authority,
+    ) -> Status;
+    pub(super) fn rpki_authority_end(
+        by: *const Authority,
+        octets: *const u8,
+        size: usize,
+        profile: u8,
+        ip_room: *mut IpBlock,
+        ip_capacity: usize,
+        as_room: *mut AsBlock,
+        as_capacity: usize,
+        out: *mut Resources,
+    ) -> Status;
+    pub(super) fn rpki_authority_origin(by: *const Authority, octets: *const u8, size: usize, strict: bool) -> Status;
+    pub(super) fn rpki_authority_providers(
+        by: *const Authority,
+        octets: *const u8,
+        size: usize,
+        strict: bool,
+    ) -> Status;
+    pub(super) fn rpki_authority_manifest(
+        by: *const Authority,
+        octets: *const u8,
+        size: usize,
+        strict: bool,
+        room: *mut Span,
+        capacity: usize,
+    ) -> Status;
     pub(super) fn rpki_rsync_parse(text: *const u8, size: usize, out: *mut RsyncParts) -> Status;
     pub(super) fn rpki_rsync_relative_to(
         uri: *const u8,

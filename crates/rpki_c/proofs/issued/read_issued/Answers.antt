@@ -24,7 +24,7 @@ returns-in-Ok-test_names c =
         by = record {
           read = record { spelled = h.cert.spelled; says = h.says };
           spelled = k.spelled;
-          named = c.in-Ok-test_names.ensures c.args.octets.now c.args.issuer.now x y h k;
+          named = c.in-Ok-test_names.ensures c.args.octets.now c.args.issuer.now x y h.cert k;
         };
       },
     )
@@ -37,5 +37,5 @@ returns-in-Err-test_names c =
       x,
       c.in-Ok.subject.known,
       record { spelled = h.cert.spelled; says = h.says },
-      inr (y, k.spelled, c.in-Err-test_names.ensures c.args.octets.now c.args.issuer.now x y h k),
+      inr (y, k.spelled, c.in-Err-test_names.ensures c.args.octets.now c.args.issuer.now x y h.cert k),
     )

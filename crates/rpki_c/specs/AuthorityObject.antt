@@ -1,0 +1,222 @@
+-- What a status says of a signed object below an authority of a path (RFC 6488 3), and of what it attests.
+use Rattle.std.specs.Prelude.{◌≡◌, ◌≢◌, ◌⊎◌, ◌<◌, ℕ, Bool, List, Ok, Result, MatchResult, length}
+use Rattle.jiff.specs.Types.{DateTime}
+use Rattle.sha2.specs.Sha256.{sha256}
+use Rattle.rpki_resources.specs.declared.block.Block.{Block}
+use Rattle.rpki_resources.specs.Blocks.{IsAmong}
+use Rattle.rpki_cert.specs.declared.extension.known_view.KnownView.{KnownView}
+use Rattle.rpki_cert.specs.declared.profile.Profile.TheVariants.{Ee}
+use Rattle.rpki_cert.specs.KnownView.{AreKnown}
+use Rattle.rpki_contents.specs.declared.aspa_view.AspaPart.{AspaPart}
+use Rattle.rpki_contents.specs.declared.roa_view.RoaPart.{RoaPart}
+use Rattle.rpki_contents.specs.declared.manifest_part.ManifestPart.{ManifestPart}
+use Rattle.rpki_contents.specs.AspaView.{FoundAspa, attestation}
+use Rattle.rpki_contents.specs.ListedFile.{AreDistinct}
+use Rattle.rpki_contents.specs.Manifest.{ManifestParts, period_of}
+use Rattle.rpki_contents.specs.ManifestView.{IsManifestWrong}
+use Rattle.rpki_contents.specs.Roa.{AttestationParts, fields_of, roa}
+use Rattle.rpki_contents.specs.Within.{AreWithin}
+use Rattle.rpki_objects.specs.declared.object_part.ObjectPart.{ObjectPart}
+use Rattle.rpki_objects.specs.SignedObject.{ObjectParts, object_fields_of, signed_object}
+use Rattle.rpki_objects.specs.SignedObjectView.{IsObjectWrong}
+use Rattle.rpki_time.specs.Validity.{HoldsAt}
+use Rattle.rpki_valid.specs.ObjectResources.{AreInherited}
+use Rattle.rpki_valid.specs.ObjectVerified.{IsSignedObject}
+use Rattle.rpki_c.specs.declared.authority.Authority.{Authority}
+use Rattle.rpki_c.specs.declared.owned.Addresses.{Addresses}
+use Rattle.rpki_c.specs.Aspa.{IsAspaWrong, aspa_part_number}
+use Rattle.rpki_c.specs.Below.{rsa, ecdsa, IsBelow, IsNotBelow}
+use Rattle.rpki_c.specs.Made.{IsPossible, IsTimeOf}
+use Rattle.rpki_c.specs.Manifest.{IsListing, manifest_part_number}
+use Rattle.rpki_c.specs.Moments.{IsToldOf}
+use Rattle.rpki_c.specs.Owned.{HasAddresses, HasNoAddresses, HasNumbers, HasNoNumbers}
+use Rattle.rpki_c.specs.Roa.{IsRoaWrong, roa_part_number}
+use Rattle.rpki_c.specs.SignedObject.{object_part_number, IsNoObject, certificate_in, HasSignedContent, IsContentWrong}
+use Rattle.rpki_c.specs.SignedObject.{IsSignerTold, content_type_number}
+use Rattle.rpki_c.specs.SignerResources.{ListsAddresses, ListsNumbers}
+use Rattle.rpki_c.specs.Status.{other_kinds, other_type, other_resources, out_of_memory}
+use Rattle.rpki_c.specs.Status.{not_inherited, same_names, too_small, content}
+
+-- ---- the object, and its certificate
+
+-- The key of the certificate has signed the object (RFC 6488 3), and the certificate is that of an end entity, valid
+-- below the authority, whose extensions say this.
+pub record IsSignedBelow (by : Authority) (x : ObjectParts) (known : KnownView) : Type 0 where
+  pub signed : IsSignedObject rsa ecdsa sha256 x
+  pub says : AreKnown x.cert.tbs.extensions known
+  pub below : IsBelow Ee by x.cert
+
+-- 55, 54: the content is not the one that is signed. Else it is, and the certificate, of these octets, is none that may
+-- be below the authority; or it is one, and the status is that of the signer.
+abbrev pub IsNotSignedBelow : Authority → ObjectParts → List ℕ → ℕ → Type 0
+IsNotSignedBelow by x s status =
+    IsContentWrong x status
+    ⊎ (HasSignedContent x × (IsNotBelow Ee by s x.cert status
+    ⊎ ((known : KnownView) × AreKnown x.cert.tbs.extensions known × IsBelow Ee by x.cert × (status ≢ 0)
+    × IsSignerTold x.cert known x.signer.identifier x.signer.attributes.message x.signer.signature.value status)))
+
+abbrev pub TestsSigned : Authority → ObjectParts → List ℕ → Result KnownView ℕ → Type 0
+TestsSigned by x s r = MatchResult r (IsSignedBelow by x) (IsNotSignedBelow by x s)
+
+-- 64 to 137: this part of the object is wrong. Else the octets are an object. 55: its content is of another type than
+-- this one. Else it isn't signed below the authority; or it is, and the rest of the rules says the status.
+abbrev pub IsNoObjectBelow : ℕ → Bool → Authority → (ObjectParts → KnownView → ℕ → Type 0) → List ℕ → ℕ → Type 0
+IsNoObjectBelow type strict by Rest s status =
+    ((q : ObjectPart) × (status ≡ object_part_number q) × IsObjectWrong strict s q × IsNoObject strict s)
+    ⊎ ((x : ObjectParts) × (h : (signed_object strict).spells (object_fields_of x) s)
+    × (((status ≡ other_type) × (content_type_number x.content.content_type ≢ type))
+    ⊎ ((content_type_number x.content.content_type ≡ type)
+    × (IsNotSignedBelow by x (certificate_in strict x s h) status
+    ⊎ ((known : KnownView) × IsSignedBelow by x known × Rest x known status)))))
+
+-- ---- route origins (RFC 9582)
+
+-- the octets are an attestation, and each address of each prefix is among these
+pub record IsOriginWithin (strict : Bool) (s : List ℕ) (own : Addresses) : Type 0 where
+  pub content : AttestationParts
+  pub spelled : (roa strict).spells (fields_of content) s
+  pub within : AreWithin content own.v4 own.v6
+
+-- 145 to 147: this part of the attestation is wrong. 58: an address is not among these. 7: allocation failed.
+abbrev pub IsNoOriginWithin : Bool → List ℕ → Addresses → ℕ → Type 0
+IsNoOriginWithin strict s own status =
+    ((q : RoaPart) × (status ≡ roa_part_number q) × IsRoaWrong strict s q)
+    ⊎ ((x : AttestationParts) × (roa strict).spells (fields_of x) s × (status ≡ other_resources)
+    × (AreWithin x own.v4 own.v6 → ⊥))
+    ⊎ (status ≡ out_of_memory)
+
+abbrev pub TestsOrigin : Bool → List ℕ → Addresses → Result (Unit {0}) ℕ → Type 0
+TestsOrigin strict s own r = MatchResult r (λ _. IsOriginWithin strict s own) (IsNoOriginWithin strict s own)
+
+-- 61: the certificate lists other kinds of resources. Else it has no addresses; or the attestation is not within them.
+abbrev pub IsNoOrigin : Bool → Authority → ObjectParts → KnownView → ℕ → Type 0
+IsNoOrigin strict by x known status =
+    ((status ≡ other_kinds) × (ListsAddresses x.cert.tbs.extensions → ⊥))
+    ⊎ (ListsAddresses x.cert.tbs.extensions × (HasNoAddresses known x.cert by.ip_blocks.now status
+    ⊎ ((own : Addresses) × HasAddresses known x.cert by.ip_blocks.now own
+    × IsNoOriginWithin strict x.content.content own status)))
+
+-- The octets are a route origin attestation that is valid below the authority: an end entity has signed it (RFC 6488
+-- 3), which lists addresses, and has those of each prefix (RFC 9582 5).
+pub record IsOriginBelow (strict : Bool) (by : Authority) (s : List ℕ) : Type 0 where
+  pub x : ObjectParts
+  pub spelled : (signed_object strict).spells (object_fields_of x) s
+  pub type : content_type_number x.content.content_type ≡ 1
+  pub known : KnownView
+  pub signed : IsSignedBelow by x known
+  pub kinds : ListsAddresses x.cert.tbs.extensions
+  pub own : Addresses
+  pub has : HasAddresses known x.cert by.ip_blocks.now own
+  pub within : IsOriginWithin strict x.content.content own
+
+abbrev pub TestsOriginBelow : Bool → Authority → List ℕ → Result (Unit {0}) ℕ → Type 0
+TestsOriginBelow strict by s r =
+    MatchResult r (λ _. IsOriginBelow strict by s) (IsNoObjectBelow 1 strict by (IsNoOrigin strict by) s)
+
+-- Status 0: it is valid below the authority. Else it isn't.
+abbrev pub IsOriginTold : Bool → Authority → List ℕ → ℕ → Type 0
+IsOriginTold strict by s status =
+    ((status ≡ 0) × IsOriginBelow strict by s) ⊎ IsNoObjectBelow 1 strict by (IsNoOrigin strict by) s status
+
+-- ---- providers (draft-ietf-sidrops-aspa-profile)
+
+-- the octets are an attestation, and its customer is among these numbers
+pub record IsCustomerWithin (s : List ℕ) (own : List Block) : Type 0 where
+  pub content : FoundAspa
+  pub read : attestation s ≡ Ok content
+  pub within : IsAmong content.customer own
+
+-- 148 to 151: this part of the attestation is wrong. 58: the customer is not among these.
+abbrev pub IsNoCustomerWithin : List ℕ → List Block → ℕ → Type 0
+IsNoCustomerWithin s own status =
+    ((q : AspaPart) × (status ≡ aspa_part_number q) × IsAspaWrong s q)
+    ⊎ ((x : FoundAspa) × (attestation s ≡ Ok x) × (status ≡ other_resources) × (IsAmong x.customer own → ⊥))
+
+abbrev pub TestsCustomer : List ℕ → List Block → Result (Unit {0}) ℕ → Type 0
+TestsCustomer s own r = MatchResult r (λ _. IsCustomerWithin s own) (IsNoCustomerWithin s own)
+
+-- 61: the certificate lists other kinds of resources. Else it has no AS numbers; or the customer is not among them.
+abbrev pub IsNoProviders : Authority → ObjectParts → KnownView → ℕ → Type 0
+IsNoProviders by x known status =
+    ((status ≡ other_kinds) × (ListsNumbers x.cert.tbs.extensions → ⊥))
+    ⊎ (ListsNumbers x.cert.tbs.extensions × (HasNoNumbers known x.cert by.as_blocks.now status
+    ⊎ ((own : List Block) × HasNumbers known x.cert by.as_blocks.now own
+    × IsNoCustomerWithin x.content.content own status)))
+
+-- The octets are an attestation of providers that is valid below the authority: an end entity has signed it (RFC 6488
+-- 3), which lists AS numbers, and has that of the customer (draft-ietf-sidrops-aspa-profile 4).
+pub record AreProvidersBelow (strict : Bool) (by : Authority) (s : List ℕ) : Type 0 where
+  pub x : ObjectParts
+  pub spelled : (signed_object strict).spells (object_fields_of x) s
+  pub type : content_type_number x.content.content_type ≡ 3
+  pub known : KnownView
+  pub signed : IsSignedBelow by x known
+  pub kinds : ListsNumbers x.cert.tbs.extensions
+  pub own : List Block
+  pub has : HasNumbers known x.cert by.as_blocks.now own
+  pub within : IsCustomerWithin x.content.content own
+
+abbrev pub TestsProvidersBelow : Bool → Authority → List ℕ → Result (Unit {0}) ℕ → Type 0
+TestsProvidersBelow strict by s r =
+    MatchResult r (λ _. AreProvidersBelow strict by s) (IsNoObjectBelow 3 strict by (IsNoProviders by) s)
+
+-- Status 0: it is valid below the authority. Else it isn't.
+abbrev pub AreProvidersTold : Bool → Authority → List ℕ → ℕ → Type 0
+AreProvidersTold strict by s status =
+    ((status ≡ 0) × AreProvidersBelow strict by s) ⊎ IsNoObjectBelow 3 strict by (IsNoProviders by) s status
+
+-- ---- manifests (RFC 9286)
+
+-- the octets are a manifest, no two of whose files have the same name, and which holds at the moment of the path (RFC
+-- 9286 4.2.1, 6.3)
+pub record IsManifestHeld (by : Authority) (s : List ℕ) : Type 0 where
+  pub content : ManifestParts
+  pub listing : IsListing content s
+  pub distinct : AreDistinct content.files
+  pub at : DateTime
+  pub moment : IsTimeOf by.moment at
+  pub now : HoldsAt (period_of content) at
+
+-- 9: there are more files than this. 46: two have the same name. 5: the moment is none. 50, 51: it is not held then.
+abbrev pub IsManifestRefused : Authority → ℕ → ManifestParts → ℕ → Type 0
+IsManifestRefused by capacity x status =
+    ((status ≡ too_small) × (capacity < length x.files))
+    ⊎ ((status ≡ same_names) × (AreDistinct x.files → ⊥))
+    ⊎ ((status ≡ content) × (IsPossible by.moment → ⊥))
+    ⊎ ((at : DateTime) × IsTimeOf by.moment at × (status ≢ 0) × IsToldOf (period_of x) at status)
+
+-- 138 to 144: this part of the manifest is wrong. Else it is one, and the status is as above.
+abbrev pub IsNoManifestHeld : Authority → ℕ → List ℕ → ℕ → Type 0
+IsNoManifestHeld by capacity s status =
+    ((q : ManifestPart) × (status ≡ manifest_part_number q) × IsManifestWrong s q)
+    ⊎ ((x : ManifestParts) × IsListing x s × IsManifestRefused by capacity x status)
+
+abbrev pub TestsManifest : Authority → ℕ → List ℕ → Result (Unit {0}) ℕ → Type 0
+TestsManifest by capacity s r = MatchResult r (λ _. IsManifestHeld by s) (IsNoManifestHeld by capacity s)
+
+-- 59: the certificate has resources of its own (RFC 9286 5.1). Else the manifest isn't held.
+abbrev pub IsNoManifest : Authority → ℕ → ObjectParts → KnownView → ℕ → Type 0
+IsNoManifest by capacity x known status =
+    ((status ≡ not_inherited) × (AreInherited x.cert.tbs.extensions → ⊥))
+    ⊎ (AreInherited x.cert.tbs.extensions × IsNoManifestHeld by capacity x.content.content status)
+
+-- The octets are a manifest that is valid below the authority: an end entity has signed it (RFC 6488 3), all of whose
+-- resources are the authority's (RFC 9286 5.1).
+pub record IsManifestBelow (strict : Bool) (by : Authority) (s : List ℕ) : Type 0 where
+  pub x : ObjectParts
+  pub spelled : (signed_object strict).spells (object_fields_of x) s
+  pub type : content_type_number x.content.content_type ≡ 2
+  pub known : KnownView
+  pub signed : IsSignedBelow by x known
+  pub inherited : AreInherited x.cert.tbs.extensions
+  pub held : IsManifestHeld by x.content.content
+
+abbrev pub TestsManifestBelow : Bool → Authority → ℕ → List ℕ → Result (Unit {0}) ℕ → Type 0
+TestsManifestBelow strict by capacity s r =
+    MatchResult r (λ _. IsManifestBelow strict by s) (IsNoObjectBelow 2 strict by (IsNoManifest by capacity) s)
+
+-- Status 0: it is valid below the authority. Else it isn't.
+abbrev pub IsManifestTold : Bool → Authority → ℕ → List ℕ → ℕ → Type 0
+IsManifestTold strict by capacity s status =
+    ((status ≡ 0) × IsManifestBelow strict by s)
+    ⊎ IsNoObjectBelow 2 strict by (IsNoManifest by capacity) s status

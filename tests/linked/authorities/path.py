@@ -1,0 +1,60 @@
+#!/usr/bin/env python3
+"""Makes the files that authorities.c reads: those of tests/linked/deciding/files.py, by keys of their own, and beside
+them what a path needs:
+
+    ta.key       the anchor's public key, as a locator has it; router.key: another one, which is by no RSA
+    ta.crl       the anchor's revocation list, which has the serial number of ca-gone.cer
+    self.cer     the authority's own certificate, by itself; up.cer: one of the anchor's key, by the authority
+    twice.mft    a manifest that names two files alike; own.mft: one whose certificate has resources of its own
+    none         no octets
+
+usage: tests/linked/authorities/path.py FOLDER      Needs openssl."""
+import os
+import sys
+import tempfile
+
+sys.dont_write_bytecode = True
+HERE = os.path.dirname(os.path.abspath(__file__))
+sys.path[:0] = [os.path.join(HERE, "..", "deciding"), os.path.join(HERE, "..", "..", "python")]
+
+import files
+from files import FROM, HAS, UNTIL, Maker, bits, entry, lists, name, openssl, payloads, sequence, x509
+
+GONE = 75
+
+
+def public(key):
+    return openssl("pkey", "-in", key.path, "-pubout", "-outform", "DER")
+
+
+def of_the_path(make):
+    make.write("none", b"")
+    make.write("ta.key", public(make.top))
+    make.write("router.key", make.point)
+    own = lists.extensions([files.authority(make.top.identifier), lists.number()])
+    data = lists.fields(issuer=name("ta"), this=x509.time(FROM), next=x509.time(UNTIL),
+                        entries=sequence(entry(GONE)), extensions=own)
+    make.write("ta.crl", x509.signed(data, signature=bits(make.top.sign(data))))
+    make.issue("ca-gone.cer", "ca", serial=GONE, **HAS)
+    make.write("self.cer", make.certificate("ca", make.own, name("ca"), name("ca"), **HAS))
+    make.write("up.cer", make.certificate("ca", make.own, name("ca"), name("ta"), key=make.top, **HAS))
+    twice = payloads.manifest([payloads.file("a.roa", b"a"), payloads.file("a.roa", b"b")], until="20360101000000Z")
+    make.object("twice.mft", twice, ip=None, numbers=None)
+    make.object("own.mft", payloads.manifest([payloads.file("a.roa", b"a")], until="20360101000000Z"), **HAS)
+    make.object("both.roa", payloads.roa(64496, payloads.family(4, [("10.1.0.0/16",)])), **HAS)
+    make.object("both.asa", payloads.aspa(64496, [64499]), **HAS)
+
+
+def main():
+    if len(sys.argv) != 2:
+        sys.exit(__doc__)
+    os.makedirs(sys.argv[1], exist_ok=True)
+    with tempfile.TemporaryDirectory() as room:
+        make = Maker(sys.argv[1], room)
+        files.certificates(make)
+        files.revocation_lists(make)
+        files.signed_objects(make)
+        of_the_path(make)
+
+
+main()
