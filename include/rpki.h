@@ -782,6 +782,36 @@ rpki_status rpki_index(const uint8_t *octets, size_t size, struct rpki_entry *en
  */
 rpki_status rpki_fault(const uint8_t *octets, size_t size, size_t *at) RPKI_CHECKED;
 
+/*
+ * Takes the value at the front of a span, whatever its tag (X.690 8.1): its header, its contents, and all of it, the
+ * header included. What is inside of the contents is not looked at. RPKI_TRUNCATED, RPKI_BAD_TAG or RPKI_BAD_LENGTH,
+ * and nothing is written.
+ */
+rpki_status rpki_value(struct rpki_span *rest, struct rpki_header_parts *header, struct rpki_span *contents,
+                       struct rpki_span *whole) RPKI_CHECKED;
+
+/* Takes the BOOLEAN at the front of a span (X.690 8.2, 11.1): RPKI_TRUNCATED to RPKI_CONTENT, and nothing is written.
+ */
+rpki_status rpki_boolean(struct rpki_span *rest, bool *out) RPKI_CHECKED;
+
+/*
+ * Takes the INTEGER at the front of a span, which is not negative (X.690 8.3): the octets of its number, the most
+ * significant first, without zeros in front. RPKI_TRUNCATED to RPKI_CONTENT, and nothing is written.
+ */
+rpki_status rpki_unsigned(struct rpki_span *rest, struct rpki_span *out) RPKI_CHECKED;
+
+/*
+ * Takes the BIT STRING at the front of a span (X.690 8.6, 11.2): the octets of its bits, and how many of the last of
+ * them are unused, which are zeros. RPKI_TRUNCATED to RPKI_CONTENT, and nothing is written.
+ */
+rpki_status rpki_bit_string(struct rpki_span *rest, struct rpki_span *bits, uint8_t *unused) RPKI_CHECKED;
+
+/*
+ * Takes the OBJECT IDENTIFIER at the front of a span (X.690 8.19): its contents octets, which rpki_oid_text writes as
+ * text. RPKI_TRUNCATED to RPKI_CONTENT, and nothing is written.
+ */
+rpki_status rpki_object_identifier(struct rpki_span *rest, struct rpki_span *out) RPKI_CHECKED;
+
 /* ---- Values that are all of the octets ---- */
 
 /*
@@ -961,6 +991,14 @@ rpki_status rpki_certificate_checked(const uint8_t *octets, size_t size, uint8_t
  */
 rpki_status rpki_certificate_issued_by(const uint8_t *octets, size_t size, const uint8_t *issuer,
                                        size_t issuer_size) RPKI_CHECKED;
+
+/*
+ * Which profile a certificate says that it has, an RPKI_CERTIFICATE_ constant, which rpki_certificate_checked asks and
+ * this call does not: with basic constraints _TA where its issuer is its subject, octet for octet, and else _CA;
+ * without them _ROUTER where there are extended purposes, else _EE where there is access information of the subject,
+ * and else _DETACHED_EE. Takes no memory. The statuses are those of rpki_certificate_extensions.
+ */
+rpki_status rpki_certificate_kind(const uint8_t *octets, size_t size, uint8_t *kind) RPKI_CHECKED;
 
 /* ---- Where something is, as extensions of a certificate say ---- */
 
@@ -1262,12 +1300,12 @@ rpki_status rpki_as_block_text(const struct rpki_as_block *block, uint8_t *out, 
  *     rpki_authority_end(&with_list, certificate, .., _ROUTER, ..)
  *     rpki_authority_under(&with_list, certificate, .., &next)           an authority below it; then likewise
  *
- * Of a certificate that a manifest lists `is_ca` of rpki_known_extensions says whether it is that of an authority, and
- * else it is a router's. Which files there are says a manifest before it is valid: they are read by its names, its list
- * among them, and nothing that they say counts until rpki_authority_manifest and each rpki_manifest_file_is return
- * RPKI_OK. The URIs of the list, the issuer and the object that certificates have are not looked at. Of a certificate
- * that has both the extension of RFC 3779 and that of RFC 8360 for one kind of resources the small calls look at the
- * first: rpki_certificate_checked refuses it (RPKI_RULE_RESOURCE_VERSION). examples/validate does all this.
+ * Of a certificate that a manifest lists rpki_certificate_kind says whether it is that of an authority, _CA or _TA, or
+ * a router's. Which files there are says a manifest before it is valid: they are read by its names, its list among
+ * them, and nothing that they say counts until rpki_authority_manifest and each rpki_manifest_file_is return RPKI_OK.
+ * The URIs of the list, the issuer and the object that certificates have are not looked at. Of a certificate that has
+ * both the extension of RFC 3779 and that of RFC 8360 for one kind of resources the small calls look at the first:
+ * rpki_certificate_checked refuses it (RPKI_RULE_RESOURCE_VERSION). examples/validate does all this.
  */
 
 /*

@@ -1,5 +1,6 @@
 -- What a certificate has in it.
-use Rattle.std.proofs.Common.{ℕ, List, sym, subst, ◌≡◌, Bool, true, false, refl}
+use Rattle.std.proofs.Common.{ℕ, List, sym, subst, ◌≡◌, Bool, true, false, refl, Option, Some, None}
+use Rattle.std.specs.Prelude.{is_some}
 use Rattle.rpki_der.specs.Each.{SpellsEach}
 use Rattle.rpki_time.specs.TimeValue.{SpellsTime}
 use Rattle.rpki.specs.ExtensionValue.{SpellsExtension}
@@ -9,6 +10,9 @@ use Rattle.rpki_cert.specs.declared.read.view.CertView.{CertView}
 use Rattle.rpki_cert.specs.declared.profile.Profile.{Profile}
 use Rattle.rpki_cert.specs.declared.profile.CheckError.{CheckError}
 use Rattle.rpki_cert.specs.Profile.{IsCheckError}
+use Rattle.rpki_c.specs.declared.certificate_extensions.KnownExtension.{KnownExtension}
+use Rattle.rpki.specs.ExtensionValue.{ExtensionParts}
+use Rattle.rpki_c.specs.Certificate.{IsKnownAs}
 use Rattle.rpki_c.specs.CertificateProfile.{check_number, IsRefusedAs}
 use Rattle.rpki_c.specs.CertificateProfile.IsRefusedAs.{WrongExtension, BrokenRule}
 use Rattle.rpki_der.specs.declared.error.DecodeError.TheVariants.{OutOfMemory}
@@ -51,6 +55,11 @@ refused-as x spelled (CheckError.Extension part) h is = WrongExtension part x is
 refused-as x spelled (CheckError.Rule rule) h is =
     BrokenRule rule x h.0.0 is spelled h.0.1
     (record { cert = x; spelled = spelled; first = h.1; other = h.2 })
+
+-- whether an extension is there
+pub there-of : (found : Option ExtensionParts) (p : KnownExtension) → IsKnownAs found p → p.is_there ≡ is_some found
+there-of None p h = h.0
+there-of (Some x) p h = h.0
 
 -- ---- Access descriptions take no memory
 

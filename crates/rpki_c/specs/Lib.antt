@@ -14,6 +14,7 @@ pub mod Signed
 pub mod Extension
 pub mod Certificate
 pub mod CertificateProfile
+pub mod CertificateKind
 pub mod Made
 pub mod Filled
 pub mod Resources
@@ -36,3 +37,4 @@ pub mod Below
 pub mod Owned
 pub mod Authority
 pub mod AuthorityObject
+pub mod FrontValues

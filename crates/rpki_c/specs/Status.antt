@@ -142,3 +142,7 @@ revoked = 62
 -- an authority has the key of one that is on its path already
 abbrev pub on_path : ℕ
 on_path = 63
+
+-- the octets end before the value does: the number of DecodeError.Truncated
+abbrev pub truncated : ℕ
+truncated = 1

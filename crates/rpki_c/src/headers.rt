@@ -35,7 +35,7 @@ pub(crate) fn class_number(class: Class) -> u8
 }
 
 /// The parts of a header of so many octets.
-fn parts_of(header: Header, size: usize) -> HeaderParts
+pub(crate) fn parts_of(header: Header, size: usize) -> HeaderParts
     ensures parts { AreParts header result }
     ensures size { result.size ≡ size }
 {

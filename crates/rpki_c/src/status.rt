@@ -128,3 +128,6 @@ pub(crate) const REVOKED: u8 = 62;
 
 /// An authority has the key of one that is on its path already.
 pub(crate) const ON_PATH: u8 = 63;
+
+/// The octets end before the value does: the number of `DecodeError::Truncated`.
+pub(crate) const TRUNCATED: u8 = 1;

@@ -307,6 +307,31 @@ static void judge_trimmed(void) {
               !trimmed.as_blocks[0].is_inherited);
 }
 
+/* What certificates say that they are, that of ee.roa among them. */
+static void judge_kinds(void) {
+    static const struct {
+        const char *file;
+        rpki_status status;
+        uint8_t kind;
+    } kinds[] = {
+        {"ta.cer", RPKI_OK, RPKI_CERTIFICATE_TA},         {"self.cer", RPKI_OK, RPKI_CERTIFICATE_TA},
+        {"ca.cer", RPKI_OK, RPKI_CERTIFICATE_CA},         {"up.cer", RPKI_OK, RPKI_CERTIFICATE_CA},
+        {"router.cer", RPKI_OK, RPKI_CERTIFICATE_ROUTER}, {"detached.cer", RPKI_OK, RPKI_CERTIFICATE_DETACHED_EE},
+        {"ee.roa", RPKI_OK, RPKI_CERTIFICATE_EE},         {"none", RPKI_PART_CERTIFICATE, FILL},
+    };
+    for (size_t at = 0; at < sizeof kinds / sizeof *kinds; at++) {
+        struct octets octets = file_of(kinds[at].file);
+        struct rpki_span cert = {octets.at, octets.size};
+        struct rpki_signed_object_parts cms = {0};
+        uint8_t kind = FILL;
+        if (rpki_signed_object(octets.at, octets.size, false, &cms) == RPKI_OK) cert = cms.certificate;
+        count_allocations(0);
+        judge_status(0, kinds[at].file, rpki_certificate_kind(cert.data, cert.size, &kind), kinds[at].status);
+        judge(0, "the kind", took_none() && kind == kinds[at].kind);
+        free(octets.at);
+    }
+}
+
 int main(int count, char **words) {
     static const uint8_t garbled[] = {0x30, 0x05, 0x02};
     static struct rpki_as_block inherited = {0, 0, true};
@@ -327,5 +352,6 @@ int main(int count, char **words) {
     authorities[INHERITED].as_count = 1;
     for (unsigned number = 0; number < sizeof rows / sizeof *rows; number++) judge_row(number + 1, &rows[number]);
     judge_trimmed();
+    judge_kinds();
     return verdict();
 }

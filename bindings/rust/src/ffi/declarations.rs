@@ -578,6 +578,16 @@ extern "C" {
         count: *mut usize,
     ) -> Status;
     pub(super) fn rpki_fault(octets: *const u8, size: usize, at: *mut usize) -> Status;
+    pub(super) fn rpki_value(
+        rest: *mut Span,
+        header: *mut HeaderParts,
+        contents: *mut Span,
+        whole: *mut Span,
+    ) -> Status;
+    pub(super) fn rpki_boolean(rest: *mut Span, out: *mut bool) -> Status;
+    pub(super) fn rpki_unsigned(rest: *mut Span, out: *mut Span) -> Status;
+    pub(super) fn rpki_bit_string(rest: *mut Span, bits: *mut Span, unused: *mut u8) -> Status;
+    pub(super) fn rpki_object_identifier(rest: *mut Span, out: *mut Span) -> Status;
     pub(super) fn rpki_signed_data(octets: *const u8, size: usize, out: *mut SignedParts) -> Status;
     pub(super) fn rpki_public_key(octets: *const u8, size: usize, out: *mut KeyParts) -> Status;
     pub(super) fn rpki_key_identifier(octets: *const u8, size: usize, out: *mut [u8; 20]) -> Status;
@@ -619,6 +629,7 @@ extern "C" {
         issuer: *const u8,
         issuer_size: usize,
     ) -> Status;
+    pub(super) fn rpki_certificate_kind(octets: *const u8, size: usize, kind: *mut u8) -> Status;
     pub(super) fn rpki_access_description(rest: *mut Span, out: *mut AccessParts) -> Status;
     pub(super) fn rpki_general_name(rest: *mut Span, out: *mut GeneralNameParts) -> Status;
     pub(super) fn rpki_distribution_point(octets: *const u8, size: usize, out: *mut Span) -> Status;

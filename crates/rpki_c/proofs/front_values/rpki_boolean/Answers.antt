@@ -1,0 +1,19 @@
+use Rattle.std.proofs.Common.{false, inr, refl}
+use Rattle.rpki_der.specs.declared.error.DecodeError.TheVariants.{OutOfMemory}
+use Rattle.rpki_der.specs.Format.{leaf}
+use Rattle.rpki_der.specs.Leaves.{IsBoolean}
+use Rattle.rpki_der.specs.TagName.{boolean}
+use Rattle.rpki_der.proofs.LeavesLaws.{leaf-no-memory}
+use Rattle.rpki_c.proofs.StatusLaws.{front-refused}
+use Rattle.rpki_c.proofs.front_values.rpki_boolean.Goals as goal
+
+pub returns-in-Err : goal.returns-in-Err
+returns-in-Err c =
+    let h = rw c.from_slice-cursor.ensures at c.in-Err.ensures in
+    let s = c.args.rest.now.octets.now in
+    inr (
+      front-refused (leaf boolean IsBoolean) (λ k. leaf-no-memory boolean false IsBoolean s OutOfMemory k refl) h
+          c.number.ensures,
+      refl,
+      refl,
+    )
