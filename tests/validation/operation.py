@@ -62,6 +62,22 @@ def locators(program, maker):
         status, output, faults = run(program.path, *words)
         holds(f"locators: {name}", (status, output.split("\n")) == (0, wanted), (status, output[:200], faults))
         holds(f"locators: {name}: told once", faults.count("rpkivalid: example: ") == 1, faults)
+    shelf, bare = (os.path.join(maker.room, name) for name in ("tals", "bare"))
+    for path in shelf, bare:
+        os.mkdir(path)
+        for name in "README", "a.tal.old", ".hidden.tal":
+            shutil.copyfile(first, os.path.join(path, name))
+    for name in "example.tal", "again.tal":
+        shutil.copyfile(first, os.path.join(shelf, name))
+    mixed = [TITLES, *(line.replace("example", "again") for line in lines), *lines, ""]
+    for name, words in (("a folder", ["--tal", shelf, *rest]), ("a folder with a slash", [*rest, "--tal", shelf + "/"]),
+                        ("a folder twice", ["--tal", shelf, *rest, "--tal", shelf]),
+                        ("one of its files before it", ["--tal", os.path.join(shelf, "again.tal"), shelf, *rest])):
+        status, output, faults = run(program.path, *words)
+        holds(f"locators: {name}", (status, output.split("\n")) == (0, mixed), (status, output[:200], faults))
+    status, output, faults = run(program.path, "--tal", bare, first, *rest)
+    holds("locators: a folder without one", (status, output, faults) == (
+        2, "", f"rpkivalid: {bare}: not read: a folder\nrpkivalid: {bare}: cannot be read\n"), (status, faults))
     status, output, faults = run(program.path, "--tal", first, same, *rest)
     holds("two locators of one name", (status, output, faults) == (
         2, "", f"rpkivalid: {same}: another locator has its name\n"), (status, faults))

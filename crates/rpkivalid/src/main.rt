@@ -36,14 +36,25 @@ use crate::arguments::words_of;
 use crate::host::HostSources;
 use crate::program::{give_up, run_to, say};
 use rpki_cli::host::Host;
+use rpki_cli::spread::spread;
+use std::alloc::AllocError;
 use std::env;
 use std::process::ExitCode;
+
+/// Runs what the words ask for, with the locators in a folder in place of the folder, and returns the exit status.
+///
+/// Returns `AllocError` if there is no memory for the words, or to look at the copy.
+fn run_on(rt: &HostRuntime, machine: &mut Host<'_>, words: &[String]) -> Result<u8, AllocError> {
+    let words = spread(rt.alloc(), machine, ".tal", "--tal", words)?;
+    let sources = HostSources::new(rt, words.as_slice())?;
+    Ok(run_to(rt.alloc(), words.as_slice(), &sources, machine))
+}
 
 fn main(rt: HostRuntime) -> ExitCode {
     let mut machine = Host::new(&rt);
     let status = match words_of(rt.alloc(), env::args(&rt)) {
-        Ok(words) => match HostSources::new(&rt, words.as_slice()) {
-            Ok(sources) => run_to(rt.alloc(), words.as_slice(), &sources, &mut machine),
+        Ok(words) => match run_on(&rt, &mut machine, words.as_slice()) {
+            Ok(status) => status,
             Err(_) => give_up(&mut machine),
         },
         Err(wordless) => say(wordless, &mut machine),

@@ -62,7 +62,7 @@ rejected, and why, is told on standard error, an object a line, and how many
 payloads there are.
 
   --tal FILE..    the locators of trust anchors, each of the name of its file, which
-                  counts once; may be given again
+                  counts once; of a folder all *.tal in it; may be given again
   --cache FOLDER  the copy: an object at rsync://HOST/PATH is FOLDER/HOST/PATH, as
                   rsync and rpki-client leave it; a trust anchor that isn't there,
                   or has an https URI, is FOLDER/ta/NAME/FILE
