@@ -1,6 +1,6 @@
 //! Revocation lists, contents and signed objects.
 
-use crate::signing::refusal;
+use crate::signing::{Told, refusal, signing_refusal};
 use crate::words::{
     Text, bytes_of, digits, key_of, name_of, octets_of, serial_of, time_of, written,
 };
@@ -82,9 +82,10 @@ pub fn list(alloc: Global, words: &[&str]) -> Text {
         return digits(alloc, unsigned.message());
     }
     let signature = bytes_of(alloc, Some(signature))?;
-    match unsigned.signed(alloc, &RsaProvider, &issuer, signature) {
+    let mut signer = Told { signature };
+    match unsigned.signed_with(alloc, &RsaProvider, &issuer, &mut signer) {
         Ok(made) => digits(alloc, made.as_slice()),
-        Err(e) => Err(refusal(e)),
+        Err(e) => Err(signing_refusal(e)),
     }
 }
 

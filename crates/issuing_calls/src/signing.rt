@@ -1,7 +1,25 @@
-//! Why nothing is issued, as a word.
+//! A signer that was told the signature, and why nothing is issued, as a word.
 
+use bytes::Bytes;
 use rpki_cert::CertRule;
-use rpki_issue::IssueError;
+use rpki_issue::{IssueError, Signer, SigningError};
+
+/// Returns a signature that someone else made, of whatever.
+#[derive(Drop)]
+pub struct Told {
+    pub signature: Bytes,
+}
+
+impl Signer for Told {
+    type Error = &'static str;
+
+    fn sign(&mut self, _message: &[u8]) -> Result<Bytes, &'static str> {
+        match self.signature.clone() {
+            Ok(signature) => Ok(signature),
+            Err(_) => Err("OutOfMemory"),
+        }
+    }
+}
 
 /// The name of a rule.
 fn rule_name(rule: CertRule) -> &'static str {
@@ -58,5 +76,13 @@ pub fn refusal(error: IssueError) -> &'static str {
         IssueError::Certificate => "Certificate",
         IssueError::BadSignature => "BadSignature",
         IssueError::OutOfMemory => "OutOfMemory",
+    }
+}
+
+/// The same of both steps at once; the signer's own error as it is.
+pub fn signing_refusal(error: SigningError<&'static str>) -> &'static str {
+    match error {
+        SigningError::Signer(text) => text,
+        SigningError::Refused(error) => refusal(error),
     }
 }

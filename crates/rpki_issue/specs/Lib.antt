@@ -10,5 +10,6 @@ pub mod Written
 pub mod Signing
 pub mod SignedList
 pub mod SignedObjects
+pub mod Signers
 -- Lemmas that an impl cites.
 pub mod TagLaws

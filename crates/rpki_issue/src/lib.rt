@@ -1,8 +1,8 @@
 //! What an authority of the RPKI issues (RFC 6487 4, 5, RFC 6488). Of certificates there are encoders of the contents
 //! of each extension, and of what is signed around any list of extensions. A certificate, a revocation list or a signed
 //! object is issued in two steps: [TbsCertBuilder::to_sign], [UnsignedCrl::new] and [UnsignedObject::new] are what is
-//! signed, and `signed` takes a signature, from whoever made it, and verifies it. [laws] says that what is issued has
-//! its profile.
+//! signed, and `signed` takes a signature, from whoever made it, and verifies it; `signed_with` asks a [Signer] for it.
+//! [laws] says that what is issued has its profile.
 #![tactic(auto)]
 
 mod capture;
@@ -14,6 +14,7 @@ mod kind;
 pub mod laws;
 mod listed;
 mod row;
+mod signer;
 mod signing;
 mod tbs;
 mod unsigned_cert;
@@ -31,6 +32,7 @@ pub use contents::{
 pub use error::IssueError;
 pub use frame::ContextThreeFrame;
 pub use kind::{CertExtensions, CertKind, Issuance, Repository};
+pub use signer::{Signer, SigningError};
 pub use tbs::{TbsCertBuilder, TbsCertEncoder};
 pub use unsigned_cert::UnsignedCert;
 pub use unsigned_crl::UnsignedCrl;
