@@ -69,6 +69,7 @@ fn rule_name(rule: CertRule) -> &'static str {
 pub fn refusal(error: IssueError) -> &'static str {
     match error {
         IssueError::Uri => "Uri",
+        IssueError::Period => "Period",
         IssueError::Resources => "Resources",
         IssueError::TooLong => "TooLong",
         IssueError::Rule(rule) => rule_name(rule),

@@ -8,9 +8,11 @@ use Rattle.rpki_crl.specs.Crl.{entry_of, entries_in, ListParts, crl, crl_parts}
 use Rattle.rpki_crl.specs.EncodedCrl.{IsEntry, revoked_octets, list_octets, normal_list, IsShortList, IsListReadBack}
 use Rattle.rpki_crl.proofs.ListReadLaws.{revoked-short, behind-read, behind-short, list-read, crl-read}
 use Rattle.rpki_issue.specs.declared.error.IssueError.{IssueError}
+use Rattle.rpki_issue.specs.declared.error.IssueError.TheVariants.{Uri, Period, Resources, TooLong, Rule, BadSignature}
+use Rattle.rpki_issue.specs.declared.error.IssueError.TheVariants.{ContentType, Certificate, OutOfMemory}
 use Rattle.rpki_issue.specs.Signing.{signed_parts, signed_whole, IsShortWhole, AreSigned}
 use Rattle.rpki_issue.specs.Written.{IsKeyedRefusal}
-use Rattle.rpki_issue.specs.SignedList.{ListToSign, AreListKnown, IsListRefused, IsIssuedList}
+use Rattle.rpki_issue.specs.SignedList.{ListToSign, AreListKnown, IsListRefused, IsListPlanRefused, IsIssuedList}
 use Rattle.rpki_issue.proofs.WrittenTbsLaws.{weaker}
 
 -- its number and its date are those of types
@@ -48,3 +50,14 @@ pub revoked-refused : (x : ListParts) (w : IssueError) → IsKeyedRefusal (lengt
 revoked-refused x w h =
     weaker (length (revoked_octets x.revoked) < 2 ^ 32) (IsShortList x) w
     (λ short. revoked-short x (behind-short x short)) h
+
+pub plan-refused : (x : ListParts) (w : IssueError) → IsListRefused x w → IsListPlanRefused x w
+plan-refused x Uri h = h
+plan-refused x Period h = absurd h
+plan-refused x Resources h = h
+plan-refused x TooLong h = h
+plan-refused x (Rule r) h = h
+plan-refused x ContentType h = h
+plan-refused x Certificate h = h
+plan-refused x BadSignature h = h
+plan-refused x OutOfMemory h = h

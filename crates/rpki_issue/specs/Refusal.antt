@@ -6,7 +6,7 @@ use Rattle.rpki_resources.specs.declared.resources.IpResources.{IpResources}
 use Rattle.rpki_resources.specs.declared.resources.AsResources.{AsResources}
 use Rattle.rpki_resources.specs.EncodedResources.{CanWriteIp, CanWriteAs}
 use Rattle.rpki_issue.specs.declared.error.IssueError.{IssueError}
-use Rattle.rpki_issue.specs.declared.error.IssueError.TheVariants.{Uri, Resources, TooLong, Rule, BadSignature}
+use Rattle.rpki_issue.specs.declared.error.IssueError.TheVariants.{Uri, Period, Resources, TooLong, Rule, BadSignature}
 use Rattle.rpki_issue.specs.declared.error.IssueError.TheVariants.{ContentType, Certificate, OutOfMemory}
 use Rattle.rpki_issue.specs.declared.kind.CertExtensions.{CertExtensions}
 use Rattle.rpki_issue.specs.Extensions.{extensions_of, extensions_listed, CanHoldIp, CanHoldAs, CanHold}
@@ -15,6 +15,7 @@ use Rattle.rpki_issue.specs.Issuing.{AreKeys}
 -- what a person reads
 abbrev pub issue_text : IssueError → List ℕ
 issue_text Uri = codes "URI of 3,080 octets or more"
+issue_text Period = codes "period that ends before it begins"
 issue_text Resources = codes "resources that no extension says"
 issue_text TooLong = codes "more octets than a length announces"
 issue_text (Rule r) = codes "rule of the profile broken"
@@ -37,6 +38,7 @@ pub record AreListed (e : CertExtensions) (octets : List ℕ) : Type 0 where
 
 abbrev pub IsHeldRefusal : Type 0 → Type 0 → IssueError → Type 0
 IsHeldRefusal legal held Uri = ⊥
+IsHeldRefusal legal held Period = ⊥
 IsHeldRefusal legal held Resources = legal → ⊥
 IsHeldRefusal legal held TooLong = held → ⊥
 IsHeldRefusal legal held (Rule r) = ⊥

@@ -1,5 +1,6 @@
 -- Revocation lists that are to be signed, and that are signed (RFC 5280 5.1, RFC 6487 5).
-use Rattle.std.specs.Prelude.{◌≡◌, ℕ, true, List, ◌++◌}
+use Rattle.std.specs.Prelude.{◌≡◌, ◌≤ℤ◌, ℕ, true, List, ◌++◌}
+use Rattle.jiff.specs.Words.{civil_nanos}
 use Rattle.rpki_time.specs.Time.{IsTimeYear}
 use Rattle.rpki_time.specs.TimeValue.{time_octets}
 use Rattle.rpki.specs.Oids.{sha256_with_rsa_encryption}
@@ -11,6 +12,8 @@ use Rattle.rpki_crl.specs.Crl.{ListParts, extensions, crl, crl_parts}
 use Rattle.rpki_crl.specs.EncodedCrl.{version_2, AreEntries, extensions_octets, list_octets, normal_list, IsShortList}
 use Rattle.rpki_crl.specs.EncodedCrl.{IsListReadBack}
 use Rattle.rpki_issue.specs.declared.error.IssueError.{IssueError}
+use Rattle.rpki_issue.specs.declared.error.IssueError.TheVariants.{Uri, Period, Resources, TooLong, Rule, BadSignature}
+use Rattle.rpki_issue.specs.declared.error.IssueError.TheVariants.{ContentType, Certificate, OutOfMemory}
 use Rattle.rpki_issue.specs.Signing.{signed_parts, AreSigned}
 use Rattle.rpki_issue.specs.Written.{IsKeyedRefusal}
 
@@ -19,10 +22,15 @@ pub record ListToSign : Type 0 where
   pub octets : List ℕ
   pub list : ListParts
 
+-- the next one is not issued before it
+abbrev pub IsListOrdered : ListParts → Type 0
+IsListOrdered x = civil_nanos x.this_update ≤ℤ civil_nanos x.next_update
+
 -- of this list: the octets are those that are written of it, and are read as its normal form
 pub record IsListToSign (x : ListParts) (made : ListToSign) : Type 0 where
   pub octets : made.octets ≡ list_octets x
   pub list : made.list ≡ x
+  pub ordered : IsListOrdered x
   pub read_back : IsListReadBack x
 
 -- ---- its parts
@@ -51,6 +59,18 @@ pub record AreListKnown (x : ListParts) : Type 0 where
 -- no length announces it
 abbrev pub IsListRefused : ListParts → IssueError → Type 0
 IsListRefused x = IsKeyedRefusal (IsShortList x)
+
+-- the same, or the next one is issued before it
+abbrev pub IsListPlanRefused : ListParts → IssueError → Type 0
+IsListPlanRefused x Uri = ⊥
+IsListPlanRefused x Period = IsListOrdered x → ⊥
+IsListPlanRefused x Resources = ⊥
+IsListPlanRefused x TooLong = IsShortList x → ⊥
+IsListPlanRefused x (Rule r) = ⊥
+IsListPlanRefused x ContentType = ⊥
+IsListPlanRefused x Certificate = ⊥
+IsListPlanRefused x BadSignature = ⊥
+IsListPlanRefused x OutOfMemory = Unit {0}
 
 -- the list of this signature, as it is written, is read as the normal form of the list that was to be signed
 pub record IsIssuedList (rsa ecdsa : Check) (key : KeyParts) (made : ListToSign) (value whole : List ℕ) : Type 0 where

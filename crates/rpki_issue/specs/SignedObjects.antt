@@ -8,7 +8,7 @@ use Rattle.rpki_cert.specs.Cert.{CertParts, SpellsCert}
 use Rattle.rpki_objects.specs.SignedObject.{signed_object, object_fields_of}
 use Rattle.rpki_objects.specs.EncodedObject.{BuiltObject, object_octets, CanWriteObject, normal_object}
 use Rattle.rpki_issue.specs.declared.error.IssueError.{IssueError}
-use Rattle.rpki_issue.specs.declared.error.IssueError.TheVariants.{Uri, Resources, TooLong, Rule, BadSignature}
+use Rattle.rpki_issue.specs.declared.error.IssueError.TheVariants.{Uri, Period, Resources, TooLong, Rule, BadSignature}
 use Rattle.rpki_issue.specs.declared.error.IssueError.TheVariants.{ContentType, Certificate, OutOfMemory}
 use Rattle.rpki_issue.specs.Signing.{IsSignatureBy}
 
@@ -44,6 +44,7 @@ pub record IsObjectToSign (v : AttributeValues) (content : List ℕ) (made : Obj
 -- the type is no object identifier
 abbrev pub IsTypeRefused : List ℕ → IssueError → Type 0
 IsTypeRefused id Uri = ⊥
+IsTypeRefused id Period = ⊥
 IsTypeRefused id Resources = ⊥
 IsTypeRefused id TooLong = ⊥
 IsTypeRefused id (Rule r) = ⊥
@@ -77,6 +78,7 @@ pub record IsIssuedObject (rsa ecdsa : Check) (sha1 : List ℕ → List ℕ) (ma
 -- they aren't: the certificate is none, the signature is not by its key, or the object can't be written
 abbrev pub IsObjectRefused : Check → Check → (List ℕ → List ℕ) → ObjectToSign → List ℕ → List ℕ → IssueError → Type 0
 IsObjectRefused rsa ecdsa sha1 made certificate value Uri = ⊥
+IsObjectRefused rsa ecdsa sha1 made certificate value Period = ⊥
 IsObjectRefused rsa ecdsa sha1 made certificate value Resources = ⊥
 IsObjectRefused rsa ecdsa sha1 made certificate value TooLong =
     (x : CertParts) → SpellsCert x certificate → CanWriteObject (built sha1 made certificate x value) → ⊥
@@ -90,6 +92,7 @@ IsObjectRefused rsa ecdsa sha1 made certificate value OutOfMemory = Unit {0}
 -- octets are no certificate
 abbrev pub IsCertRefused : List ℕ → IssueError → Type 0
 IsCertRefused octets Uri = ⊥
+IsCertRefused octets Period = ⊥
 IsCertRefused octets Resources = ⊥
 IsCertRefused octets TooLong = ⊥
 IsCertRefused octets (Rule r) = ⊥
@@ -106,6 +109,7 @@ pub record IsOnlyCert (octets : List ℕ) (cert : CertParts) : Type 0 where
 -- no such object can be written
 abbrev pub IsBuildRefused : BuiltObject → IssueError → Type 0
 IsBuildRefused x Uri = ⊥
+IsBuildRefused x Period = ⊥
 IsBuildRefused x Resources = ⊥
 IsBuildRefused x TooLong = CanWriteObject x → ⊥
 IsBuildRefused x (Rule r) = ⊥

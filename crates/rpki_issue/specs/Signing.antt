@@ -12,7 +12,7 @@ use Rattle.rpki_cert.specs.declared.profile.Profile.{Profile}
 use Rattle.rpki_cert.specs.Profile.{HasProfile, rules_of}
 use Rattle.rpki_cert.specs.Rule.{IsFirstBroken}
 use Rattle.rpki_issue.specs.declared.error.IssueError.{IssueError}
-use Rattle.rpki_issue.specs.declared.error.IssueError.TheVariants.{Uri, Resources, TooLong, Rule, BadSignature}
+use Rattle.rpki_issue.specs.declared.error.IssueError.TheVariants.{Uri, Period, Resources, TooLong, Rule, BadSignature}
 use Rattle.rpki_issue.specs.declared.error.IssueError.TheVariants.{ContentType, Certificate, OutOfMemory}
 use Rattle.rpki_issue.specs.declared.kind.CertExtensions.{CertExtensions}
 use Rattle.rpki_issue.specs.Extensions.{extensions_of, extensions_listed, profile_of, AreUris, CanHold}
@@ -51,6 +51,7 @@ pub record AreSigned (rsa ecdsa : Check) (key : KeyParts) (octets value whole : 
 -- they aren't: the signature is another's, or no length announces all
 abbrev pub IsSigningRefusal : Check → Check → KeyParts → List ℕ → List ℕ → IssueError → Type 0
 IsSigningRefusal rsa ecdsa key octets value Uri = ⊥
+IsSigningRefusal rsa ecdsa key octets value Period = ⊥
 IsSigningRefusal rsa ecdsa key octets value Resources = ⊥
 IsSigningRefusal rsa ecdsa key octets value TooLong = IsShortWhole octets value → ⊥
 IsSigningRefusal rsa ecdsa key octets value (Rule r) = ⊥
@@ -76,6 +77,7 @@ pub record IsToSign (x : Issued) (e : CertExtensions) (made : ToSign) : Type 0 w
 -- it breaks this rule first
 abbrev pub IsProfileRefusal : Profile → TbsParts → IssueError → Type 0
 IsProfileRefusal profile t Uri = ⊥
+IsProfileRefusal profile t Period = ⊥
 IsProfileRefusal profile t Resources = ⊥
 IsProfileRefusal profile t TooLong = ⊥
 IsProfileRefusal profile t (Rule r) =
@@ -95,6 +97,7 @@ pub record IsReadAs (profile : Profile) (octets : List ℕ) (made : ToSign) (t :
 -- or a rule of the profile that is broken first
 abbrev pub IsPlanRefusal : Issued → CertExtensions → IssueError → Type 0
 IsPlanRefusal x e Uri = AreUris e → ⊥
+IsPlanRefusal x e Period = ⊥
 IsPlanRefusal x e Resources = CanWrite e → ⊥
 IsPlanRefusal x e TooLong = CanHold e → IsShortTbs x (extensions_listed (extensions_of e)) → ⊥
 IsPlanRefusal x e (Rule r) = IsProfileRefusal (profile_of e.kind) (normal_tbs x (extensions_of e)) (Rule r)

@@ -10,7 +10,7 @@ use Rattle.rpki.specs.PublicKey.{key_octets, SpellsKey}
 use Rattle.rpki.specs.ExtensionValue.{ExtensionParts}
 use Rattle.rpki_cert.specs.Cert.{SpellsTbs, AreExtensions}
 use Rattle.rpki_issue.specs.declared.error.IssueError.{IssueError}
-use Rattle.rpki_issue.specs.declared.error.IssueError.TheVariants.{Uri, Resources, TooLong, Rule, BadSignature}
+use Rattle.rpki_issue.specs.declared.error.IssueError.TheVariants.{Uri, Period, Resources, TooLong, Rule, BadSignature}
 use Rattle.rpki_issue.specs.declared.error.IssueError.TheVariants.{ContentType, Certificate, OutOfMemory}
 use Rattle.rpki_issue.specs.Tbs.{Issued, version_octets, tbs_octets, IsShortTbs, normal_tbs}
 
@@ -42,6 +42,7 @@ IsRead x e = (xs : List ExtensionParts) → AreExtensions xs e → SpellsTbs (no
 -- more octets than a length announces, where what is short is this
 abbrev pub IsKeyedRefusal : Type 0 → IssueError → Type 0
 IsKeyedRefusal short Uri = ⊥
+IsKeyedRefusal short Period = ⊥
 IsKeyedRefusal short Resources = ⊥
 IsKeyedRefusal short TooLong = short → ⊥
 IsKeyedRefusal short (Rule r) = ⊥

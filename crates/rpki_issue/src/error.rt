@@ -12,6 +12,8 @@ use std::fmt;
 pub enum IssueError {
     /// A URI has 3,080 octets or more, so that no reader accepts it (RFC 5781 2).
     Uri,
+    /// The next list is to be issued before this one is (RFC 5280 5.1.2.5).
+    Period,
     /// No extension says these resources: there are none of a kind, a kind without a block, or a number that is none of
     /// the kind (RFC 3779 2.2.3, 3.2.3).
     Resources,
@@ -39,6 +41,7 @@ impl fmt::Display for IssueError {
     fn fmt<W: fmt::Write>(&self, f: &mut fmt::Formatter<W>) -> fmt::Result {
         match self {
             IssueError::Uri => f.write_str("URI of 3,080 octets or more"),
+            IssueError::Period => f.write_str("period that ends before it begins"),
             IssueError::Resources => f.write_str("resources that no extension says"),
             IssueError::TooLong => f.write_str("more octets than a length announces"),
             IssueError::Rule(_) => f.write_str("rule of the profile broken"),

@@ -1,9 +1,9 @@
 //! A revocation list in two steps: what is to be signed, and then its signature (RFC 5280 5.1, RFC 6487 5).
 
-ghost use Rattle.std.specs.Prelude.{◌≡◌, IfOk, IfErr};
+ghost use Rattle.std.specs.Prelude.{◌≡◌, ◌↔◌, IsTrue, IfOk, IfErr};
 ghost use Rattle.rpki_crl.specs.Crl.{list_of};
 ghost use Rattle.rpki_issue.specs.Signing.{IsSigningRefusal};
-ghost use Rattle.rpki_issue.specs.SignedList.{IsListToSign, IsListRefused, IsIssuedList};
+ghost use Rattle.rpki_issue.specs.SignedList.{IsListOrdered, IsListToSign, IsListPlanRefused, IsIssuedList};
 
 use crate::crl_written::write_list;
 use crate::error::IssueError;
@@ -35,15 +35,26 @@ impl Model for UnsignedCrl {
     ghost invariant = { λ x. (x.octets ≡ list_octets (list_of x.list)) × IsListReadBack (list_of x.list) };
 }
 
+/// Whether the next list is issued no earlier than this one.
+fn is_ordered(list: &TbsCertList) -> bool
+    ensures { IsTrue result ↔ IsListOrdered (list_of list.now) }
+{
+    list.this_update <= list.next_update
+}
+
 impl UnsignedCrl {
     /// What is to be signed of the list: the first of two steps. It is read as the list, with parameters of the
     /// algorithm and without parts of a second.
     ///
-    /// The errors are `TooLong` for 2^32 octets or more, and `OutOfMemory` if allocation fails.
+    /// The errors are `Period` if the next list is to be issued before this one, `TooLong` for 2^32 octets or more, and
+    /// `OutOfMemory` if allocation fails.
     pub fn new(alloc: Global, list: TbsCertList) -> Result<UnsignedCrl, IssueError>
         ensures ok { IfOk result (λ u. IsListToSign (list_of list) u) }
-        ensures err { IfErr result (λ e. IsListRefused (list_of list) e) }
+        ensures err { IfErr result (λ e. IsListPlanRefused (list_of list) e) }
     {
+        if !is_ordered(&list) {
+            return Err(IssueError::Period);
+        }
         match write_list(alloc, &list) {
             Ok(octets) => Ok(UnsignedCrl { octets, list }),
             Err(e) => Err(e),
