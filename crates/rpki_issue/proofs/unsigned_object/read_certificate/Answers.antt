@@ -1,4 +1,4 @@
-use Rattle.std.proofs.Common.{◌≡◌, ◌∙◌}
+use Rattle.std.proofs.Common.{◌∙◌}
 use Rattle.rpki_issue.proofs.ObjectLaws.{only-cert, no-cert}
 use Rattle.rpki_issue.proofs.unsigned_object.read_certificate.Goals as goal
 

@@ -1,9 +1,8 @@
-use Rattle.std.proofs.Common.{◌≡◌, List, ℕ, sym, subst, ap, ◌∙◌, refl}
-use Rattle.rpki.specs.Signature.{SignatureParts}
+use Rattle.std.proofs.Common.{sym, subst, ap, ◌∙◌, refl}
 use Rattle.rpki.specs.PublicKey.{KeyParts}
 use Rattle.rpki_attributes.specs.SignedAttributes.{AttributeValues, values_known}
 use Rattle.rpki_cert.specs.Cert.{TbsParts}
-use Rattle.rpki_issue.specs.SignedObjects.{ObjectToSign, AreTimed, built}
+use Rattle.rpki_issue.specs.SignedObjects.{ObjectToSign, AreTimed}
 use Rattle.rpki_issue.proofs.ObjectLaws.{moved, built-same, signature-refused, object-issued, build-refused}
 use Rattle.rpki_issue.proofs.unsigned_object.UnsignedObject.signed.Goals as goal
 
