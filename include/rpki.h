@@ -1300,11 +1300,12 @@ rpki_status rpki_as_block_text(const struct rpki_as_block *block, uint8_t *out, 
  *     rpki_authority_end(&with_list, certificate, .., _ROUTER, ..)
  *     rpki_authority_under(&with_list, certificate, .., &next)           an authority below it; then likewise
  *
- * Of a certificate that a manifest lists rpki_certificate_kind says whether it is that of an authority, _CA or _TA, or
- * a router's. Which files there are says a manifest before it is valid: they are read by its names, its list among
- * them, and nothing that they say counts until rpki_authority_manifest and each rpki_manifest_file_is return RPKI_OK.
- * The URIs of the list, the issuer and the object that certificates have are not looked at. Of a certificate that has
- * both the extension of RFC 3779 and that of RFC 8360 for one kind of resources the small calls look at the first:
+ * Each path ends, but many may lead to one authority: visit it once, by its key, keys[depth]. A manifest has one list
+ * alone. Of a certificate that it lists rpki_certificate_kind says whether it is that of an authority, _CA or _TA, or a
+ * router's. Which files there are says a manifest before it is valid: they are read by its names, its list among them,
+ * and nothing that they say counts until rpki_authority_manifest and each rpki_manifest_file_is return RPKI_OK. The
+ * URIs of the list, the issuer and the object that certificates have are not looked at. Of a certificate that has both
+ * the extension of RFC 3779 and that of RFC 8360 for one kind of resources the small calls look at the first:
  * rpki_certificate_checked refuses it (RPKI_RULE_RESOURCE_VERSION). examples/validate does all this.
  */
 

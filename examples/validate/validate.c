@@ -15,9 +15,10 @@ enum { MOST_OCTETS = 1 << 28, MOST_BLOCKS = 1 << 12, MOST_FILES = 1 << 16, MOST 
 static struct rpki_ip_block ip[MOST][MOST_BLOCKS]; /* of the path, and of what its last authority has issued */
 static struct rpki_as_block as[MOST][MOST_BLOCKS];
 static struct rpki_span names[MOST_FILES];
-static char text[TEXT], uri[TEXT];  /* of an address; of the file that is looked at */
-static uint8_t octets[MOST_OCTETS]; /* of the files that were read, of which so many are used */
-static size_t used;
+static struct rpki_key_octets seen[MOST_FILES]; /* of the authorities that were visited, each once */
+static size_t used, visited;
+static char text[TEXT], uri[TEXT];          /* of an address; of the file that is looked at */
+static uint8_t octets[MOST_OCTETS];         /* of the files that were read, of which so many are used */
 static struct rpki_signed_object_parts cms; /* what was read last */
 static struct rpki_known_extensions known;
 static bool is(bool so, const char *wrong) { return so || fprintf(stderr, "%s: %s\n", uri, wrong) < 0; }
@@ -51,7 +52,7 @@ static void print_router(const struct rpki_resources *has) {
             for (int octet = 0; octet < 20; octet++) printf(octet < 19 ? "%02X" : "%02X\n", known.subject_key[octet]);
         }
 }
-/* Visits an authority, whose files count where all are as its manifest has them, and that is valid. */
+/* Visits an authority, once, whose files count where all are as its manifest has them, and that is valid. */
 static bool visit(const struct rpki_authority *above) {
     struct rpki_span rest = {0}, found, object, list = {0}, files, access;
     struct rpki_access_parts to = {0};
@@ -61,12 +62,18 @@ static bool visit(const struct rpki_authority *above) {
     struct rpki_authority by = {0}, below = {0};
     struct rpki_resources has = {0};
     char folder[TEXT];
+    size_t length = 0;
     if (!ok(rpki_certificate_extensions(OF(above->certificate), &known))) return false;
     access = known.subject_info_access.octets;
     if (!ok(rpki_take(&access, RPKI_SEQUENCE, &rest))) return false;
     while (rpki_access_description(&rest, &to) == RPKI_OK)
-        if (to.method == RPKI_ACCESS_RPKI_MANIFEST && rpki_rsync_parse(OF(to.uri), &parts) == RPKI_OK)
-            snprintf(uri, TEXT, "%.*s", (int)to.uri.size, (const char *)to.uri.data);
+        if (to.method == RPKI_ACCESS_RPKI_MANIFEST && rpki_rsync_parse(OF(to.uri), &parts) == RPKI_OK &&
+            ok(rpki_rsync_parts_canonical(OF(to.uri), &parts, (uint8_t *)uri, TEXT - 1, &length)))
+            uri[length] = 0;
+    for (size_t at = 0; at < visited; at++)
+        if (!memcmp(&seen[at], &above->keys[above->depth], sizeof *seen)) return false;
+    if (!is(visited < MOST_FILES, "too many authorities")) return false;
+    seen[visited++] = above->keys[above->depth];
     int size = (int)(strrchr(strcpy(folder, uri), '/') + 1 - folder);
     object = read_uri();
     if (!ok(rpki_signed_object(OF(object), false, &cms)) || !ok(rpki_manifest(OF(cms.content), &manifest)))
@@ -77,6 +84,7 @@ static bool visit(const struct rpki_authority *above) {
             snprintf(uri, TEXT, "%.*s%.*s", size, folder, (int)file.name.size, (const char *)file.name.data);
             found = read_uri();
             if (!ok(rpki_manifest_file_is(file.digest, OF(found)))) return false;
+            if (pass == 0 && ends(".crl") && !is(!list.data, "a second list")) return false;
             if (pass == 0 && ends(".crl")) list = found;
             if (pass == 0) continue;
             if (ends(".roa") && ok(rpki_authority_origin(&by, OF(found), false)) &&
