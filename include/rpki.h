@@ -1484,9 +1484,10 @@ rpki_status rpki_authority_origin(const struct rpki_authority *by, const uint8_t
                                   bool strict) RPKI_CHECKED;
 
 /*
- * The same of an attestation of providers: its certificate lists AS numbers alone, as rpki_aspa_signer asks, and has
- * that of the customer (draft-ietf-sidrops-aspa-profile 4). The statuses are those of rpki_authority_origin, but with
- * those of rpki_aspa in place of rpki_roa.
+ * Whether a signed object is an attestation of providers that is valid below an authority: as rpki_authority_origin,
+ * but that its certificate lists AS numbers alone, as rpki_aspa_signer asks, and has that of the customer
+ * (draft-ietf-sidrops-aspa-profile 4). The statuses are those of rpki_authority_origin, but with those of rpki_aspa in
+ * place of rpki_roa.
  */
 rpki_status rpki_authority_providers(const struct rpki_authority *by, const uint8_t *octets, size_t size,
                                      bool strict) RPKI_CHECKED;

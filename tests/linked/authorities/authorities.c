@@ -253,6 +253,14 @@ static void refuse_each(unsigned line, size_t many) {
     judge(line, "an allocation that is refused", well);
 }
 
+/* How many blocks the call has read of the authority, and written. */
+static size_t blocks_of(const struct row *row) {
+    const struct rpki_authority *by = &authorities[row->by], *made = &asked.made;
+    size_t read = row->call == ANCHOR ? 0 : by->ip_count + by->as_count;
+    if (row->call == ANCHOR || row->call == UNDER) return read + made->ip_count + made->as_count;
+    return row->call == END ? read + asked.found.ip_count + asked.found.as_count : read;
+}
+
 static void judge_row(unsigned line, const struct row *row) {
     bool freed, takes_memory = row->call != LIST && row->call != MANIFEST;
     size_t many;
@@ -266,7 +274,7 @@ static void judge_row(unsigned line, const struct row *row) {
     many = allocations(&freed);
     judge_status(line, row->file, asked.status, row->status);
     judge(line, "what was allocated is freed", freed && (takes_memory || many == 0));
-    judge(line, "the memory that is promised", most_octets() <= 384 * 2 * MOST_BLOCKS + 1024);
+    judge(line, "the memory that is promised", row->status != RPKI_OK || most_octets() <= 384 * blocks_of(row) + 1024);
     if (row->status != RPKI_OK) judge(line, "what is left as it was", is_unwritten());
     if (row->status == RPKI_OK && row->call <= UNDER) judge(line, "what is made", is_made_well(row));
     refuse_each(line, many);
