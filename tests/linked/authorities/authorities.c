@@ -308,11 +308,48 @@ static void judge_trimmed(void) {
          {0x20, 1, 0x0D, 0xB8, 255, 255, 255, 255, 255, 255, 255, 255, 255, 255, 255, 255},
          RPKI_IPV6,
          false}};
-    struct rpki_authority trimmed = made(TOP, "ca-trim.cer", NULL, &authorities[TOP]);
+    static struct rpki_authority trimmed;
+    trimmed = made(ZEROED, "ca-trim.cer", NULL, &authorities[TOP]);
     judge(0, "the blocks",
           trimmed.ip_count == 2 && !memcmp(trimmed.ip_blocks, wanted, sizeof wanted) && trimmed.as_count == 1 &&
               trimmed.as_blocks[0].low == 64496 && trimmed.as_blocks[0].high == 64498 &&
               !trimmed.as_blocks[0].is_inherited);
+}
+
+/* Of what is valid each octet in turn has another bit, and the end is cut off at it: neither is valid then, since each
+ * octet is signed, or is one of what has one form alone; and nothing is written. */
+static void judge_hostile(const struct row *row) {
+    struct octets file = file_of(row->file), cut;
+    bool well = true, freed;
+    memset(&asked, FILL, sizeof asked);
+    asked.row = row;
+    if (rpki_time_of_seconds(NOW, &asked.moment) != RPKI_OK) exit(2);
+    for (size_t at = 0; at < file.size; at++) {
+        uint8_t bit = (uint8_t)(1 << at % 8);
+        file.at[at] ^= bit;
+        asked.octets = file;
+        count_allocations(NONE_REFUSED);
+        well = make_call() != RPKI_OK && well;
+        allocations(&freed);
+        well = well && freed;
+        file.at[at] ^= bit;
+        asked.octets = cut = new_octets(file.at, at, 0);
+        well = make_call() != RPKI_OK && well;
+        free(cut.at);
+    }
+    asked.octets = file;
+    judge(0, row->file, well && is_unwritten() && make_call() == RPKI_OK);
+    free(file.at);
+}
+
+static void judge_all_hostile(void) {
+    static const struct row valid[] = {
+        {ANCHOR, TOP, "ta.cer", NOW, RPKI_OK},  {LIST, BARE_OWN, "ca.crl", 0, RPKI_OK},
+        {UNDER, TOP, "ca.cer", 8, RPKI_OK},     {END, OWN, "router.cer", RPKI_CERTIFICATE_ROUTER, RPKI_OK},
+        {ORIGIN, OWN, "ee.roa", true, RPKI_OK}, {PROVIDERS, OWN, "ee.asa", true, RPKI_OK},
+        {MANIFEST, OWN, "ee.mft", 2, RPKI_OK},
+    };
+    for (size_t at = 0; at < sizeof valid / sizeof *valid; at++) judge_hostile(&valid[at]);
 }
 
 /* What certificates say that they are, that of ee.roa among them. */
@@ -361,5 +398,6 @@ int main(int count, char **words) {
     for (unsigned number = 0; number < sizeof rows / sizeof *rows; number++) judge_row(number + 1, &rows[number]);
     judge_trimmed();
     judge_kinds();
+    judge_all_hostile();
     return verdict();
 }
