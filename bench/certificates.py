@@ -99,7 +99,7 @@ def write(count, path):
 
 
 def main():
-    if len(sys.argv) != 3:
+    if len(sys.argv) != 3 or not sys.argv[1].isdigit():
         sys.exit(__doc__)
     write(int(sys.argv[1]), sys.argv[2])
 

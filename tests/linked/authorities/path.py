@@ -46,7 +46,7 @@ def of_the_path(make):
 
 
 def main():
-    if len(sys.argv) != 2:
+    if len(sys.argv) != 2 or sys.argv[1].startswith("-"):
         sys.exit(__doc__)
     os.makedirs(sys.argv[1], exist_ok=True)
     with tempfile.TemporaryDirectory() as room:

@@ -176,7 +176,7 @@ def signed_objects(make):
 
 
 def main():
-    if len(sys.argv) != 2:
+    if len(sys.argv) != 2 or sys.argv[1].startswith("-"):
         sys.exit(__doc__)
     os.makedirs(sys.argv[1], exist_ok=True)
     with tempfile.TemporaryDirectory() as room:
