@@ -140,6 +140,7 @@ enum {
     RPKI_TOO_DEEP = 44,   /* the path has RPKI_MOST_STEPS steps already */
     RPKI_NO_LIST = 45,    /* the authority has no revocation list yet: rpki_authority_list gives it one */
     RPKI_SAME_NAMES = 46, /* a manifest names two of its files alike (RFC 9286 4.2.1) */
+    RPKI_OTHER_LIST = 47, /* a manifest lists another revocation list than the authority's, none, or several */
 
     /* Of rpki_validity_at: why a period doesn't hold at a moment. */
     RPKI_TOO_NEW = 50, /* the period begins after the moment */
@@ -695,6 +696,7 @@ struct rpki_authority {
     const struct rpki_as_block *as_blocks; /* the AS numbers that it has, likewise */
     size_t as_count;
     struct rpki_moment moment;       /* the moment at which all of the path is asked */
+    uint8_t list_digest[32];         /* the digest of its list by SHA-256, as the manifest lists it */
     struct rpki_key_octets keys[33]; /* the keys of the path: the trust anchor's first, its own at keys[depth] */
     uint32_t depth;                  /* how many steps lead up to the trust anchor, at most RPKI_MOST_STEPS */
     bool has_list;                   /* whether it has a list */
@@ -1300,13 +1302,14 @@ rpki_status rpki_as_block_text(const struct rpki_as_block *block, uint8_t *out, 
  *     rpki_authority_end(&with_list, certificate, .., _ROUTER, ..)
  *     rpki_authority_under(&with_list, certificate, .., &next)           an authority below it; then likewise
  *
- * Each path ends, but many may lead to one authority: visit it once, by its key, keys[depth]. A manifest has one list
- * alone. Of a certificate that it lists rpki_certificate_kind says whether it is that of an authority, _CA or _TA, or a
- * router's. Which files there are says a manifest before it is valid: they are read by its names, its list among them,
- * and nothing that they say counts until rpki_authority_manifest and each rpki_manifest_file_is return RPKI_OK. The
- * URIs of the list, the issuer and the object that certificates have are not looked at. Of a certificate that has both
- * the extension of RFC 3779 and that of RFC 8360 for one kind of resources the small calls look at the first:
- * rpki_certificate_checked refuses it (RPKI_RULE_RESOURCE_VERSION). examples/validate does all this.
+ * Each path ends, but many may lead to one authority: visit it once, by its key, keys[depth]. Of a certificate that a
+ * manifest lists rpki_certificate_kind says whether it is that of an authority, _CA or _TA, or a router's. Which files
+ * there are says a manifest before it is valid: they are read by its names, its list among them, and nothing that they
+ * say counts until rpki_authority_manifest, which refuses another list than the manifest's, and each
+ * rpki_manifest_file_is return RPKI_OK. The URIs of the list, the issuer and the object that certificates have are not
+ * looked at. Of a certificate that has both the extension of RFC 3779 and that of RFC 8360 for one kind of resources
+ * the small calls look at the first: rpki_certificate_checked refuses it (RPKI_RULE_RESOURCE_VERSION).
+ * examples/validate does all this.
  */
 
 /*
@@ -1434,8 +1437,9 @@ rpki_status rpki_authority_anchor(const uint8_t *octets, size_t size, const uint
 
 /*
  * The same authority with its revocation list, which it has issued, and which is in force at the moment of the path:
- * what rpki_crl_issued_by asks. Nothing that it issues is valid before. Takes no memory. The statuses are those of
- * rpki_crl_issued_by, of the authority's certificate and moment.
+ * what rpki_crl_issued_by asks. Nothing that it issues is valid before. It has the list's digest too, by which
+ * rpki_authority_manifest finds it in the manifest. Takes no memory. The statuses are those of rpki_crl_issued_by, of
+ * the authority's certificate and moment.
  */
 rpki_status rpki_authority_list(const struct rpki_authority *by, const uint8_t *octets, size_t size,
                                 struct rpki_authority *out) RPKI_CHECKED;
@@ -1496,14 +1500,14 @@ rpki_status rpki_authority_providers(const struct rpki_authority *by, const uint
  * Whether a signed object is a manifest that is valid below an authority (RFC 9286 6.2, 6.3): the key of its
  * certificate has signed it, as rpki_object_verify asks; its certificate is valid below the authority, as
  * rpki_authority_end asks of one with the profile _EE; all resources that it names are the authority's, as
- * rpki_manifest_inherits asks; no two files have the same name; and the moment of the path is not before this update
- * nor after the next. `room` has `capacity` places, one for each file at least, and is written over. n files take n log
- * n steps. Whether the files are as it says, rpki_manifest_file_is asks of each; the list is one of them. Takes no
- * memory.
+ * rpki_manifest_inherits asks; no two files have the same name; one alone has a name that ends in `.crl`, and that has
+ * the digest of the authority's list (RFC 6481 2.2); and the moment of the path is not before this update nor after the
+ * next. `room` has `capacity` places, one for each file at least, and is written over. n files take n log n steps.
+ * Whether the other files are as it says, rpki_manifest_file_is asks of each. Takes no memory.
  *
  * The statuses, in this order: those of rpki_authority_origin up to RPKI_BAD_SIGNATURE; RPKI_NOT_INHERITED; those of
- * rpki_manifest; RPKI_TOO_SMALL: `room` has too few places; RPKI_SAME_NAMES; RPKI_CONTENT: the moment is none;
- * RPKI_TOO_NEW; RPKI_TOO_OLD.
+ * rpki_manifest; RPKI_TOO_SMALL: `room` has too few places; RPKI_SAME_NAMES; RPKI_OTHER_LIST; RPKI_CONTENT: the moment
+ * is none; RPKI_TOO_NEW; RPKI_TOO_OLD.
  */
 rpki_status rpki_authority_manifest(const struct rpki_authority *by, const uint8_t *octets, size_t size, bool strict,
                                     struct rpki_span *room, size_t capacity) RPKI_CHECKED;
@@ -2005,7 +2009,7 @@ RPKI_ASSERT_AT(resources, as_blocks, 16);
 RPKI_ASSERT_AT(resources, as_count, 24);
 RPKI_ASSERT(key_octets, sizeof(struct rpki_key_octets) == 20);
 RPKI_ASSERT_AT(key_octets, octets, 0);
-RPKI_ASSERT(authority, sizeof(struct rpki_authority) == 768);
+RPKI_ASSERT(authority, sizeof(struct rpki_authority) == 800);
 RPKI_ASSERT_AT(authority, certificate, 0);
 RPKI_ASSERT_AT(authority, revoked_certs, 16);
 RPKI_ASSERT_AT(authority, ip_blocks, 32);
@@ -2013,9 +2017,10 @@ RPKI_ASSERT_AT(authority, ip_count, 40);
 RPKI_ASSERT_AT(authority, as_blocks, 48);
 RPKI_ASSERT_AT(authority, as_count, 56);
 RPKI_ASSERT_AT(authority, moment, 64);
-RPKI_ASSERT_AT(authority, keys, 96);
-RPKI_ASSERT_AT(authority, depth, 756);
-RPKI_ASSERT_AT(authority, has_list, 760);
+RPKI_ASSERT_AT(authority, list_digest, 96);
+RPKI_ASSERT_AT(authority, keys, 128);
+RPKI_ASSERT_AT(authority, depth, 788);
+RPKI_ASSERT_AT(authority, has_list, 792);
 RPKI_ASSERT(rsync_parts, sizeof(struct rpki_rsync_parts) == 48);
 RPKI_ASSERT_AT(rsync_parts, authority, 0);
 RPKI_ASSERT_AT(rsync_parts, module_name, 16);
@@ -2074,6 +2079,7 @@ static inline const char *rpki_status_text(rpki_status status) {
         case RPKI_TOO_DEEP: return "path is too long";
         case RPKI_NO_LIST: return "authority has no revocation list";
         case RPKI_SAME_NAMES: return "two files of one name";
+        case RPKI_OTHER_LIST: return "manifest lists another revocation list";
         case RPKI_PART_CERTIFICATE: return "not a certificate";
         case RPKI_PART_SIGNED: return "malformed signed data";
         case RPKI_PART_ALGORITHM: return "signature algorithm is not the RPKI's";
@@ -2226,6 +2232,7 @@ static inline const char *rpki_status_name(rpki_status status) {
         case RPKI_TOO_DEEP: return "RPKI_TOO_DEEP";
         case RPKI_NO_LIST: return "RPKI_NO_LIST";
         case RPKI_SAME_NAMES: return "RPKI_SAME_NAMES";
+        case RPKI_OTHER_LIST: return "RPKI_OTHER_LIST";
         case RPKI_PART_CERTIFICATE: return "RPKI_PART_CERTIFICATE";
         case RPKI_PART_SIGNED: return "RPKI_PART_SIGNED";
         case RPKI_PART_ALGORITHM: return "RPKI_PART_ALGORITHM";

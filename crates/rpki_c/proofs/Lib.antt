@@ -6,7 +6,8 @@
 -- Where octets go wrong: FaultLaws. The index, in the middle of its writing: FillingLaws.
 -- Parts of parsed URIs, by their places: PlaceLaws.
 -- Parts of certificates, and one that is checked against a profile: CertificateLaws; of revocation lists, signed
---   objects, manifests and attestations: ObjectLaws. Tables of serial numbers: SerialTableLaws.
+--   objects, manifests and attestations: ObjectLaws. The list among a manifest's files: ListingLaws. Tables of serial
+--   numbers: SerialTableLaws.
 -- Certificates, lists and objects of which each status is 0, as the layer says it: BelowLaws.
 -- Resources: entries of blocks, how many there are, what their contents' statuses say, and settled: ResourceLaws.
 
@@ -23,3 +24,4 @@ mod SerialTableLaws
 pub mod ObjectLaws
 mod ResourceLaws
 mod BelowLaws
+mod ListingLaws

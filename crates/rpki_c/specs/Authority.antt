@@ -3,6 +3,7 @@ use Rattle.std.specs.Prelude.{◌≡◌, ◌≢◌, ◌⊎◌, ◌≤◌, ◌<�
 use Rattle.std.specs.Prelude.{map, set, take, Contains, replicate}
 use Rattle.jiff.specs.Types.{DateTime}
 use Rattle.sha1.specs.Sha1.{sha1}
+use Rattle.sha2.specs.Sha256.{sha256}
 use Rattle.rpki_resources.specs.declared.block.Block.{Block}
 use Rattle.rpki_cert.specs.declared.extension.known_view.KnownView.{KnownView}
 use Rattle.rpki_cert.specs.declared.profile.Profile.TheVariants.{Ca, Ta, Ee, Router, DetachedEe}
@@ -100,6 +101,7 @@ pub record IsMadeUnder (by : Authority) (s : List ℕ) (new : Authority) : Type 
   pub ip_blocks : new.ip_blocks.now ≡ settled_entries own.addresses.v4 own.addresses.v6
   pub as_blocks : new.as_blocks.now ≡ map as_entry own.numbers
   pub moment : new.moment ≡ by.moment
+  pub no_digest : new.list_digest ≡ replicate 32 0
   pub depth : new.depth ≡ by.depth + 1
   pub unlisted : new.has_list ≡ false
 
@@ -130,7 +132,7 @@ IsMadeUnderBy by s rooms status old new =
 -- ---- an authority with its list
 
 -- The octets are a revocation list of the authority, which counts at the moment of the path (RFC 5280 6.3.3, RFC 6487
--- 5), and the new one is the authority with its entries.
+-- 5), and the new one is the authority with its entries, and its digest, by which a manifest lists it (RFC 9286 4.2.1).
 pub record IsMadeWith (by : Authority) (s : List ℕ) (new : Authority) : Type 0 where
   pub list : CrlParts
   pub spelled : crl.spells list s
@@ -140,7 +142,8 @@ pub record IsMadeWith (by : Authority) (s : List ℕ) (new : Authority) : Type 0
   pub moment : IsTimeOf by.moment at
   pub of : IsListOf rsa ecdsa sha1 Refused issuer.tbs at list
   pub revoked : each_entry.spells (listed list.list.revoked) new.revoked_certs.octets.now
-  pub same : new ≡ record by { revoked_certs = new.revoked_certs; has_list = true }
+  pub digest : new.list_digest ≡ sha256 s
+  pub same : new ≡ record by { revoked_certs = new.revoked_certs; list_digest = new.list_digest; has_list = true }
 
 -- Status 0: the authority is made. Else the octets are no such list, as `rpki_crl_issued_by` says, and nothing is
 -- written.
@@ -180,6 +183,7 @@ pub record IsMadeOf (key : List ℕ) (m : Moment) (s : List ℕ) (new : Authorit
   pub ip_blocks : new.ip_blocks.now ≡ settled_entries own.addresses.v4 own.addresses.v6
   pub as_blocks : new.as_blocks.now ≡ map as_entry own.numbers
   pub moment : new.moment ≡ m
+  pub no_digest : new.list_digest ≡ replicate 32 0
   pub depth : new.depth ≡ 0
   pub keys : new.keys ≡ set (replicate 33 (replicate 20 0)) 0 (sha1 x.tbs.key.bits.octets)
   pub unlisted : new.has_list ≡ false

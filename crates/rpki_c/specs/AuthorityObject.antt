@@ -1,5 +1,7 @@
 -- What a status says of a signed object below an authority of a path (RFC 6488 3), and of what it attests.
 use Rattle.std.specs.Prelude.{◌≡◌, ◌≢◌, ◌⊎◌, ◌<◌, ℕ, Bool, List, Ok, Result, MatchResult, length}
+use Rattle.std.specs.Prelude.{map, filter, codes, nat_eq, [], ◌∷◌}
+use Rattle.std.specs.List.{ends_with}
 use Rattle.jiff.specs.Types.{DateTime}
 use Rattle.sha2.specs.Sha256.{sha256}
 use Rattle.rpki_resources.specs.declared.block.Block.{Block}
@@ -11,7 +13,7 @@ use Rattle.rpki_contents.specs.declared.aspa_view.AspaPart.{AspaPart}
 use Rattle.rpki_contents.specs.declared.roa_view.RoaPart.{RoaPart}
 use Rattle.rpki_contents.specs.declared.manifest_part.ManifestPart.{ManifestPart}
 use Rattle.rpki_contents.specs.AspaView.{FoundAspa, attestation}
-use Rattle.rpki_contents.specs.ListedFile.{AreDistinct}
+use Rattle.rpki_contents.specs.ListedFile.{ListedFile, AreDistinct}
 use Rattle.rpki_contents.specs.Manifest.{ManifestParts, period_of}
 use Rattle.rpki_contents.specs.ManifestView.{IsManifestWrong}
 use Rattle.rpki_contents.specs.Roa.{AttestationParts, fields_of, roa}
@@ -35,7 +37,7 @@ use Rattle.rpki_c.specs.SignedObject.{object_part_number, IsNoObject, certificat
 use Rattle.rpki_c.specs.SignedObject.{IsSignerTold, content_type_number}
 use Rattle.rpki_c.specs.SignerResources.{ListsAddresses, ListsNumbers}
 use Rattle.rpki_c.specs.Status.{other_kinds, other_type, other_resources, out_of_memory}
-use Rattle.rpki_c.specs.Status.{not_inherited, same_names, too_small, content}
+use Rattle.rpki_c.specs.Status.{not_inherited, same_names, other_list, too_small, content}
 
 -- ---- the object, and its certificate
 
@@ -167,21 +169,36 @@ AreProvidersTold strict by s status =
 
 -- ---- manifests (RFC 9286)
 
--- the octets are a manifest, no two of whose files have the same name, and which holds at the moment of the path (RFC
--- 9286 4.2.1, 6.3)
+-- by its name a file is a revocation list (RFC 6481 2.2)
+abbrev pub is_list : ListedFile → Bool
+is_list file = ends_with nat_eq file.0 (codes ".crl")
+
+-- the digests of the files that are lists by their names
+abbrev pub list_digests : List ListedFile → List (List ℕ)
+list_digests files = map (λ file. file.1) (filter is_list files)
+
+-- one file is a list by its name, and that has this digest (RFC 6481 2.2, RFC 9286 4.2.1)
+abbrev pub ListsOnly : List ListedFile → List ℕ → Type 0
+ListsOnly files digest = list_digests files ≡ digest ∷ []
+
+-- the octets are a manifest, no two of whose files have the same name, whose revocation list is the authority's, and
+-- which holds at the moment of the path (RFC 9286 4.2.1, 6.3)
 pub record IsManifestHeld (by : Authority) (s : List ℕ) : Type 0 where
   pub content : ManifestParts
   pub listing : IsListing content s
   pub distinct : AreDistinct content.files
+  pub list : ListsOnly content.files by.list_digest
   pub at : DateTime
   pub moment : IsTimeOf by.moment at
   pub now : HoldsAt (period_of content) at
 
--- 9: there are more files than this. 46: two have the same name. 5: the moment is none. 50, 51: it is not held then.
+-- 9: there are more files than this. 46: two have the same name. 47: the list isn't the authority's. 5: the moment is
+-- none. 50, 51: it is not held then.
 abbrev pub IsManifestRefused : Authority → ℕ → ManifestParts → ℕ → Type 0
 IsManifestRefused by capacity x status =
     ((status ≡ too_small) × (capacity < length x.files))
     ⊎ ((status ≡ same_names) × (AreDistinct x.files → ⊥))
+    ⊎ ((status ≡ other_list) × (ListsOnly x.files by.list_digest → ⊥))
     ⊎ ((status ≡ content) × (IsPossible by.moment → ⊥))
     ⊎ ((at : DateTime) × IsTimeOf by.moment at × (status ≢ 0) × IsToldOf (period_of x) at status)
 

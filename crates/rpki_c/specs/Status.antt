@@ -135,6 +135,10 @@ no_list = 45
 abbrev pub same_names : ℕ
 same_names = 46
 
+-- a manifest lists another revocation list than the authority has, none, or more than one
+abbrev pub other_list : ℕ
+other_list = 47
+
 -- a certificate is on the revocation list of its issuer
 abbrev pub revoked : ℕ
 revoked = 62

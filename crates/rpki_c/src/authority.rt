@@ -25,6 +25,8 @@ pub struct Authority<'a> {
     pub as_blocks: &'a [AsEntry],
     /// The moment at which all of the path is asked.
     pub moment: Moment,
+    /// The digest of the list by SHA-256, by which the manifest lists it; zeros where there is none.
+    pub list_digest: [u8; 32],
     /// The identifiers of the keys of the path: that of the trust anchor first, its own after as many as `depth` says.
     pub keys: [[u8; 20]; 33],
     /// How many steps lead up to the trust anchor.

@@ -130,6 +130,7 @@ fn root<'a>(
         ip_blocks,
         as_blocks,
         moment: *moment,
+        list_digest: [0; 32],
         keys: with_key([[0; 20]; 33], 0, <[u8; 20]>::from(key_of(&cert))),
         depth: 0,
         has_list: false,

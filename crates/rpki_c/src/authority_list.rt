@@ -8,12 +8,14 @@ use crate::crl::crl_part_number;
 use crate::list_issued::list_told;
 use crate::span::Span;
 use crate::status::NO_ISSUER;
+use rpki::crypto::Provider;
 use rpki_cert::CertView;
 use rpki_crl::CrlView;
+use rpki_digests::RsaProvider;
 
 /// Makes an authority with its revocation list: tests that the authority has issued the list, and that it is in force
 /// at the moment of the path (RFC 5280 6.3.3, RFC 6487 5). What is written is the authority that was given, with the
-/// entries of the list.
+/// entries of the list, and its digest by SHA-256: `rpki_authority_manifest` tests that the manifest lists it by that.
 ///
 /// The status is 0. Else it is as that of `rpki_crl_issued_by`, of the authority's certificate and of its moment, and
 /// `out` is unchanged. Nothing is allocated.
@@ -39,6 +41,7 @@ pub extern "C" fn rpki_authority_list<'a>(
     }
     *out = Authority {
         revoked_certs: Span::of(list.tbs.revoked_certs.octets),
+        list_digest: RsaProvider.sha256(octets),
         has_list: true,
         ..*by
     };

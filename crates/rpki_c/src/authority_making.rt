@@ -155,6 +155,7 @@ fn under<'a>(
         ip_blocks,
         as_blocks,
         moment: by.moment,
+        list_digest: [0; 32],
         keys,
         depth: by.depth + 1,
         has_list: false,

@@ -1,7 +1,10 @@
 //! Manifests below an authority of a path.
 
-ghost use Rattle.std.specs.Prelude.{◌≡◌, length};
-ghost use Rattle.rpki_c.specs.AuthorityObject.{TestsManifest, TestsManifestBelow, IsManifestTold};
+ghost use Rattle.std.specs.Prelude.{◌≡◌, ◌↔◌, List, IsTrue, length};
+ghost use Rattle.rpki_contents.specs.FilesInPlace.{HoldFiles};
+ghost use Rattle.rpki_contents.specs.ListedFile.{ListedFile};
+ghost use Rattle.rpki_contents.specs.ManifestView.{file_in};
+ghost use Rattle.rpki_c.specs.AuthorityObject.{is_list, ListsOnly, TestsManifest, TestsManifestBelow, IsManifestTold};
 
 use crate::authority::Authority;
 use crate::authority_objects::signed_below;
@@ -10,17 +13,52 @@ use crate::coverage::are_inherited;
 use crate::manifest::manifest_part_number;
 use crate::periods::told_of;
 use crate::signed_object::object_part_number;
-use crate::status::{CONTENT, NOT_INHERITED, OTHER_TYPE, SAME_NAMES, TOO_SMALL};
+use crate::status::{CONTENT, NOT_INHERITED, OTHER_LIST, OTHER_TYPE, SAME_NAMES, TOO_SMALL};
 use crate::time_writing::time_of;
-use rpki_contents::ManifestView;
+use rpki_contents::{FileView, FilesView, ManifestView};
 use rpki_objects::SignedObjectView;
 use rpki_time::Validity;
 
-/// Tests that the octets are a manifest, that no two of its files have the same name, and that it holds at the moment
-/// of the path. The room is written over.
+/// Whether the file is a revocation list by its name (RFC 6481 2.2).
+fn is_list(file: &FileView<'_>) -> bool
+    ensures { result ≡ is_list (file_in file.now) }
+{
+    file.name.ends_with(b".crl")
+}
+
+/// Whether the file has this digest.
+fn has_hash(file: &FileView<'_>, digest: &[u8; 32]) -> bool
+    ensures { IsTrue result ↔ (file.now.hash ≡ digest.now) }
+{
+    file.hash.into_array() == *digest
+}
+
+/// Whether one of the files is a revocation list by its name, and has this digest.
+fn lists_only(files: &FilesView<'_>, digest: &[u8; 32]) -> bool
+    ensures { (xs : List ListedFile) → HoldFiles files.now xs → IsTrue result ↔ ListsOnly xs digest.now }
+{
+    let mut cursor = files.files();
+    let mut found = false;
+    'files: while let Some(file) = cursor.next_file() {
+        if is_list(&file) {
+            if found {
+                return false;
+            }
+            if !has_hash(&file, digest) {
+                return false;
+            }
+            found = true;
+        }
+    }
+    found
+}
+
+/// Tests that the octets are a manifest, that no two of its files have the same name, that its revocation list is the
+/// authority's, and that it holds at the moment of the path. The room is written over.
 ///
 /// The error is, in this order: as of `rpki_manifest`; `TOO_SMALL`, where the room has fewer places than there are
-/// files; `SAME_NAMES`; `CONTENT`, where the years 0 to 9999 have no such time as the moment; `TOO_NEW`; `TOO_OLD`.
+/// files; `SAME_NAMES`; `OTHER_LIST`; `CONTENT`, where the years 0 to 9999 have no such time as the moment; `TOO_NEW`;
+/// `TOO_OLD`.
 fn manifest_held<'a>(by: &Authority<'_>, octets: &'a [u8], room: &mut [&'a [u8]]) -> Result<(), u8>
     ensures { TestsManifest by.now (length room.old) octets.now result }
 {
@@ -33,6 +71,9 @@ fn manifest_held<'a>(by: &Authority<'_>, octets: &'a [u8], room: &mut [&'a [u8]]
     }
     if !found.files.names_differ(room) {
         return Err(SAME_NAMES);
+    }
+    if !lists_only(&found.files, &by.list_digest) {
+        return Err(OTHER_LIST);
     }
     let Some(time) = time_of(&by.moment) else {
         return Err(CONTENT);
@@ -77,15 +118,16 @@ fn manifest_below<'a>(
 /// Reads a signed object, and says whether it is a manifest that is valid below an authority of a path (RFC 9286 6.2,
 /// 6.3): whether its content is one, which the key of its certificate has signed (RFC 6488 3); the certificate is that
 /// of an end entity, as `rpki_authority_end` asks; all resources that it names are its issuer's (RFC 9286 5.1); no two
-/// of the files have the same name (RFC 9286 4.2.1); and the moment of the path is not before this update nor after the
-/// next (RFC 9286 6.3). Whether the files are as it says is not looked at. The room is written over; n files take n log
-/// n steps. If `strict`, as of `rpki_signed_object`.
+/// of the files have the same name (RFC 9286 4.2.1); one is a revocation list by its name, and has the digest of the
+/// authority's (RFC 6481 2.2); and the moment of the path is not before this update nor after the next (RFC 9286 6.3).
+/// Whether the other files are as it says is not looked at. The room is written over; n files take n log n steps. If
+/// `strict`, as of `rpki_signed_object`.
 ///
 /// The status is 0. Else it is, in this order: as of `rpki_signed_object`; `OTHER_TYPE`, where the content is of
 /// another type, or not of the one that is signed; `OTHER_DIGEST`; as of `rpki_authority_end`; `OTHER_SIGNER`;
 /// `KEY_NOT_ACCEPTED` or `BAD_SIGNATURE`, as of `rpki_verify`; `NOT_INHERITED`; as of `rpki_manifest`; `TOO_SMALL`,
-/// where the room has fewer places than there are files; `SAME_NAMES`; `CONTENT`, where the moment is none; `TOO_NEW`;
-/// `TOO_OLD`. Nothing is allocated.
+/// where the room has fewer places than there are files; `SAME_NAMES`; `OTHER_LIST`; `CONTENT`, where the moment is
+/// none; `TOO_NEW`; `TOO_OLD`. Nothing is allocated.
 #[unsafe(no_mangle)]
 pub extern "C" fn rpki_authority_manifest<'a>(
     by: &Authority<'_>,

@@ -123,6 +123,9 @@ pub(crate) const NO_LIST: u8 = 45;
 /// A manifest names two of its files alike.
 pub(crate) const SAME_NAMES: u8 = 46;
 
+/// A manifest lists another revocation list than the authority has, none, or more than one.
+pub(crate) const OTHER_LIST: u8 = 47;
+
 /// A certificate is on the revocation list of its issuer.
 pub(crate) const REVOKED: u8 = 62;
 

@@ -147,6 +147,9 @@ static const struct row rows[] = {
     {MANIFEST, OWN, "signer.mft", 2, RPKI_OTHER_SIGNER},
     {MANIFEST, OWN, "own.mft", 2, RPKI_NOT_INHERITED},
     {MANIFEST, OWN, "twice.mft", 2, RPKI_SAME_NAMES},
+    {MANIFEST, OWN, "unlisted.mft", 2, RPKI_OTHER_LIST},
+    {MANIFEST, OWN, "other.mft", 2, RPKI_OTHER_LIST},
+    {MANIFEST, OWN, "second.mft", 3, RPKI_OTHER_LIST},
     {MANIFEST, OWN, "late.mft", 2, RPKI_TOO_NEW},
     {MANIFEST, OWN, "stale.mft", 2, RPKI_TOO_OLD},
 };
@@ -183,7 +186,7 @@ static struct {
     struct rpki_resources found;
     struct rpki_ip_block ips[MOST_BLOCKS];
     struct rpki_as_block numbers[MOST_BLOCKS];
-    struct rpki_span names[2];
+    struct rpki_span names[3];
 } asked;
 
 static rpki_status make_call(void) {
@@ -234,8 +237,11 @@ static bool is_made_well(const struct row *row) {
     bool is_list = row->call == LIST, is_root = row->call == ANCHOR;
     struct rpki_span cert = is_list ? by->certificate : (struct rpki_span){asked.octets.at, asked.octets.size};
     uint32_t depth = is_root ? 0 : is_list ? by->depth : by->depth + 1;
+    uint8_t digest[32] = {0};
+    if (is_list) rpki_sha256(asked.octets.at, asked.octets.size, digest);
     return made->certificate.data == cert.data && made->certificate.size == cert.size && made->depth == depth &&
-           made->has_list == is_list && (is_root || !memcmp(&made->moment, &by->moment, sizeof made->moment)) &&
+           made->has_list == is_list && !memcmp(made->list_digest, digest, sizeof digest) &&
+           (is_root || !memcmp(&made->moment, &by->moment, sizeof made->moment)) &&
            (is_list || (made->ip_blocks == asked.ips && made->as_blocks == asked.numbers)) &&
            (is_root || !memcmp(made->keys, by->keys, (by->depth + 1) * sizeof *made->keys));
 }

@@ -6,6 +6,7 @@ them what a path needs:
     ta.crl       the anchor's revocation list, which has the serial number of ca-gone.cer
     self.cer     the authority's own certificate, by itself; up.cer: one of the anchor's key, by the authority
     twice.mft    a manifest that names two files alike; own.mft: one whose certificate has resources of its own
+    unlisted.mft one without a list; other.mft: with another; second.mft: with the list by two names
     none         no octets
 
 usage: tests/linked/authorities/path.py FOLDER      Needs openssl."""
@@ -41,6 +42,12 @@ def of_the_path(make):
     twice = payloads.manifest([payloads.file("a.roa", b"a"), payloads.file("a.roa", b"b")], until="20360101000000Z")
     make.object("twice.mft", twice, ip=None, numbers=None)
     make.object("own.mft", payloads.manifest([payloads.file("a.roa", b"a")], until="20360101000000Z"), **HAS)
+    with open(os.path.join(make.folder, "ca.crl"), "rb") as file:
+        octets = file.read()
+    for word, listed in [("unlisted", []), ("other", [("ca.crl", octets + b"a")]),
+                         ("second", [("ca.crl", octets), ("cb.crl", octets)])]:
+        named = [payloads.file(*each) for each in [*listed, ("a.roa", b"a")]]
+        make.object(f"{word}.mft", payloads.manifest(named, until="20360101000000Z"), ip=None, numbers=None)
     make.object("both.roa", payloads.roa(64496, payloads.family(4, [("10.1.0.0/16",)])), **HAS)
     make.object("both.asa", payloads.aspa(64496, [64499]), **HAS)
 

@@ -146,7 +146,8 @@ def revocation_lists(make):
 def signed_objects(make):
     """Of each type, what is changed alike."""
     prefixes = payloads.family(4, [("10.1.0.0/16", 24)]), payloads.family(6, [("2001:db8::/48",)])
-    files = [payloads.file("ca.crl", b""), payloads.file("a.roa", b"a")]
+    with open(os.path.join(make.folder, "ca.crl"), "rb") as listed:
+        files = [payloads.file("ca.crl", listed.read()), payloads.file("a.roa", b"a")]
     contents = {"roa": payloads.roa(64496, *prefixes), "asa": payloads.aspa(64496, [64499, 64501]),
                 "mft": payloads.manifest(files, until="20360101000000Z")}
     own = {"roa": {"ip": HAS["ip"]}, "asa": {"numbers": [64496]}, "mft": {"ip": None, "numbers": None}}

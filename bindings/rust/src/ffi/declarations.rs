@@ -35,6 +35,7 @@ pub(crate) const INVALID_PADDING: Status = 43;
 pub(crate) const TOO_DEEP: Status = 44;
 pub(crate) const NO_LIST: Status = 45;
 pub(crate) const SAME_NAMES: Status = 46;
+pub(crate) const OTHER_LIST: Status = 47;
 pub(crate) const TOO_NEW: Status = 50;
 pub(crate) const TOO_OLD: Status = 51;
 pub(crate) const KEY_NOT_ACCEPTED: Status = 52;
@@ -536,11 +537,12 @@ pub(crate) struct Authority {
     pub(crate) as_blocks: *const AsBlock,
     pub(crate) as_count: usize,
     pub(crate) moment: Moment,
+    pub(crate) list_digest: [u8; 32],
     pub(crate) keys: [KeyOctets; 33],
     pub(crate) depth: u32,
     pub(crate) has_list: bool,
 }
-const _: () = assert!(size_of::<Authority>() == 768);
+const _: () = assert!(size_of::<Authority>() == 800);
 
 #[repr(C)]
 #[derive(Clone, Copy, Default)]

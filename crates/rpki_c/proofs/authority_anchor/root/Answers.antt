@@ -108,6 +108,7 @@ returns c =
       ip_blocks = c.in-Some.ensures.some;
       as_blocks = c.in-Some-kept_numbers.ensures.some;
       moment = refl;
+      no_digest = refl;
       depth = refl;
       keys = c.with_key.ensures
           ∙ ap (set (replicate 33 (replicate 20 0)) 0)

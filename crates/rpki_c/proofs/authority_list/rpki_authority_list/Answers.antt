@@ -37,6 +37,7 @@ returns c =
         revoked =
             subst (each_entry.spells (listed x.list.revoked)) (sym (c.of.ensures ∙ h.tbs.revoked.octets))
             (entries-spelled x.list.revoked x.list.extensions o.second o.two);
+        digest = c.sha256.ensures;
         same = refl;
       },
     )

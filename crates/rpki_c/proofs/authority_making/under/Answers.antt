@@ -94,6 +94,7 @@ returns c =
       ip_blocks = c.in-Some.ensures.some;
       as_blocks = c.in-Some-kept_numbers.ensures.some;
       moment = refl;
+      no_digest = refl;
       depth = refl;
       unlisted = refl;
     }

@@ -25,6 +25,18 @@ returns-then-not-names_differ c =
       inr (inl (refl, iff_false differ c.if-not-names_differ.true)),
     )
 
+pub returns-then-not-lists_only : goal.returns-then-not-lists_only
+returns-then-not-lists_only c =
+    let s = c.args.octets.now in
+    let v = c.in-Ok.found in
+    let found = c.in-Ok.ensures.ok in
+    let only = c.lists_only.ensures found.0 (held s v found.0 found.1) in
+    inr (
+      parts_in v found.0,
+      is-listing s v found.0 found.1,
+      inr (inr (inl (refl, iff_false only c.if-not-lists_only.true))),
+    )
+
 pub returns-in_default : goal.returns-in_default
 returns-in_default c =
     let v = c.in-Ok.found in
@@ -32,7 +44,7 @@ returns-in_default c =
     inr (
       parts_in v found.0,
       is-listing c.args.octets.now v found.0 found.1,
-      inr (inr (inl (refl, λ is. false≢true (c.in_default.ensures.succeeds.1 is)))),
+      inr (inr (inr (inl (refl, λ is. false≢true (c.in_default.ensures.succeeds.1 is))))),
     )
 
 pub returns-then-told-ne0 : goal.returns-then-told-ne0
@@ -44,7 +56,7 @@ returns-then-told-ne0 c =
     inr (
       parts_in v found.0,
       is-listing c.args.octets.now v found.0 found.1,
-      inr (inr (inr (c.in-Some.time, c.in-Some.ensures.value, c.if-told-ne0.true, told))),
+      inr (inr (inr (inr (c.in-Some.time, c.in-Some.ensures.value, c.if-told-ne0.true, told)))),
     )
 
 pub returns : goal.returns
@@ -58,6 +70,7 @@ returns c =
       content = parts_in v found.0;
       listing = is-listing s v found.0 found.1;
       distinct = (c.names_differ.ensures found.0 (held s v found.0 found.1)).0 c.if-not-names_differ.false;
+      list = (c.lists_only.ensures found.0 (held s v found.0 found.1)).0 c.if-not-lists_only.false;
       at = c.in-Some.time;
       moment = c.in-Some.ensures.value;
       now = holds-between v.this_update v.next_update c.in-Some.time (rw c.if-told-ne0.false at told);
