@@ -33,6 +33,11 @@
  *  - `out`, and each other parameter that is written, is aligned for its type and is inside neither the octets that are
  *    read nor another parameter. It need not be initialised, unless it has spans: then it is zeroed before, or was
  *    filled by a call.
+ *    A zeroed struct, which no call has filled, is refused: it has no certificate (rpki_authority, RPKI_NO_ISSUER), no
+ *    moment and no period (RPKI_CONTENT), no places (RPKI_OTHER_PARTS), or no octets (RPKI_TRUNCATED, or the first
+ *    part). But of what there may be none there is none: no entries of a list (rpki_crl_contains and rpki_serials
+ *    return RPKI_OK, rpki_crl_revokes doesn't), no value that may be missing (rpki_take_optional), no blocks of an
+ *    issuer, no extension.
  *  - malloc, realloc and free are of one allocator, and align a block to each power of two up to 16 that divides its
  *    size. Calls are not made from a signal handler, or between fork and exec of a process with threads.
  *
@@ -1070,9 +1075,16 @@ rpki_status rpki_crl_entry(struct rpki_span *rest, struct rpki_revoked_certifica
  * calls that read values.
  *
  * No octets are no entries, so that nothing is revoked: those of a struct that rpki_crl hasn't filled too. So look at
- * the status of rpki_crl first.
+ * the status of rpki_crl first, or ask rpki_crl_revokes.
  */
 rpki_status rpki_crl_contains(const uint8_t *octets, size_t size, const uint8_t serial[20], bool *out) RPKI_CHECKED;
+
+/*
+ * Whether a revocation list has the certificate of this serial number: RPKI_REVOKED, or RPKI_OK where it doesn't have
+ * it. Whether the list is in force, rpki_crl_issued_by says. Takes no memory. The statuses, in this order: those of
+ * rpki_crl; RPKI_CONTENT: the first bit of the serial number is set; RPKI_REVOKED.
+ */
+rpki_status rpki_crl_revokes(const uint8_t *octets, size_t size, const uint8_t serial[20]) RPKI_CHECKED;
 
 /*
  * Makes a table of these entries, as of revoked_certs, which are all of the octets, for rpki_serials_have: their serial

@@ -8,6 +8,7 @@
 -- Parts of certificates, and one that is checked against a profile: CertificateLaws; of revocation lists, signed
 --   objects, manifests and attestations: ObjectLaws. The list among a manifest's files: ListingLaws. Tables of serial
 --   numbers: SerialTableLaws.
+-- The entries that octets are: RevokedLaws.
 -- Certificates, lists and objects of which each status is 0, as the layer says it: BelowLaws.
 -- Resources: entries of blocks, how many there are, what their contents' statuses say, and settled: ResourceLaws.
 
@@ -25,3 +26,4 @@ pub mod ObjectLaws
 mod ResourceLaws
 mod BelowLaws
 mod ListingLaws
+mod RevokedLaws

@@ -34,6 +34,7 @@ pub mod SignedObject
 pub mod Issued
 pub mod SignerResources
 pub mod Below
+pub mod Revoked
 pub mod Owned
 pub mod Authority
 pub mod AuthorityObject

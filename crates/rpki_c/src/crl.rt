@@ -1,6 +1,6 @@
 //! Revocation lists.
 
-ghost use Rattle.std.specs.Prelude.{◌≡◌};
+ghost use Rattle.std.specs.Prelude.{◌≡◌, ◌<◌, false, [], slice_index};
 ghost use Rattle.rpki_crl.specs.Crl.{CrlParts as CrlValue};
 ghost use Rattle.rpki_crl.specs.CrlView.{IsCrlAt};
 ghost use Rattle.rpki_c.specs.Crl.{crl_part_number, HasCrl, IsCrlErrorRead, IsCrlRead, IsCrlSearched, IsEntryTaken};
@@ -116,14 +116,16 @@ pub extern "C" fn rpki_crl_error(octets: &[u8], error: &mut u8) -> u8
 }
 
 /// Finds whether one of the entries of a revocation list, which are all of the octets, has this serial number, which is
-/// given by its twenty octets, the most significant first. All entries are read.
+/// given by its twenty octets, the most significant first. All entries are read. No octets are no entries, those of a
+/// struct that is zeroed too: `rpki_crl_revokes` reads the list itself.
 ///
 /// The status is 0; `CONTENT` where the first bit of the serial number is set, before the octets are looked at; else
 /// the number of the error of the first that is no entry. `out` is unchanged where the status is not 0. Nothing is
 /// allocated.
 #[unsafe(no_mangle)]
 pub extern "C" fn rpki_crl_contains(octets: &[u8], serial: &[u8; 20], out: &mut bool) -> u8
-    ensures { IsCrlSearched serial.now octets.now result out.old out.new }
+    ensures searched { IsCrlSearched serial.now octets.now result out.old out.new }
+    ensures zeroed { octets.now ≡ [] → slice_index serial.now 0 < 128 → (result ≡ 0) × (out.new ≡ false) }
 {
     let Ok(number) = Serial::from_array(*serial) else {
         return CONTENT;

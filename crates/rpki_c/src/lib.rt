@@ -32,6 +32,7 @@ mod certificate_resources;
 mod content_type;
 mod coverage;
 mod crl;
+mod crl_revokes;
 mod digits;
 mod encompassing;
 mod extension_writing;

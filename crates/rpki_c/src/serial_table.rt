@@ -1,6 +1,6 @@
 //! A sorted table of the serial numbers of a revocation list, for many questions to it.
 
-ghost use Rattle.std.specs.Prelude.{◌≡◌, ◌≤◌, ◌<◌, List, length, set};
+ghost use Rattle.std.specs.Prelude.{◌≡◌, ◌≤◌, ◌<◌, List, [], length, set};
 ghost use Rattle.rpki_der.specs.Cursor.{left};
 ghost use Rattle.rpki_der.specs.Fold.{TakesStep};
 ghost use Rattle.rpki_der.specs.Number.{number_of};
@@ -62,14 +62,16 @@ fn write_serials(octets: &[u8], serials: &mut [[u8; 20]]) -> usize
 }
 
 /// Writes the serial numbers of the entries of a revocation list, which are all of the octets, to the front of the
-/// array, sorted by their twenty octets: a table for [rpki_serials_have]. n entries take n log n steps.
+/// array, sorted by their twenty octets: a table for [rpki_serials_have]. n entries take n log n steps. No octets are
+/// no entries, those of a struct that is zeroed too.
 ///
 /// The status is 0, and `count` says how many entries there are; the rest of the array is unchanged. It is `TOO_SMALL`
 /// where the array has fewer places: `count` says how many there are, and the array is written over. Else it is the
 /// number of the error of the first that is no entry, and neither is written. Nothing is allocated.
 #[unsafe(no_mangle)]
 pub extern "C" fn rpki_serials(octets: &[u8], serials: &mut [[u8; 20]], count: &mut usize) -> u8
-    ensures { AreTabled octets.now result serials.old serials.new count.old count.new }
+    ensures tabled { AreTabled octets.now result serials.old serials.new count.old count.new }
+    ensures zeroed { octets.now ≡ [] → (result ≡ 0) × (count.new ≡ 0) }
 {
     match read_entries(octets) {
         Ok(()) => {}

@@ -1,7 +1,7 @@
 /*
  * Reads revocation lists with rpki_crl, and compares statuses and what is found with those of rows that rows.py writes,
- * and what rpki_crl_error writes; then asks rpki_crl_contains, and the table that rpki_serials makes, for each serial
- * number on a list, and for others. What a call refuses leaves `out` as it was. No call allocates.
+ * and what rpki_crl_error writes; then asks rpki_crl_contains, rpki_crl_revokes, and the table that rpki_serials makes,
+ * for each serial number on a list, and for others. What a call refuses leaves `out` as it was. No call allocates.
  *
  * usage: lists ROWS
  */
@@ -169,9 +169,29 @@ static void walk(unsigned line, struct rpki_span entries, const char *words) {
     judge(line, "no entry after the last", well && !memcmp(&rest, &end, sizeof rest));
 }
 
+/* Asks the list itself for each serial number of the words, and for the numbers beside it. */
+static void ask_list(unsigned line, const uint8_t *octets, size_t size, const char *words) {
+    static const uint8_t negative[20] = {0x80};
+    const char *all = words;
+    bool well = true;
+    count_allocations(0);
+    for (; words; words = strchr(words + 1, ' ')) {
+        uint8_t number[20];
+        char next[41];
+        hexadecimal(words + 1, number, sizeof number);
+        well = rpki_crl_revokes(octets, size, number) == RPKI_REVOKED && well;
+        number[0] ^= 0x40;
+        tell_octets(next, number, 20);
+        if (!strstr(all, next)) well = rpki_crl_revokes(octets, size, number) == RPKI_OK && well;
+    }
+    well = rpki_crl_revokes(octets, size, negative) == RPKI_CONTENT && well;
+    judge(line, "what the list revokes", took_none() && well);
+}
+
 /* The words are a status, and what is found or the number of the error. */
 static void list(unsigned line, const uint8_t *octets, size_t size, const char *words) {
     static char told[1024];
+    static const uint8_t none[20];
     struct rpki_crl_parts out;
     unsigned wanted = (unsigned)strtoul(words, (char **)&words, 10);
     unsigned error = wanted == RPKI_OK ? 0 : (unsigned)strtoul(words, NULL, 10);
@@ -181,6 +201,7 @@ static void list(unsigned line, const uint8_t *octets, size_t size, const char *
     judge(line, "allocates, or writes what it refuses", clean);
     judge_status(line, "the status", status, wanted);
     judge(line, "the error", is_wrong(octets, size, wanted, error));
+    if (wanted != RPKI_OK) judge_status(line, "no list", rpki_crl_revokes(octets, size, none), wanted);
     if (wanted != RPKI_OK || status != RPKI_OK) return;
     tell(octets, size, &out, told);
     numbers = following(told, words);
@@ -188,6 +209,7 @@ static void list(unsigned line, const uint8_t *octets, size_t size, const char *
     judge(line, "the parts", numbers != NULL);
     if (!numbers) return;
     ask(line, out.revoked_certs, *numbers ? numbers : NULL);
+    ask_list(line, octets, size, *numbers ? numbers : NULL);
     look_up(line, out.revoked_certs, *numbers ? numbers : NULL);
     walk(line, out.revoked_certs, *numbers ? numbers : NULL);
 }

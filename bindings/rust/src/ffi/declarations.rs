@@ -639,6 +639,7 @@ extern "C" {
     pub(super) fn rpki_crl_error(octets: *const u8, size: usize, error: *mut Status) -> Status;
     pub(super) fn rpki_crl_entry(rest: *mut Span, out: *mut RevokedCertificate) -> Status;
     pub(super) fn rpki_crl_contains(octets: *const u8, size: usize, serial: *const [u8; 20], out: *mut bool) -> Status;
+    pub(super) fn rpki_crl_revokes(octets: *const u8, size: usize, serial: *const [u8; 20]) -> Status;
     pub(super) fn rpki_serials(
         octets: *const u8,
         size: usize,
