@@ -9,8 +9,9 @@
  * have.
  *
  * Where the status is not 0, `out` is left as it was; only `*count` and `*written` of the calls that say so are written
- * with RPKI_TOO_SMALL too, `*at` of rpki_base64_read with RPKI_INVALID_SYMBOL to RPKI_INVALID_PADDING, and `*error` of
- * rpki_certificate_error and the other calls so named with each status but RPKI_OK.
+ * with RPKI_TOO_SMALL too, `*at` of rpki_base64_read with RPKI_INVALID_SYMBOL to RPKI_INVALID_PADDING, `*line` of
+ * rpki_locator with RPKI_LOCATOR_URI to RPKI_LOCATOR_KEY, and `*error` of rpki_certificate_error and the other calls so
+ * named with each status but RPKI_OK.
  *
  * What a call takes of memory it frees before it returns. At the peak rpki_walk, rpki_index, rpki_fault and
  * rpki_signed_data take up to 24 octets for each level of nesting, and 64 more. rpki_signed_data_write and
@@ -18,7 +19,8 @@
  * up to two octets for each that they read or write, and 512 more; rpki_base64_read of more than 128 octets takes up to
  * three for each that it reads, and 512 more. rpki_ip_settle, rpki_as_settle, rpki_roa_is_within and the calls on
  * authorities take up to 384 octets for each block and prefix that they read or write, and 1,024 more, but for
- * rpki_authority_list and rpki_authority_manifest. All others take none (those on names and certificates, the others on
+ * rpki_authority_list and rpki_authority_manifest; rpki_locator, rpki_locator_uri and rpki_locator_key up to 64 for
+ * each octet that they read, and 1,024 more. All others take none (those on names and certificates, the others on
  * resources, rpki_hex, rpki_base64_write, rpki_serial_decimal, those that count times on, and the calls on URIs too),
  * and so never return RPKI_OUT_OF_MEMORY.
  * So bound the size of what strangers send before you hand it in.
@@ -134,6 +136,13 @@ enum {
                                   one before, or in an https URI right after it, and the last ends with the text */
     RPKI_TOO_LONG = 15,        /* what is written would have contents of 2^32 octets or more, or numbers have more
                                   octets than a key may have, or an arc more than rpki_oid_text writes */
+
+    /* Of rpki_locator: why the text is no trust anchor locator. */
+    RPKI_LOCATOR_URI = 24,    /* a line before the empty one is neither a comment nor such a URI */
+    RPKI_LOCATOR_NO_URI = 25, /* no URI follows the comments */
+    RPKI_LOCATOR_NO_KEY = 26, /* no empty line follows the URIs */
+    RPKI_LOCATOR_TEXT = 27,   /* what follows the empty line is no base 64 */
+    RPKI_LOCATOR_KEY = 28,    /* what that stands for is no public key */
 
     /* Of rpki_base64_read: why the text is not base 64. */
     RPKI_INVALID_SYMBOL = 40,      /* an octet that is no symbol, or padding that is not at the end or too much */
@@ -1524,6 +1533,35 @@ rpki_status rpki_authority_providers(const struct rpki_authority *by, const uint
 rpki_status rpki_authority_manifest(const struct rpki_authority *by, const uint8_t *octets, size_t size, bool strict,
                                     struct rpki_span *room, size_t capacity) RPKI_CHECKED;
 
+/* ---- Trust anchor locators: all of the octets are the text of one ---- */
+
+/*
+ * Reads a trust anchor locator (RFC 8630 2.2): lines of comments, which begin with `#`; a line for each URI, one at
+ * least, an rsync URI of an object, not of a folder, or an https URI; an empty line; and the public key, a
+ * SubjectPublicKeyInfo, in base 64 with padding, in any number of lines. A line ends with a line feed, and perhaps a
+ * carriage return before it, or with the text. `*count` is how many URIs there are.
+ *
+ * RPKI_OK, and `*line` is left as it was. Else `*count` is, and `*line` is the number of the line, from 1:
+ * RPKI_LOCATOR_ statuses, that of the first malformed line. RPKI_OUT_OF_MEMORY: neither is written.
+ */
+rpki_status rpki_locator(const uint8_t *text, size_t size, size_t *count, size_t *line) RPKI_CHECKED;
+
+/*
+ * Writes a URI of a trust anchor locator, that of this number, from 0, as it is spelled, to the front of `out`, which
+ * has room for `capacity` octets. The URIs are in the order in which they are to be tried. `*written` is how many
+ * octets it has, with RPKI_TOO_SMALL too. Else the status is one of rpki_locator, or RPKI_NO_ANSWER: there are no more.
+ */
+rpki_status rpki_locator_uri(const uint8_t *text, size_t size, size_t number, uint8_t *out, size_t capacity,
+                             size_t *written) RPKI_CHECKED;
+
+/*
+ * Writes the public key of a trust anchor locator likewise, as rpki_public_key_write writes it: for
+ * rpki_authority_anchor. The statuses are those of rpki_locator, RPKI_TOO_SMALL, and RPKI_TOO_LONG, as of
+ * rpki_public_key_write.
+ */
+rpki_status rpki_locator_key(const uint8_t *text, size_t size, uint8_t *out, size_t capacity,
+                             size_t *written) RPKI_CHECKED;
+
 /* ---- URIs ---- */
 
 /*
@@ -2070,6 +2108,11 @@ static inline const char *rpki_status_text(rpki_status status) {
         case RPKI_OTHER_ALGORITHM: return "another algorithm";
         case RPKI_OTHER_PARTS: return "other parts";
         case RPKI_TOO_LONG: return "too long to be written";
+        case RPKI_LOCATOR_URI: return "not a URI that a trust anchor locator may have";
+        case RPKI_LOCATOR_NO_URI: return "no URI in a trust anchor locator";
+        case RPKI_LOCATOR_NO_KEY: return "no empty line after the URIs of a trust anchor locator";
+        case RPKI_LOCATOR_TEXT: return "key of a trust anchor locator is not base 64";
+        case RPKI_LOCATOR_KEY: return "key of a trust anchor locator is not a public key";
         case RPKI_INVALID_SYMBOL: return "no symbol of base 64";
         case RPKI_INVALID_LENGTH: return "no length of base 64";
         case RPKI_INVALID_LAST_SYMBOL: return "no last symbol of base 64";
@@ -2223,6 +2266,11 @@ static inline const char *rpki_status_name(rpki_status status) {
         case RPKI_OTHER_ALGORITHM: return "RPKI_OTHER_ALGORITHM";
         case RPKI_OTHER_PARTS: return "RPKI_OTHER_PARTS";
         case RPKI_TOO_LONG: return "RPKI_TOO_LONG";
+        case RPKI_LOCATOR_URI: return "RPKI_LOCATOR_URI";
+        case RPKI_LOCATOR_NO_URI: return "RPKI_LOCATOR_NO_URI";
+        case RPKI_LOCATOR_NO_KEY: return "RPKI_LOCATOR_NO_KEY";
+        case RPKI_LOCATOR_TEXT: return "RPKI_LOCATOR_TEXT";
+        case RPKI_LOCATOR_KEY: return "RPKI_LOCATOR_KEY";
         case RPKI_INVALID_SYMBOL: return "RPKI_INVALID_SYMBOL";
         case RPKI_INVALID_LENGTH: return "RPKI_INVALID_LENGTH";
         case RPKI_INVALID_LAST_SYMBOL: return "RPKI_INVALID_LAST_SYMBOL";

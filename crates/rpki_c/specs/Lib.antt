@@ -35,6 +35,7 @@ pub mod Issued
 pub mod SignerResources
 pub mod Below
 pub mod Revoked
+pub mod Locator
 pub mod Owned
 pub mod Authority
 pub mod AuthorityObject

@@ -39,7 +39,7 @@ fn kept_key(alloc: Global, octets: &[u8]) -> Result<PublicKey, u8>
 }
 
 /// Writes the value of a key. The status is as that of [store_if_short].
-fn store_key(alloc: Global, key: &PublicKey, out: &mut [u8], written: &mut usize) -> u8
+pub(crate) fn store_key(alloc: Global, key: &PublicKey, out: &mut [u8], written: &mut usize) -> u8
     ensures { IsMadeIf (IsShortKey key.now) (key_octets key.now) result out.old out.new written.old written.new }
 {
     store_if_short(alloc, &key.encode_ref(), out, written)

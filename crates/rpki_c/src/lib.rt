@@ -53,6 +53,7 @@ mod key_writing;
 mod keys;
 mod known_cert;
 mod list_issued;
+mod locator;
 mod manifest;
 mod manifest_names;
 mod moments;

@@ -28,6 +28,11 @@ pub(crate) const NO_PROFILE: Status = 12;
 pub(crate) const OTHER_ALGORITHM: Status = 13;
 pub(crate) const OTHER_PARTS: Status = 14;
 pub(crate) const TOO_LONG: Status = 15;
+pub(crate) const LOCATOR_URI: Status = 24;
+pub(crate) const LOCATOR_NO_URI: Status = 25;
+pub(crate) const LOCATOR_NO_KEY: Status = 26;
+pub(crate) const LOCATOR_TEXT: Status = 27;
+pub(crate) const LOCATOR_KEY: Status = 28;
 pub(crate) const INVALID_SYMBOL: Status = 40;
 pub(crate) const INVALID_LENGTH: Status = 41;
 pub(crate) const INVALID_LAST_SYMBOL: Status = 42;
@@ -819,6 +824,22 @@ extern "C" {
         strict: bool,
         room: *mut Span,
         capacity: usize,
+    ) -> Status;
+    pub(super) fn rpki_locator(text: *const u8, size: usize, count: *mut usize, line: *mut usize) -> Status;
+    pub(super) fn rpki_locator_uri(
+        text: *const u8,
+        size: usize,
+        number: usize,
+        out: *mut u8,
+        capacity: usize,
+        written: *mut usize,
+    ) -> Status;
+    pub(super) fn rpki_locator_key(
+        text: *const u8,
+        size: usize,
+        out: *mut u8,
+        capacity: usize,
+        written: *mut usize,
     ) -> Status;
     pub(super) fn rpki_rsync_parse(text: *const u8, size: usize, out: *mut RsyncParts) -> Status;
     pub(super) fn rpki_rsync_relative_to(
