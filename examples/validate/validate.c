@@ -24,30 +24,36 @@ static struct rpki_known_extensions known;
 static bool is(bool so, const char *wrong) { return so || fprintf(stderr, "%s: %s\n", uri, wrong) < 0; }
 static bool ok(rpki_status status) { return is(status == RPKI_OK, rpki_status_text(status)); }
 static bool ends(const char *ending) { return !strcmp(strrchr(uri, '.'), ending); }
-static struct rpki_span read_uri(void) {
+static struct rpki_span read_file(const char *path) {
     struct rpki_span found = {octets + used, 0};
-    FILE *file = fopen(uri + strlen("rsync://"), "rb");
+    FILE *file = fopen(path, "rb");
     if (file) used += found.size = fread(octets + used, 1, MOST_OCTETS - used, file), fclose(file);
     return found;
 }
-static void print_origins(void) {
+static struct rpki_span read_uri(void) { return read_file(uri + strlen("rsync://")); } /* "https://" is as long */
+static bool reads(struct rpki_span object) { return ok(rpki_signed_object(OF(object), false, &cms)); }
+static void print_origins(const struct rpki_authority *by, struct rpki_span object) {
     struct rpki_roa_parts roa = {0};
     struct rpki_roa_address_parts at;
+    if (!ok(rpki_authority_origin(by, OF(object), false)) || !reads(object)) return;
     for (int v6 = !ok(rpki_roa(OF(cms.content), false, &roa)) * 2; v6 < 2; v6++)
         while (rpki_roa_address(v6 ? &roa.v6 : &roa.v4, v6 ? RPKI_IPV6 : RPKI_IPV4, &at) == RPKI_OK)
             printf("AS%lu,%s/%d,%d\n", (unsigned long)roa.as_id,
                    inet_ntop(v6 ? AF_INET6 : AF_INET, at.address, text, TEXT), at.length, at.max_length);
 }
-static void print_providers(void) {
+static void print_providers(const struct rpki_authority *by, struct rpki_span object) {
     struct rpki_aspa_parts aspa = {0};
     uint32_t provider;
+    if (!ok(rpki_authority_providers(by, OF(object), false)) || !reads(object)) return;
     if (ok(rpki_aspa(OF(cms.content), &aspa))) printf("aspa AS%lu", (unsigned long)aspa.customer);
     while (rpki_aspa_provider(&aspa.providers, &provider) == RPKI_OK) printf(" AS%lu", (unsigned long)provider);
     puts("");
 }
-static void print_router(const struct rpki_resources *has) {
-    for (size_t block = 0; block < has->as_count; block++)
-        for (uint64_t number = has->as_blocks[block].low; number <= has->as_blocks[block].high; number++) {
+static void print_router(const struct rpki_authority *by, struct rpki_span cert) {
+    struct rpki_resources has = {0};
+    if (!ok(rpki_authority_end(by, OF(cert), RPKI_CERTIFICATE_ROUTER, ROOM(MOST - 1), &has))) return;
+    for (size_t block = 0; block < has.as_count; block++)
+        for (uint64_t number = has.as_blocks[block].low; number <= has.as_blocks[block].high; number++) {
             printf("router AS%lu ", (unsigned long)number);
             for (int octet = 0; octet < 20; octet++) printf(octet < 19 ? "%02X" : "%02X\n", known.subject_key[octet]);
         }
@@ -60,7 +66,6 @@ static bool visit(const struct rpki_authority *above) {
     struct rpki_manifest_parts manifest = {0};
     struct rpki_manifest_file_parts file = {0};
     struct rpki_authority by = {0}, below = {0};
-    struct rpki_resources has = {0};
     char folder[TEXT];
     size_t length = 0;
     if (!ok(rpki_certificate_extensions(OF(above->certificate), &known))) return false;
@@ -76,26 +81,19 @@ static bool visit(const struct rpki_authority *above) {
     seen[visited++] = above->keys[above->depth];
     int size = (int)(strrchr(strcpy(folder, uri), '/') + 1 - folder);
     object = read_uri();
-    if (!ok(rpki_signed_object(OF(object), false, &cms)) || !ok(rpki_manifest(OF(cms.content), &manifest)))
-        return false;
+    if (!reads(object) || !ok(rpki_manifest(OF(cms.content), &manifest))) return false;
     for (int pass = 0; pass < 2; pass++) { /* first whether all files are as listed, then what they are */
         for (files = manifest.files; files.size > 0;) {
             if (!ok(rpki_manifest_file(&files, &file))) return false;
             snprintf(uri, TEXT, "%.*s%.*s", size, folder, (int)file.name.size, (const char *)file.name.data);
             found = read_uri();
             if (!ok(rpki_manifest_file_is(file.digest, OF(found)))) return false;
-            if (pass == 0 && ends(".crl") && !is(!list.data, "a second list")) return false;
             if (pass == 0 && ends(".crl")) list = found;
             if (pass == 0) continue;
-            if (ends(".roa") && ok(rpki_authority_origin(&by, OF(found), false)) &&
-                ok(rpki_signed_object(OF(found), false, &cms)))
-                print_origins();
-            if (ends(".asa") && ok(rpki_authority_providers(&by, OF(found), false)) &&
-                ok(rpki_signed_object(OF(found), false, &cms)))
-                print_providers();
+            if (ends(".roa")) print_origins(&by, found);
+            if (ends(".asa")) print_providers(&by, found);
             if (!ends(".cer") || !ok(rpki_certificate_extensions(OF(found), &known))) continue;
-            if (!known.is_ca && ok(rpki_authority_end(&by, OF(found), RPKI_CERTIFICATE_ROUTER, ROOM(MOST - 1), &has)))
-                print_router(&has);
+            if (!known.is_ca) print_router(&by, found);
             if (known.is_ca && ok(rpki_authority_under(&by, OF(found), ROOM(by.depth + 1), &below))) visit(&below);
         }
         if (pass == 0 && !(ok(rpki_authority_list(above, OF(list), &by)) &&
@@ -105,15 +103,18 @@ static bool visit(const struct rpki_authority *above) {
     return true;
 }
 int main(int count, char **words) {
-    char *keys;
+    struct rpki_span locator = read_file(count > 2 ? words[1] : ""), cert;
     uint8_t key[TEXT];
-    size_t size = 0, at = 0;
+    size_t size = 0, length = 0;
     struct rpki_moment now;
     struct rpki_authority anchor = {0};
-    FILE *file = count > 2 ? fopen(words[1], "rb") : NULL;
-    if (!file || !fread(text, 1, sizeof text - 1, file) || !(keys = strstr(text, "\n\n")) || chdir(words[2]) ||
-        sscanf(text, "%4095s", uri) != 1 || !ok(rpki_time_of_seconds(count > 3 ? atoll(words[3]) : time(NULL), &now)) ||
-        !ok(rpki_base64_read((uint8_t *)keys, strlen(keys), RPKI_BASE64_XML, key, sizeof key, &size, &at)))
+    if (!ok(rpki_locator_key(OF(locator), key, sizeof key, &size)) || chdir(words[2]) ||
+        !ok(rpki_time_of_seconds(count > 3 ? atoll(words[3]) : time(NULL), &now)))
         return 2;
-    return !(ok(rpki_authority_anchor(OF(read_uri()), key, size, &now, ROOM(0), &anchor)) && visit(&anchor));
+    for (size_t at = 0; ok(rpki_locator_uri(OF(locator), at, (uint8_t *)uri, TEXT - 1, &length)); at++) {
+        uri[length] = 0;
+        cert = read_uri();
+        if (ok(rpki_authority_anchor(OF(cert), key, size, &now, ROOM(0), &anchor))) return !visit(&anchor);
+    }
+    return 1;
 }
