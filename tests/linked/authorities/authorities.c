@@ -27,10 +27,10 @@ enum { MOST_BLOCKS = 128, MOST_OCTETS = 1 << 15 };
 /* The calls. */
 enum call { ANCHOR, LIST, UNDER, END, ORIGIN, PROVIDERS, MANIFEST };
 
-/* The authorities that are asked: the anchor with its list and without, the one below it likewise, a zeroed one; the
- * one below as deep as may be; and it with a moment that is none, with other octets as its list, and with a block that
- * is inherited. */
-enum by { TOP, BARE_TOP, OWN, BARE_OWN, ZEROED, DEEPEST, TIMELESS, GARBLED, INHERITED, AUTHORITIES };
+/* The authorities that are asked: the anchor with its list and without, the one below it likewise, and with another
+ * list that it has issued; a zeroed one; the one below as deep as may be; and it with a moment that is none, with other
+ * octets as its list, and with a block that is inherited. */
+enum by { TOP, BARE_TOP, OWN, BARE_OWN, RELISTED, ZEROED, DEEPEST, TIMELESS, GARBLED, INHERITED, AUTHORITIES };
 
 /* A row: what is asked of whom, about which file, and the answer. `number` is a profile, whether reading is strict, how
  * much room there is, or of the anchor the moment. */
@@ -57,6 +57,7 @@ static const struct row rows[] = {
     {LIST, BARE_TOP, "ta.crl", 0, RPKI_OK},
     {LIST, BARE_OWN, "ca.crl", 0, RPKI_OK},
     {LIST, OWN, "ca.crl", 0, RPKI_OK},
+    {LIST, OWN, "again.crl", 0, RPKI_OK},
     {LIST, BARE_OWN, "none", 0, RPKI_PART_CERTIFICATE},
     {LIST, ZEROED, "ca.crl", 0, RPKI_NO_ISSUER},
     {LIST, BARE_TOP, "ca.crl", 0, RPKI_OTHER_ISSUER},
@@ -147,6 +148,7 @@ static const struct row rows[] = {
     {MANIFEST, OWN, "signer.mft", 2, RPKI_OTHER_SIGNER},
     {MANIFEST, OWN, "own.mft", 2, RPKI_NOT_INHERITED},
     {MANIFEST, OWN, "twice.mft", 2, RPKI_SAME_NAMES},
+    {MANIFEST, RELISTED, "ee.mft", 2, RPKI_OTHER_LIST},
     {MANIFEST, OWN, "unlisted.mft", 2, RPKI_OTHER_LIST},
     {MANIFEST, OWN, "other.mft", 2, RPKI_OTHER_LIST},
     {MANIFEST, OWN, "second.mft", 3, RPKI_OTHER_LIST},
@@ -394,6 +396,7 @@ int main(int count, char **words) {
     authorities[TOP] = made(TOP, "ta.cer", "ta.crl", NULL);
     authorities[BARE_OWN] = made(BARE_OWN, "ca.cer", NULL, &authorities[TOP]);
     authorities[OWN] = made(OWN, "ca.cer", "ca.crl", &authorities[TOP]);
+    authorities[RELISTED] = made(RELISTED, "ca.cer", "again.crl", &authorities[TOP]);
     authorities[DEEPEST] = authorities[TIMELESS] = authorities[GARBLED] = authorities[INHERITED] = authorities[OWN];
     authorities[DEEPEST].depth = RPKI_MOST_STEPS;
     authorities[TIMELESS].moment.month = 13;

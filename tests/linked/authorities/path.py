@@ -4,6 +4,7 @@ them what a path needs:
 
     ta.key       the anchor's public key, as a locator has it; router.key: another one, which is by no RSA
     ta.crl       the anchor's revocation list, which has the serial number of ca-gone.cer
+    again.crl    another list of the authority, which its manifests don't list
     self.cer     the authority's own certificate, by itself; up.cer: one of the anchor's key, by the authority
     twice.mft    a manifest that names two files alike; own.mft: one whose certificate has resources of its own
     unlisted.mft one without a list; other.mft: with another; second.mft: with the list by two names
@@ -32,10 +33,11 @@ def of_the_path(make):
     make.write("none", b"")
     make.write("ta.key", public(make.top))
     make.write("router.key", make.point)
-    own = lists.extensions([files.authority(make.top.identifier), lists.number()])
-    data = lists.fields(issuer=name("ta"), this=x509.time(FROM), next=x509.time(UNTIL),
-                        entries=sequence(entry(GONE)), extensions=own)
-    make.write("ta.crl", x509.signed(data, signature=bits(make.top.sign(data))))
+    for file, key, issuer in ("ta.crl", make.top, "ta"), ("again.crl", make.own, "ca"):
+        own = lists.extensions([files.authority(key.identifier), lists.number()])
+        data = lists.fields(issuer=name(issuer), this=x509.time(FROM), next=x509.time(UNTIL),
+                            entries=sequence(entry(GONE)), extensions=own)
+        make.write(file, x509.signed(data, signature=bits(key.sign(data))))
     make.issue("ca-gone.cer", "ca", serial=GONE, **HAS)
     make.write("self.cer", make.certificate("ca", make.own, name("ca"), name("ca"), **HAS))
     make.write("up.cer", make.certificate("ca", make.own, name("ca"), name("ta"), key=make.top, **HAS))

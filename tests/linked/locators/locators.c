@@ -93,10 +93,29 @@ static void judge_locator(unsigned line, const char *words) {
     judge(line, "how many URIs", out.count == count && untouched(&out.line, sizeof out.line));
 }
 
+/* Real and large sizes: so many empty lines after a locator, and a comment of so many octets before it. */
+static void judge_sizes(struct octets locator) {
+    static const size_t sizes[] = {0, 1, 127, 128, 255, 256, 65535, 65536, 1000000};
+    for (size_t at = 0; at < sizeof sizes / sizeof *sizes; at++) {
+        size_t size = sizes[at];
+        text = new_octets(NULL, locator.size + size, '\n');
+        memcpy(text.at, locator.at, locator.size);
+        judge_status(1, "empty lines", ask(1, WHOLE, 0, 0), RPKI_OK);
+        free(text.at);
+        text = new_octets(NULL, size + 2 + locator.size, '#');
+        text.at[size + 1] = '\n';
+        memcpy(text.at + size + 2, locator.at, locator.size);
+        judge_status(1, "a comment", ask(1, WHOLE, 0, 0), RPKI_OK);
+        free(text.at);
+    }
+    text = locator;
+}
+
 static void row(unsigned line, char *digits) {
     char *words = strchr(digits, ' ') + 1;
     unsigned due = (unsigned)strtoul(words, &words, 10);
     text = octets_spelt(digits);
+    if (line == 1) judge_sizes(text);
     if (due == RPKI_OK) {
         judge_locator(line, words + 1);
     } else {

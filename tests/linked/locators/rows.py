@@ -15,7 +15,10 @@ sys.path.append(os.path.join(os.path.dirname(os.path.abspath(__file__)), "..", "
 from makers import x509
 
 OTHER_URI, NO_URI, NO_KEY, OTHER_TEXT, OTHER_KEY = range(24, 29)
-KEY = x509.rsa_key(x509.rsa_numbers(b"\x00" + b"\xa5" * 256, b"\x01\x00\x01"))
+NUMBERS = x509.rsa_numbers(b"\x00" + b"\xa5" * 256, b"\x01\x00\x01")
+KEY = x509.rsa_key(NUMBERS)
+# The same without NULL, which the key that is written has (RFC 8017 A.1).
+BARE_KEY = x509.sequence(x509.algorithm("1.2.840.113549.1.1.1", b""), x509.bits(NUMBERS))
 DIGITS = base64.b64encode(KEY)
 RSYNC, HTTPS = b"rsync://rpki.example/repo/ta.cer", b"https://rpki.example/ta.cer"
 # Texts that are locators, each with its URIs.
@@ -27,6 +30,7 @@ RIGHT = [
     (RSYNC + b"\n" + HTTPS + b"\r\n" + HTTPS + b"\n\n" + DIGITS + b"\n", [RSYNC, HTTPS, HTTPS]),
     (b"# one\n#\r\n# rsync://other/\n" + HTTPS + b"\n\n" + DIGITS + b"\n", [HTTPS]),
     (RSYNC + b"\n\n" + base64.encodebytes(KEY), [RSYNC]),
+    (RSYNC + b"\n\n" + base64.b64encode(BARE_KEY), [RSYNC]),
     (RSYNC + b"\n\n" + base64.encodebytes(KEY).replace(b"\n", b"\r\n") + b"\n\n", [RSYNC]),
     (RSYNC + b"\n\n" + b"\n".join(DIGITS[at:at + 1] for at in range(len(DIGITS))), [RSYNC]),
     (b"RSYNC://RPKI.example/repo/ta.cer\nHTTPS://rpki.example\n\n" + DIGITS,
