@@ -1,7 +1,11 @@
 """Local exceptions (RFC 8416)."""
 import base64
+import ipaddress
 import json
 import os
+import re
+import shutil
+import subprocess
 
 from counting import holds
 from repositories import below, edit, payloads, router_key, url_safe
@@ -216,6 +220,62 @@ def several(program, maker, folder, left):
     status, output, faults = program.run(folder, "--exceptions", first, third)
     holds("exceptions: the second file",
           status == 2 and not output and f"{third}: RFC 8416 3.1: line 1: not JSON\n" in faults, faults)
+
+
+def addresses(count, odd, low=ipaddress.ip_address("10.0.0.0")):
+    """So many addresses from the lowest on, each as a prefix: every second one, so that two files take turns."""
+    return [{"prefix": str(ipaddress.ip_network(low + 2 * it + odd))} for it in range(count)]
+
+
+def numbers(count, odd):
+    return [{"asn": 2 * it + odd} for it in range(count)]
+
+
+LOW, LAST = ipaddress.ip_address("2001:db8::"), {"prefix": "203.0.113.0/24"}
+SHARED = "203.0.113.0/24 and 203.0.113.0/24 overlap"
+# A name, what a file of many exceptions has, the first and the other one, and what is said of the two: the last is in
+# conflict.
+MANY = (("prefixes", lambda count, odd: slurm([*addresses(count, odd), LAST]), SHARED),
+        ("prefixes of IPv6", lambda count, odd: slurm([*addresses(count, odd, LOW), LAST]), SHARED),
+        ("one prefix often", lambda count, odd: slurm([{"prefix": f"{10 + odd}.0.0.0/8"}] * count + [LAST]), SHARED),
+        ("prefixes that are added",
+         lambda count, odd: slurm(assertions=[{"asn": 1, **it} for it in [*addresses(count, odd), LAST]]), SHARED),
+        ("AS numbers of keys", lambda count, odd: slurm(key_filters=[*numbers(count, odd), {"asn": 4200000000}]),
+         "both have router keys of AS4200000000"))
+# How many times the instructions of a file twice as long are at most.
+TWICE_AS_LONG = 2.2
+
+
+def instructions(path, *words):
+    """How many instructions callgrind counts of a run."""
+    options = ["--tool=callgrind", "--callgrind-out-file=/dev/null"]
+    ended = subprocess.run([shutil.which("valgrind"), *options, path, *words], stdout=subprocess.PIPE,
+                           stderr=subprocess.PIPE, check=False, timeout=300)
+    return int(re.search(rb"Collected : (\d+)", ended.stderr)[1])
+
+
+def many_exceptions(program, maker):
+    """Two files of many exceptions, of which the last are in conflict, and of twice as many; and of a real size. No
+    instructions are counted without valgrind."""
+    folder, files = maker.repository(2, 2, 1), [os.path.join(maker.room, name) for name in ("one.json", "two.json")]
+
+    def made(of, count):
+        for odd, file in enumerate(files):
+            edit(file, json.dumps(of(count, odd), separators=(",", ":")).encode())
+
+    for name, of, said in MANY:
+        counts = []
+        for count in (1_000, 2_000):
+            made(of, count)
+            told = f"rpkivalid: {files[0]} and {files[1]}: RFC 8416 4.2: {said}\n"
+            status, output, faults = program.run(folder, "--exceptions", *files)
+            holds(f"exceptions: {count} {name}", (status, output, faults[-len(told):]) == (2, "", told), faults[-300:])
+            if shutil.which("valgrind"):
+                counts.append(instructions(*program.words(folder, "--exceptions", *files)))
+        if counts:
+            holds(f"exceptions: twice as many {name}", counts[1] <= TWICE_AS_LONG * counts[0], counts)
+    made(lambda count, odd: slurm(addresses(count, odd), numbers(count, odd)), 100_000)
+    program.holds("exceptions: 200,000 filters in each of two", folder, payloads([1, 2], 1), 0, "--exceptions", *files)
 
 
 def key_exceptions(program, folder, file):

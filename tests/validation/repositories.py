@@ -92,10 +92,13 @@ class Program:
     def __init__(self, path):
         self.path = path
 
+    def words(self, folder, *words):
+        """A run's program and its words."""
+        return [self.path, "--tal", os.path.join(folder, "example.tal"), "--cache", folder, "--at", AT, *words]
+
     def run(self, folder, *words, **environment):
-        words = [self.path, "--tal", os.path.join(folder, "example.tal"), "--cache", folder, "--at", AT, *words]
-        ended = subprocess.run(words, stdout=subprocess.PIPE, stderr=subprocess.PIPE, check=False, timeout=300,
-                               env={**os.environ, **environment})
+        ended = subprocess.run(self.words(folder, *words), stdout=subprocess.PIPE, stderr=subprocess.PIPE, check=False,
+                               timeout=300, env={**os.environ, **environment})
         return ended.returncode, ended.stdout.decode(), ended.stderr.decode()
 
     def holds(self, name, folder, lines, status, *words):

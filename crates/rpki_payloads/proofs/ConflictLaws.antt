@@ -1,10 +1,16 @@
 -- Files of local exceptions that are in conflict, and what is looked for in lists.
 use Rattle.std.proofs.Common.{◌≡◌, ◌∙◌, ◌⊎◌, inl, inr, ℕ, zero, suc, ◌+◌, ◌<◌, ◌≤◌, List, [], ◌∷◌, length, take, arith}
-use Rattle.std.proofs.Common.{refl, subst, sym}
-use Rattle.std.proofs.lemmas.List.{length-take}
+use Rattle.std.proofs.Common.{◌↔◌, get_or, refl, subst, sym}
+use Rattle.std.proofs.lemmas.Bool.{false≢true}
+use Rattle.std.proofs.lemmas.List.{get_or_default, length-take}
+use Rattle.std.proofs.lemmas.List.Sorted.{Contains-permutation, IsNonDecreasingBy-from_sort, IsPermutation-sym}
+use Rattle.std.proofs.lemmas.List.Sorted.{searched}
 use Rattle.std.proofs.lemmas.Option.{slice_get_within}
 use Rattle.std.specs.List.{Contains}
-use Rattle.std.specs.Prelude.{Some, slice_get, string_bytes}
+use Rattle.std.specs.List.Sorted.{IsBinarySearchResult, IsNonDecreasing, IsPermutation, IsSorted}
+use Rattle.std.specs.Ordering.{nat_cmp}
+use Rattle.std.specs.Prelude.{IsTrue, MatchResult, Option, Some, Result, Ok, Err, slice_get, string_bytes}
+use Rattle.std.specs.Result.{is_ok}
 use Rattle.rpki_resources.specs.declared.ip_text.Prefix.{Prefix}
 use Rattle.rpki_payloads.specs.declared.conflict.Conflict.{Conflict}
 use Rattle.rpki_payloads.specs.declared.conflict.Overlap.{Overlap}
@@ -12,7 +18,8 @@ use Rattle.rpki_payloads.specs.declared.conflict.Overlap.TheVariants.{Name, Pref
 use Rattle.rpki_payloads.specs.declared.exceptions.NamedExceptions.{NamedExceptions}
 use Rattle.rpki_payloads.specs.Conflict.{IsConflict, IsOverlap, OverlapsAt, ShareAddress, numbers_of, prefixes_of}
 use Rattle.rpki_payloads.proofs.AmongLaws.{IsKeptOf, head-in, kept-all, kept-first, none-in, one-out}
-use Rattle.rpki_payloads.proofs.FindsLaws.{the-same}
+use Rattle.rpki_payloads.specs.Exceptions.{Finds}
+use Rattle.rpki_payloads.proofs.FindsLaws.{finds-as, the-same}
 
 -- ---- what P is true of is looked for: not in front of the rest
 
@@ -34,6 +41,42 @@ pub sought-none : {X : Type 0} (P : X → Type 0) (all rest : List X) → IsSoug
     → Contains all x → P x → ⊥
 sought-none P all rest h is x in_all p =
     none-in x ((kept-all (λ y. P y → ⊥) all rest [] h is x).1 (in_all, λ none. none p))
+
+-- ---- a number that is searched for among those in order
+
+order : (i j : ℕ) → (i < j) ⊎ (j ≤ i)
+order i j = grind arith
+
+pub among-found : (xs : List ℕ) (x : ℕ) (r : Result ℕ ℕ) → IsNonDecreasing xs
+    → IsBinarySearchResult (λ y. nat_cmp y x) xs r → IsTrue (is_ok r) ↔ Contains xs x
+among-found xs x r up found = by r (searched xs x r found (λ i j le lt. up i j 0 le lt))
+  where
+    by : (r : Result ℕ ℕ) → MatchResult r (λ i. (i < length xs) × (get_or xs i 0 ≡ x))
+        (λ i. (i ≤ length xs) × ((k : ℕ) → k < i → get_or xs k 0 < x)
+        × ((k : ℕ) → i ≤ k → k < length xs → x < get_or xs k 0)) → IsTrue (is_ok r) ↔ Contains xs x
+    by (Ok i) h = (λ t. (i, h.0, get_or_default xs i x 0 h.0 ∙ h.1), λ c. refl)
+    by (Err i) h = (λ t. absurd (false≢true t), λ c. absurd (none c (order c.0 i)))
+      where
+        none : (c : Contains xs x) → (c.0 < i) ⊎ (i ≤ c.0) → ⊥
+        none c (inl below) =
+            let less = h.1 c.0 below in
+            let same = get_or_default xs c.0 x 0 c.1 in
+            omega (arith, less, same, c.2)
+        none c (inr above) =
+            let more = h.2 c.0 above c.1 in
+            let same = get_or_default xs c.0 x 0 c.1 in
+            omega (arith, more, same, c.2)
+
+pub in-order : (xs : List ℕ) → IsSorted nat_cmp xs → IsNonDecreasing xs
+in-order xs up = IsNonDecreasingBy-from_sort (λ x. x) xs up
+
+-- a number that is among both, of which the others are put in order
+pub finds-permuted : (xs ys zs : List ℕ) (o : Option ℕ) → IsPermutation ys zs
+    → Finds (λ n. Contains xs n × Contains zs n) o → Finds (λ n. Contains xs n × Contains ys n) o
+finds-permuted xs ys zs o moved found =
+    finds-as o (λ n. Contains xs n × Contains zs n) (λ n. Contains xs n × Contains ys n)
+    (λ n h. (h.0, Contains-permutation zs ys n (IsPermutation-sym ys zs moved) h.1))
+    (λ n h. (h.0, Contains-permutation ys zs n moved h.1)) found
 
 -- two files have nothing in common that they may not
 pub no-overlap : (one other : NamedExceptions) → (string_bytes one.name ≡ string_bytes other.name → ⊥)

@@ -4,9 +4,9 @@
 -- there is nothing else: FindsLaws.
 -- That payloads which compare as equal are one, and which are among converted ones: OrderLaws. The providers of a
 -- customer together: VapLaws.
--- What is among a list, one by one: AmongLaws. What is looked for there, and files in conflict: ConflictLaws. The
--- latest end of a payload: TimedLaws. Local exceptions, and how many members an object of JSON has: ExceptionLaws,
--- MemberLaws. Texts of metrics: MetricLaws.
+-- What is among a list, one by one: AmongLaws. What is looked for there, and files in conflict: ConflictLaws.
+-- Addresses that prefixes have in common: SharedLaws. The latest end of a payload: TimedLaws. Local exceptions, and how
+-- many members an object of JSON has: ExceptionLaws, MemberLaws. Texts of metrics: MetricLaws.
 
 mod AloneLaws
 mod AmongLaws
@@ -17,5 +17,6 @@ mod ListedLaws
 pub mod MemberLaws
 mod MetricLaws
 mod OrderLaws
+mod SharedLaws
 mod TimedLaws
 mod VapLaws

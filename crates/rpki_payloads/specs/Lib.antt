@@ -9,6 +9,7 @@ pub mod Covered
 pub mod Filtered
 pub mod Exceptions
 pub mod Conflict
+pub mod Shared
 pub mod ExceptionsText
 pub mod Listed
 pub mod Quoted

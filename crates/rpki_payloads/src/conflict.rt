@@ -2,16 +2,17 @@
 
 ghost use Rattle.std.specs.Prelude.{◌≡◌, ◌++◌, ◌↔◌, IfOk, OnOk, IsTrue};
 ghost use Rattle.std.specs.List.{Contains};
+ghost use Rattle.std.specs.List.Sorted.{IsNonDecreasing};
 ghost use Rattle.rpki_payloads.specs.Conflict.{IsConflict, IsOverlap, OverlapsAt, ShareAddress};
 ghost use Rattle.rpki_payloads.specs.Conflict.{added_numbers, added_prefixes, filtered_numbers, filtered_prefixes};
 ghost use Rattle.rpki_payloads.specs.Conflict.{numbers_of, prefixes_of};
 ghost use Rattle.rpki_payloads.specs.Exceptions.{Finds};
 
-use crate::covered::is_covered;
 use crate::exceptions::{Exceptions, NamedExceptions};
 use crate::filters::PrefixFilter;
 use crate::key_filters::KeyFilter;
 use crate::router_key::RouterKey;
+use crate::shared::overlapping;
 use crate::vrp::Vrp;
 use rpki_resources::Prefix;
 use std::alloc::{AllocError, Global};
@@ -102,54 +103,17 @@ fn numbers_of(alloc: Global, exceptions: &Exceptions) -> Result<Vec<u32>, AllocE
     Ok(all)
 }
 
-/// Whether an address is in both prefixes.
-fn share_address(one: Prefix, other: Prefix) -> bool
-    ensures { IsTrue result ↔ ShareAddress one other }
-{
-    if is_covered(one, other) {
-        return true;
-    }
-    is_covered(other, one)
-}
-
-/// One of these prefixes that has an address of this one.
-fn shared_with(prefix: Prefix, others: &[Prefix]) -> Option<Prefix>
-    ensures { Finds (λ other. Contains others.now other × ShareAddress prefix other) result }
-{
-    let mut rest = others;
-    'others: while let Some((first, following)) = rest.split_first() {
-        if share_address(prefix, *first) {
-            return Some(*first);
-        }
-        rest = following;
-    }
-    None
-}
-
-/// One of these prefixes, and one of the others, that have an address in common.
-fn shared(prefixes: &[Prefix], others: &[Prefix]) -> Option<(Prefix, Prefix)>
-    ensures { Finds (λ both. Contains prefixes.now both.0 × Contains others.now both.1
-        × ShareAddress both.0 both.1) result }
-{
-    let mut rest = prefixes;
-    'prefixes: while let Some((first, following)) = rest.split_first() {
-        if let Some(other) = shared_with(*first, others) {
-            return Some((*first, other));
-        }
-        rest = following;
-    }
-    None
-}
-
-/// Whether the number is one of these.
+/// Whether the number is one of these, which are in order.
 fn is_among(number: u32, others: &[u32]) -> bool
+    requires { IsNonDecreasing others.now }
     ensures { IsTrue result ↔ Contains others.now number }
 {
-    others.contains(&number)
+    others.binary_search(&number).is_ok()
 }
 
-/// A number that is among both.
+/// A number that is among both, of which the others are in order.
 fn in_both(numbers: &[u32], others: &[u32]) -> Option<u32>
+    requires { IsNonDecreasing others.now }
     ensures { Finds (λ number. Contains numbers.now number × Contains others.now number) result }
 {
     let mut rest = numbers;
@@ -173,7 +137,7 @@ fn prefixes_in_both(
 {
     let prefixes = prefixes_of(alloc, one)?;
     let others = prefixes_of(alloc, other)?;
-    Ok(shared(prefixes.as_slice(), others.as_slice()))
+    overlapping(alloc, prefixes.as_slice(), others.as_slice())
 }
 
 /// An AS number of keys of two files.
@@ -186,7 +150,8 @@ fn number_in_both(
         × Contains (numbers_of other.now) number)) }
 {
     let numbers = numbers_of(alloc, one)?;
-    let others = numbers_of(alloc, other)?;
+    let mut others = numbers_of(alloc, other)?;
+    others.sort_unstable();
     Ok(in_both(numbers.as_slice(), others.as_slice()))
 }
 
@@ -229,7 +194,7 @@ fn overlap_with(
 
 /// Two of the files of local exceptions that are in conflict (RFC 8416 4.2): an address is in a prefix of filters or
 /// assertions of each, or an AS number is used by filters or assertions of keys of each; or that have one name. None if
-/// no two are.
+/// no two are. Two files take n log n steps.
 ///
 /// Returns `AllocError` if allocation fails.
 pub fn conflict_in(alloc: Global, files: &[NamedExceptions]) -> Result<Option<Conflict>, AllocError>

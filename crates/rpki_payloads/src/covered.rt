@@ -18,7 +18,7 @@ pub(crate) fn width_of(addr: IpAddr) -> u8
 }
 
 /// The number that the bits of the address make.
-fn number_of(addr: IpAddr) -> u128
+pub(crate) fn number_of(addr: IpAddr) -> u128
     ensures number { result ≡ address_number addr }
     ensures below { result < 2 ^ address_width addr }
 {

@@ -33,6 +33,7 @@ mod payloads;
 mod quoted;
 mod route;
 mod router_key;
+mod shared;
 mod stayrtr;
 mod tally;
 mod timed;

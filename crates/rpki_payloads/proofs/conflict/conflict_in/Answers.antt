@@ -1,6 +1,5 @@
 use Rattle.std.proofs.Common.{◌≡◌, ◌<◌, arith, get_or, length, refl, rules}
 use Rattle.std.proofs.lemmas.Option.{slice_get_read}
-use Rattle.std.specs.Prelude.{Some, slice_get}
 use Rattle.rpki_payloads.proofs.ConflictLaws.{is-conflict, no-conflict, no-conflict-next}
 use Rattle.rpki_payloads.proofs.conflict.conflict_in.Goals as goal
 
