@@ -1,5 +1,5 @@
 -- What files say is added, file after file; and what octets say under a list.
-use Rattle.std.proofs.Common.{◌≡◌, ◌⊎◌, ◌++◌, ◌+◌, inl, inr, ℕ, List, [], ◌∷◌, length, subst, sym}
+use Rattle.std.proofs.Common.{◌≡◌, ◌⊎◌, ◌++◌, ◌+◌, inl, inr, ℕ, List, [], ◌∷◌, length, subst, sym, ap, refl}
 use Rattle.std.proofs.Common.{arith}
 use Rattle.std.proofs.Common.{codes}
 use Rattle.std.specs.List.{Contains}
@@ -19,10 +19,10 @@ use Rattle.rpki_validation.specs.declared.stop.Stop.{Stop}
 use Rattle.rpki_validation.specs.declared.stop.Stop.TheVariants.{Rejected, OutOfMemory}
 use Rattle.rpki_validation.specs.Adding.{AddsFile, AddsFiles, Found, IsSaidAmong, IsSaidBy, MayIssue, SaysOriginHere}
 use Rattle.rpki_validation.specs.Adding.{AreProvidersHere, IsCertHere, UnlessMemory}
-use Rattle.rpki_validation.specs.Alike.{Alike, AreAlike}
+use Rattle.rpki_validation.specs.Basis.{holder_of, holders}
 use Rattle.rpki_validation.specs.Finding.{IsNone, IsSole, StopsAt}
-use Rattle.rpki_validation.specs.Next.{AreSistersBelow, IsMet, IsOf, IsSister}
-use Rattle.rpki_validation.specs.Taking.{Adds, IsTaking}
+use Rattle.rpki_validation.specs.Sisters.{AreSistersBelow, IsSister}
+use Rattle.rpki_validation.specs.Taking.{Adds}
 
 -- ---- steps
 
@@ -31,14 +31,6 @@ pub stops-none : {V : Type 0} (P : V → Type 0) (K : Reason → Type 0) (A : Ty
     → StopsAt P K s → UnlessMemory A s
 stops-none P K A (Rejected reason) f h = f h.0
 stops-none P K A OutOfMemory f h = tt
-
--- ---- what is alike
-
-pub alike-map : (P Q : Holder → Type 0) → ((x : Holder) → P x → Q x) → (y : Holder) → Alike P y → Alike Q y
-alike-map P Q f y h = (h.0, f h.0 h.1, h.2)
-
-pub alike-none : (P : Holder → Type 0) → IsNone P → IsNone (Alike P)
-alike-none P none y h = none h.0 h.1
 
 -- ---- lists
 
@@ -54,17 +46,6 @@ pub record IsSplit {V : Type 0} (Left Here Later : V → Type 0) : Type 0 where
   pub cases : (v : V) → Left v → Here v ⊎ Later v
   pub here : (v : V) → Here v → Left v
   pub later : (v : V) → Later v → Left v
-
-split-alike : (Left Here Later : Holder → Type 0) → IsSplit Left Here Later
-    → IsSplit (Alike Left) (Alike Here) (Alike Later)
-split-alike Left Here Later split = record {
-  cases = λ y h. by y h.0 h.2 (split.cases h.0 h.1);
-  here = alike-map Here Left split.here;
-  later = alike-map Later Left split.later;
-} where
-  by : (y x : Holder) → AreAlike x y → Here x ⊎ Later x → Alike Here y ⊎ Alike Later y
-  by y x a (inl h) = inl (x, h, a)
-  by y x a (inr h) = inr (x, h, a)
 
 module _ {V : Type 0} where
   -- the one thing that P is true of
@@ -129,71 +110,12 @@ module _ {V : Type 0} where
     back (inl k) = h.kept v k
     back (inr k) = there (h.all v k)
 
--- ---- the next level
+-- ---- the authorities below
 
--- of all that are to be taken, what isn't left is met
-pub record IsTaken {N : Type 0} (Left All Met Met' Next Next' : N → Type 0) : Type 0 where
-  pub taken : (x : N) → Next' x → Next x ⊎ All x
-  pub all : (x : N) → All x → Met' x ⊎ Left x
-  pub left : (x : N) → Left x → All x
-  pub kept : (x : N) → Met' x → Met x ⊎ Next' x
-  pub met : (x : N) → Met x → Met' x
-  pub next : (x : N) → Next x → Next' x
-
-module _ {N : Type 0} where
-  pub taken-start : (All Met Next : N → Type 0) → IsTaken All All Met Met Next Next
-  taken-start All Met Next = record {
-    taken = λ x h. inl h;
-    all = λ x h. inr h;
-    left = λ x h. h;
-    kept = λ x h. inl h;
-    met = λ x h. h;
-    next = λ x h. h;
-  }
-
-  module _ (Left Here Later All Met Met' Next Next' : N → Type 0) (before : IsTaken Left All Met Met' Next Next')
-      (split : IsSplit Left Here Later) (Met'' Next'' : N → Type 0) (step : IsTaking Here Met' Met'' Next' Next'')
-    where
-      taken-then : (x : N) → Next' x ⊎ Here x → Next x ⊎ All x
-      taken-then x (inl h) = before.taken x h
-      taken-then x (inr h) = inr (before.left x (split.here x h))
-
-      met-then : (x : N) → Met' x ⊎ Left x → Met'' x ⊎ Later x
-      met-then x (inl h) = inl (step.met x h)
-      met-then x (inr h) = left-then (split.cases x h) where
-        left-then : Here x ⊎ Later x → Met'' x ⊎ Later x
-        left-then (inl k) = inl (step.all x k)
-        left-then (inr k) = inr k
-
-      kept-then : (x : N) → Met' x ⊎ Next'' x → Met x ⊎ Next'' x
-      kept-then x (inl h) = now (before.kept x h) where
-        now : Met x ⊎ Next' x → Met x ⊎ Next'' x
-        now (inl k) = inl k
-        now (inr k) = inr (step.next x k)
-      kept-then x (inr h) = inr h
-
-      pub taken-step : IsTaken Later All Met Met'' Next Next''
-      taken-step = record {
-        taken = λ x h. taken-then x (step.taken x h);
-        all = λ x h. met-then x (before.all x h);
-        left = λ x h. before.left x (split.later x h);
-        kept = λ x h. kept-then x (step.kept x h);
-        met = λ x h. step.met x (before.met x h);
-        next = λ x h. step.next x (before.next x h);
-      }
-
-  pub taken-end : (Left All Met Met' Next Next' : N → Type 0) → IsNone Left → IsTaken Left All Met Met' Next Next'
-      → IsTaking All Met Met' Next Next'
-  taken-end Left All Met Met' Next Next' none h = record {
-    taken = h.taken;
-    all = λ x k. there x (h.all x k);
-    kept = h.kept;
-    met = h.met;
-    next = h.next;
-  } where
-    there : (x : N) → Met' x ⊎ Left x → Met' x
-    there x (inl k) = k
-    there x (inr k) = absurd (none x k)
+pub holders-push : {X : Type 0} (level : List (Authority X)) (a : Authority X)
+    → holders (level ++ a ∷ []) ≡ holders level ++ holder_of a ∷ []
+holders-push [] a = refl
+holders-push (b ∷ level) a = ap (λ (l : List Holder). holder_of b ∷ l) (holders-push level a)
 
 module _ {X : Type 0} (issuer : Authority X) (at : DateTime) where
   abbrev Below : Authority X → Type 0
@@ -250,31 +172,29 @@ module _ {X : Type 0} (rsa ecdsa : X → Check) (sha1 sha256 : X → List ℕ �
   CaCert = IsCertHere rsa ecdsa sha1 sha256 c Ca
 
   -- of what files say, what the rest say is still to be added
-  pub record AreLeft (files rest : List ListedFile) (octets more : List (List ℕ)) (old now : Found X) : Type 0 where
+  pub record AreLeft (files rest : List ListedFile) (octets more : List (List ℕ)) (old now : Found) : Type 0 where
     pub origins : IsAdded (λ v. IsSaidAmong (codes ".roa") (Origin v) rest more)
         (λ v. IsSaidAmong (codes ".roa") (Origin v) files octets) old.origins now.origins
     pub providers : IsAdded (λ x. IsSaidAmong (codes ".asa") (Providers x) rest more)
         (λ x. IsSaidAmong (codes ".asa") (Providers x) files octets) old.providers now.providers
     pub routers : IsAdded (λ x. IsSaidAmong (codes ".cer") (RouterCert x) rest more)
         (λ x. IsSaidAmong (codes ".cer") (RouterCert x) files octets) old.routers now.routers
-    pub below : MayIssue rsa ecdsa sha1 sha256 c
-        → IsTaken (Alike (λ x. IsSaidAmong (codes ".cer") (CaCert x) rest more))
-        (Alike (λ x. IsSaidAmong (codes ".cer") (CaCert x) files octets)) (IsMet old.met) (IsMet now.met)
-        (IsOf old.level) (IsOf now.level)
+    pub below : MayIssue rsa ecdsa sha1 sha256 c → IsAdded (λ x. IsSaidAmong (codes ".cer") (CaCert x) rest more)
+        (λ x. IsSaidAmong (codes ".cer") (CaCert x) files octets) old.below now.below
 
-  module _ (files : List ListedFile) (octets : List (List ℕ)) (old : Found X) where
+  module _ (files : List ListedFile) (octets : List (List ℕ)) (old : Found) where
     pub files-start : AreLeft files files octets octets old old
     files-start = record {
       origins = added-start _ old.origins;
       providers = added-start _ old.providers;
       routers = added-start _ old.routers;
-      below = λ may. taken-start _ _ _;
+      below = λ may. added-start _ old.below;
     }
 
-    module _ (rest : List ListedFile) (more : List (List ℕ)) (now : Found X)
+    module _ (rest : List ListedFile) (more : List (List ℕ)) (now : Found)
         (before : AreLeft files rest octets more old now) where
       pub files-step : (file : ListedFile) (following : List ListedFile) (one : List ℕ) (later : List (List ℕ))
-          (then : Found X) → rest ≡ file ∷ following → more ≡ one ∷ later
+          (then : Found) → rest ≡ file ∷ following → more ≡ one ∷ later
           → AddsFile rsa ecdsa sha1 sha256 c file one now then → AreLeft files following octets later old then
       files-step file following one later then r m step =
           step-at (subst (λ (q : List ListedFile). AreLeft files q octets (one ∷ later) old now) r
@@ -288,9 +208,8 @@ module _ {X : Type 0} (rsa ecdsa : X → Check) (sha1 sha256 : X → List ℕ �
                   (split-files (codes ".asa") Providers file following one later) _ step.providers;
               routers = added-step _ _ _ _ _ _ h.routers
                   (split-files (codes ".cer") RouterCert file following one later) _ step.routers;
-              below = λ may. taken-step _ _ _ _ _ _ _ _ (h.below may)
-                  (split-alike _ _ _ (split-files (codes ".cer") CaCert file following one later)) _ _
-                  (step.below may);
+              below = λ may. added-step _ _ _ _ _ _ (h.below may)
+                  (split-files (codes ".cer") CaCert file following one later) _ (step.below may);
             }
 
       none-left : ((end : List ℕ) (P : List ℕ → Type 0) → IsSaidAmong end P rest more → ⊥)
@@ -299,7 +218,7 @@ module _ {X : Type 0} (rsa ecdsa : X → Check) (sha1 sha256 : X → List ℕ �
         origins = added-end _ _ _ _ (λ v. none (codes ".roa") (Origin v)) before.origins;
         providers = added-end _ _ _ _ (λ x. none (codes ".asa") (Providers x)) before.providers;
         routers = added-end _ _ _ _ (λ x. none (codes ".cer") (RouterCert x)) before.routers;
-        below = λ may. taken-end _ _ _ _ _ _ (alike-none _ (λ x. none (codes ".cer") (CaCert x))) (before.below may);
+        below = λ may. added-end _ _ _ _ (λ x. none (codes ".cer") (CaCert x)) (before.below may);
       }
 
       -- no file remains

@@ -1,5 +1,5 @@
 -- Authorities that are alike have the same points: the same is said there, and the same is below them.
-use Rattle.std.proofs.Common.{◌≡◌, ◌∙◌, List, ℕ, refl, sym, subst}
+use Rattle.std.proofs.Common.{◌≡◌, ◌∙◌, List, ℕ, sym, subst}
 use Rattle.std.specs.Prelude.{codes}
 use Rattle.rpki.specs.PublicKey.{KeyParts}
 use Rattle.rpki_contents.specs.declared.route_origin.RouteOrigin.{RouteOrigin}
@@ -21,6 +21,7 @@ use Rattle.rpki_valid.specs.Verified.{Holder}
 use Rattle.rpki_validation.specs.Alike.{AreAlike}
 use Rattle.rpki_validation.specs.Basis.{Basis, verified_at}
 use Rattle.rpki_validation.specs.Issued.{AreProvidersIn, IsCertIn, IsIssuedCert, IsIssuedObject, IsObjectIn}
+use Rattle.rpki_validation.specs.Named.{IsNamedBelow}
 use Rattle.rpki_validation.specs.Point.{HoldsAtMoment, IsPoint}
 use Rattle.rpki_validation.specs.Publication.{PublicationParts}
 use Rattle.rpki_validation.specs.Reached.{IsBelow}
@@ -29,15 +30,6 @@ use Rattle.rpki_validation.specs.Snapshot.{Published}
 
 -- ---- likeness
 
-pub alike-itself : (x : Holder) → AreAlike x x
-alike-itself x = record {
-  subject = refl;
-  key = refl;
-  resources = refl;
-  folder = λ uri. (λ h. h, λ h. h);
-  manifest = λ uri. (λ h. h, λ h. h);
-}
-
 pub alike-turned : (x y : Holder) → AreAlike x y → AreAlike y x
 alike-turned x y h = record {
   subject = sym h.subject;
@@ -45,6 +37,15 @@ alike-turned x y h = record {
   resources = sym h.resources;
   folder = λ uri. ((h.folder uri).1, (h.folder uri).0);
   manifest = λ uri. ((h.manifest uri).1, (h.manifest uri).0);
+}
+
+pub alike-then : (x y z : Holder) → AreAlike x y → AreAlike y z → AreAlike x z
+alike-then x y z h k = record {
+  subject = h.subject ∙ k.subject;
+  key = h.key ∙ k.key;
+  resources = h.resources ∙ k.resources;
+  folder = λ uri. (λ u. (k.folder uri).0 ((h.folder uri).0 u), λ u. (h.folder uri).1 ((k.folder uri).1 u));
+  manifest = λ uri. (λ u. (k.manifest uri).0 ((h.manifest uri).0 u), λ u. (h.manifest uri).1 ((k.manifest uri).1 u));
 }
 
 -- ---- what they issue
@@ -127,6 +128,26 @@ module _ (published : Published) (basis : Basis) (x y : Holder) (same : AreAlike
     octets = h.octets;
     file = h.file;
     cert = in-alike Ca h.point.list h.octets z h.cert;
+  }
+
+  -- by name too
+  pub named-alike : (z : Holder) → IsNamedBelow published basis x z → IsNamedBelow published basis y z
+  named-alike z h = record {
+    below = below-alike z h.below;
+    follows = record {
+      uri = h.follows.uri;
+      named = record {
+        place = h.follows.named.place;
+        manifest_place = (same.manifest h.follows.named.place).0 h.follows.named.manifest_place;
+        manifest = h.follows.named.manifest;
+        there = h.follows.named.there;
+        names = h.follows.named.names;
+      };
+      other = h.follows.other;
+      names = h.follows.names;
+      same = h.follows.same;
+    };
+    stands = h.stands;
   }
 
   -- ---- what is said

@@ -1,11 +1,8 @@
 -- A name has one ending; what a file says whose name ends so, or otherwise.
 use Rattle.std.proofs.Common.{◌≡◌, ◌∙◌, ◌-◌, ℕ, true, List, [], ◌∷◌, nat_eq, ap, sym, arith, length, drop, codes}
 use Rattle.std.specs.List.{ends_with}
-use Rattle.rpki_valid.specs.Verified.{Holder}
-use Rattle.rpki_validation.specs.Alike.{Alike}
-use Rattle.rpki_validation.specs.Taking.{Adds, IsTaking}
-use Rattle.rpki_validation.proofs.AddingLaws.{alike-map, alike-none}
-use Rattle.rpki_validation.proofs.TakingLaws.{adds-none, adds-same, taking-none, taking-same}
+use Rattle.rpki_validation.specs.Taking.{Adds}
+use Rattle.rpki_validation.proofs.TakingLaws.{adds-none, adds-same}
 use lib.Pointwise.{bytes_decides}
 
 second : List ℕ → ℕ
@@ -52,13 +49,3 @@ module _ {V : Type 0} (T : Type 0) (P : V → Type 0) where
 
   pub adds-never : (T → ⊥) → (xs : List V) → Adds And xs xs
   adds-never never xs = adds-none And xs (λ v k. never k.0)
-
-module _ (T : Type 0) (P : Holder → Type 0) where
-  pub taking-where : T → (Met Met' Next Next' : Holder → Type 0) → IsTaking (Alike P) Met Met' Next Next'
-      → IsTaking (Alike (And T P)) Met Met' Next Next'
-  taking-where t Met Met' Next Next' h =
-      taking-same (Alike P) (Alike (And T P)) Met Met' Next Next' (alike-map P (And T P) (λ x k. (t, k)))
-      (alike-map (And T P) P (λ x k. k.1)) h
-
-  pub taking-never : (T → ⊥) → (Met Next : Holder → Type 0) → IsTaking (Alike (And T P)) Met Met Next Next
-  taking-never never Met Next = taking-none (Alike (And T P)) Met Next (alike-none (And T P) (λ x k. never k.0))

@@ -1,9 +1,9 @@
 -- How long payloads hold: those of files, of an authority, of several, and of a walk.
-use Rattle.std.proofs.Common.{◌≡◌, ◌⊎◌, ◌++◌, ◌≤◌, inl, inr, ℕ, suc, List, [], ◌∷◌, ap, arith, codes, map, refl}
+use Rattle.std.proofs.Common.{◌≡◌, ◌⊎◌, ◌++◌, inl, inr, ℕ, List, [], ◌∷◌, ap, codes, map, refl}
 use Rattle.std.proofs.Common.{Option, Result}
 use Rattle.std.proofs.Common.{subst, sym}
 use Rattle.std.specs.List.{Contains}
-use Rattle.std.proofs.lemmas.List.Elements.{Contains-append_cases, Contains-append_left, Contains-push}
+use Rattle.std.proofs.lemmas.List.Elements.{Contains-append_cases}
 use Rattle.jiff.specs.Types.{DateTime}
 use Rattle.rpki.specs.Provider.{Check}
 use Rattle.rpki_time.specs.Validity.{Period}
@@ -16,28 +16,23 @@ use Rattle.rpki_valid.specs.CrlIssued.{InForce, in_force}
 use Rattle.rpki_valid.specs.Verified.{Authority, Holder}
 use Rattle.rpki_validation.specs.declared.outcome.Outcome.{Outcome}
 use Rattle.rpki_validation.specs.declared.payload.Payload.{Payload}
-use Rattle.rpki_validation.specs.Basis.{Basis, basis_of, holder_of}
+use Rattle.rpki_validation.specs.Basis.{Basis, basis_of}
 use Rattle.rpki_validation.specs.Finding.{IsSole}
 use Rattle.rpki_validation.specs.Held.{AddsHeldOf}
-use Rattle.rpki_validation.specs.Held.{AddsHeld, AddsHeldBy, AddsHeldFiles, AreHeldBy, IsHeldUnder, IsSaidByFile}
-use Rattle.rpki_validation.specs.Held.{IsSaidByOne, IsSaidOf, OneOf, SaysBy}
-use Rattle.rpki_validation.specs.Holding.{ReachedFor, SaysOriginBy, SaysProvidersBy, SaysRouterBy}
+use Rattle.rpki_validation.specs.Held.{AddsHeld, AddsHeldFiles, IsSaidByFile}
+use Rattle.rpki_validation.specs.Held.{IsSaidByOne, IsSaidOf, SaysBy}
+use Rattle.rpki_validation.specs.Holding.{SaysOriginBy, SaysProvidersBy, SaysRouterBy}
 use Rattle.rpki_validation.specs.Holding.{in_period, values}
-use Rattle.rpki_validation.specs.Holding.ReachedFor.{Below, Top}
-use Rattle.rpki_validation.specs.Levels.{Reached}
-use Rattle.rpki_validation.specs.Levels.Reached.{First, Next}
 use Rattle.rpki_validation.specs.Noting.{AddsOnly}
 use Rattle.rpki_validation.specs.Point.{AreOctetsOf, HoldsAtMoment}
 use Rattle.rpki_validation.specs.Publication.{PublicationParts}
-use Rattle.rpki_validation.specs.Reached.{IsBelow}
 use Rattle.rpki_validation.specs.Rejecting.{AddsBelow}
 use Rattle.rpki_validation.specs.Snapshot.{Published}
-use Rattle.rpki_validation.specs.Validated.{IsBelowOne}
 use Rattle.rpki_validation.specs.declared.stop.Stop.{Stop}
 use Rattle.rpki_validation.specs.Adding.{WhereMemory}
 use Rattle.rpki_validation.proofs.HereLaws.{where-always}
 use Rattle.rpki_validation.proofs.MetLaws.{cons-cases, head-in, none-in, tail-in}
-use Rattle.rpki_validation.proofs.NotingLaws.{AddsUpTo, adds-map, adds-more, adds-nothing, adds-start, adds-step}
+use Rattle.rpki_validation.proofs.NotingLaws.{AddsUpTo, adds-map, adds-nothing, adds-start, adds-step}
 use Rattle.rpki_validation.proofs.RejectedLaws.{Basis', Holder', Publishes, There, pair-out}
 
 -- ---- payloads in one period
@@ -196,98 +191,3 @@ module _ {X R : Type 0} (rsa ecdsa : X → Check) (sha1 sha256 : X → List ℕ 
       → WhereMemory r (AddsBelow rsa ecdsa sha1 sha256 known issuer at xs xs)
   below-never xs =
       where-always (AddsBelow rsa ecdsa sha1 sha256 known issuer at xs xs) r (λ published e. adds-nothing _ xs)
-
--- ---- one authority after another
-
-module _ {X V : Type 0} (Of : Authority X → V → Type 0) where
-  pub one-none : (xs : List V) → AddsOnly (OneOf Of []) xs xs
-  one-none xs = adds-nothing (OneOf Of []) xs
-
-  pub one-more : (done : List (Authority X)) (a : Authority X) (xs ys zs : List V) → AddsOnly (OneOf Of done) xs ys
-      → AddsOnly (Of a) ys zs → AddsOnly (OneOf Of (done ++ (a ∷ []))) xs zs
-  one-more done a xs ys zs before step =
-      adds-more (OneOf Of (done ++ (a ∷ []))) (Of a) xs ys zs (λ v h. (a, Contains-push done a, h))
-      (adds-map (OneOf Of done) (OneOf Of (done ++ (a ∷ []))) xs ys
-      (λ v h. (h.0, Contains-append_left done (a ∷ []) h.0 h.1, h.2)) before) step
-
-module _ {X : Type 0} (published : Published) (basis : Basis) where
-  pub held-none : (o : Outcome) → AddsHeldBy {X = X} published basis [] o o
-  held-none o = held-nothing o
-
-  pub held-more : (done : List (Authority X)) (a : Authority X) (o p q : Outcome)
-      → AddsHeldBy published basis done o p
-      → AddsHeld (IsSaidOf published basis (codes ".roa") SaysOriginBy a)
-      (IsSaidOf published basis (codes ".asa") SaysProvidersBy a)
-      (IsSaidOf published basis (codes ".cer") SaysRouterBy a) p q
-      → AddsHeldBy published basis (done ++ (a ∷ [])) o q
-  held-more done a o p q before h = record {
-    origins = one-more _ done a o.origins.items p.origins.items q.origins.items before.origins h.origins;
-    providers = one-more _ done a o.providers.items p.providers.items q.providers.items before.providers h.providers;
-    routers = one-more _ done a o.routers.items p.routers.items q.routers.items before.routers h.routers;
-  }
-
--- ---- level after level
-
-module _ (published : Published) (basis : Basis) (IsTop : Holder → Type 0) where
-  abbrev For : ℕ → Holder → Period → Type 0
-  For = ReachedFor published basis IsTop
-
-  pub reached-of : (n : ℕ) (x : Holder) (p : Period) → For n x p → Reached IsTop (IsBelow published basis) n x
-  reached-of _ _ _ (Top x p t h) = First x t
-  reached-of _ _ _ (Below n issuer x above p r below h) = Next n issuer x (reached-of n issuer above r) below
-
-  abbrev Under : {T : Type 0} → ℕ → List ℕ → SaysBy T → Payload T → Type 0
-  Under k end Says = IsHeldUnder published basis IsTop k end Says
-
-  under-more : {T : Type 0} (end : List ℕ) (Says : SaysBy T) (k n : ℕ) → k ≤ n → (v : Payload T) → Under k end Says v
-      → Under n end Says v
-  under-more end Says k n low v h = (h.0, omega (arith, h.1, low), h.2, h.3, h.4, h.5)
-
-  abbrev All : {T : Type 0} → ℕ → List ℕ → SaysBy T → List (Payload T) → Type 0
-  All {T} k end Says xs = (v : Payload T) → Contains xs v → Under k end Says v
-
-  all-none : {T : Type 0} (k : ℕ) (end : List ℕ) (Says : SaysBy T) (xs : List (Payload T)) → xs ≡ [] → All k end Says xs
-  all-none {T} k end Says xs e v h = absurd (none-in v (subst (λ (l : List (Payload T)). Contains l v) e h))
-
-  pub held-first : (k : ℕ) (o : Outcome) → o.origins.items ≡ [] → o.providers.items ≡ [] → o.routers.items ≡ []
-      → AreHeldBy published basis IsTop k o
-  held-first k o origins providers routers = record {
-    origins = all-none k (codes ".roa") SaysOriginBy o.origins.items origins;
-    providers = all-none k (codes ".asa") SaysProvidersBy o.providers.items providers;
-    routers = all-none k (codes ".cer") SaysRouterBy o.routers.items routers;
-  }
-
-  pub held-same : (k n : ℕ) (o : Outcome) → k ≤ n → AreHeldBy published basis IsTop k o
-      → AreHeldBy published basis IsTop n o
-  held-same k n o low h = record {
-    origins = λ v c. under-more (codes ".roa") SaysOriginBy k n low v (h.origins v c);
-    providers = λ v c. under-more (codes ".asa") SaysProvidersBy k n low v (h.providers v c);
-    routers = λ v c. under-more (codes ".cer") SaysRouterBy k n low v (h.routers v c);
-  }
-
-  module _ {X : Type 0} (k : ℕ) (level : List (Authority X))
-      (exact : (a : Authority X) → Contains level a → For k (holder_of a) a.period) where
-    all-then : {T : Type 0} (end : List ℕ) (Says : SaysBy T) (xs ys : List (Payload T)) → All k end Says xs
-        → AddsOnly (OneOf (IsSaidOf published basis end Says) level) xs ys → All (suc k) end Says ys
-    all-then {T} end Says xs ys before step v c = by (step v c) where
-      by : Contains xs v ⊎ OneOf (IsSaidOf published basis end Says) level v → Under (suc k) end Says v
-      by (inl m) = under-more end Says k (suc k) (omega arith) v (before v m)
-      by (inr (a, m, h)) = (k, omega arith, holder_of a, a.period, exact a m, h)
-
-    -- one level more
-    pub held-then : (o p : Outcome) → AreHeldBy published basis IsTop k o → AddsHeldBy published basis level o p
-        → AreHeldBy published basis IsTop (suc k) p
-    held-then o p before step = record {
-      origins = all-then (codes ".roa") SaysOriginBy o.origins.items p.origins.items before.origins step.origins;
-      providers = all-then (codes ".asa") SaysProvidersBy o.providers.items p.providers.items before.providers
-          step.providers;
-      routers = all-then (codes ".cer") SaysRouterBy o.routers.items p.routers.items before.routers step.routers;
-    }
-
-    -- the next level is reached by one step more
-    pub exact-then : (next : List (Authority X)) → AddsOnly (IsBelowOne published basis level) [] next
-        → (a : Authority X) → Contains next a → For (suc k) (holder_of a) a.period
-    exact-then next only a m = by (only a m) where
-      by : Contains [] a ⊎ IsBelowOne published basis level a → For (suc k) (holder_of a) a.period
-      by (inl h) = absurd (none-in a h)
-      by (inr (b, c, child)) = Below k (holder_of b) (holder_of a) b.period a.period (exact b c) child.0 child.1

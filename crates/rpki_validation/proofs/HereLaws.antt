@@ -24,31 +24,28 @@ use Rattle.rpki_valid.specs.Verified.{Authority, Checkers, Holder, IsAuthorityAt
 use Rattle.rpki_valid.specs.Verified.{verified_by}
 use Rattle.rpki_valid.specs.Verified.IsAuthorityAt.{Issued as IssuedBelow, Root}
 use Rattle.rpki_valid.specs.declared.staleness.Staleness.{Staleness}
-use Rattle.rpki_validation.specs.declared.next.Next.{Next}
 use Rattle.rpki_validation.specs.declared.reason.Reason.{Reason}
 use Rattle.rpki_validation.specs.declared.stop.Stop.{Stop}
 use Rattle.rpki_validation.specs.declared.stop.Stop.TheVariants.{Rejected, OutOfMemory}
-use Rattle.rpki_validation.specs.Adding.{AddsFile, AddsOriginsHere, AddsProvidersHere, AddsRoutersHere}
+use Rattle.rpki_validation.specs.Adding.{AddsAuthoritiesHere, AddsFile, AddsOriginsHere, AddsProvidersHere}
+use Rattle.rpki_validation.specs.Adding.{AddsRoutersHere}
 use Rattle.rpki_validation.specs.Adding.{AreProvidersHere}
-use Rattle.rpki_validation.specs.Adding.{Found, IsCertHere, IsSaidBy, MayIssue, SaysOriginHere, TakesHere}
+use Rattle.rpki_validation.specs.Adding.{Found, IsCertHere, IsSaidBy, MayIssue, SaysOriginHere}
 use Rattle.rpki_validation.specs.Adding.{UnlessMemory, WhereMemory}
-use Rattle.rpki_validation.specs.Alike.{Alike, AreAlike}
 use Rattle.rpki_validation.specs.Basis.{basis_in, holder_of}
 use Rattle.rpki_validation.specs.Finding.{IsCertReason, IsNone, IsRejected, IsSole, StopsAt}
 use Rattle.rpki_validation.specs.Issued.{AreOriginsIn, AreProvidersIn, HasWrongConstraints, IsCountedCert, IsNoCertIn}
 use Rattle.rpki_validation.specs.Issued.{IsNoRouterIn}
 use Rattle.rpki_validation.specs.Issued.IsNoCertIn.{NoAuthority, NoRouter, Unread, WrongConstraints}
-use Rattle.rpki_validation.specs.Next.{IsMet, IsOf}
 use Rattle.rpki_validation.specs.Rejected.IsWrongFile.{NoCert, NoOrigins, NoProviders}
 use Rattle.rpki_validation.specs.Rejecting.{IsRightHere, IsSettled, IsWrongHere, SettlesCert, SettlesFile}
 use Rattle.rpki_validation.specs.Rejecting.{SettlesOrigins, SettlesProviders}
 use Rattle.rpki_validation.specs.Steps.{IsIssuedHere, IsNoAuthorityHere}
-use Rattle.rpki_validation.specs.Taking.{Adds, IsTaking}
-use Rattle.rpki_validation.proofs.AddingLaws.{adds-list, alike-none, adds-sole, stops-none}
-use Rattle.rpki_validation.proofs.EndingLaws.{adds-never, adds-where, asa-cer, roa-asa, roa-cer, taking-never}
-use Rattle.rpki_validation.proofs.EndingLaws.{taking-where}
+use Rattle.rpki_validation.specs.Taking.{Adds}
+use Rattle.rpki_validation.proofs.AddingLaws.{adds-list, adds-sole, stops-none}
+use Rattle.rpki_validation.proofs.EndingLaws.{adds-never, adds-where, asa-cer, roa-asa, roa-cer}
 use Rattle.rpki_validation.proofs.FindingLaws.{stops-later}
-use Rattle.rpki_validation.proofs.TakingLaws.{adds-none, taking-none, taking-same}
+use Rattle.rpki_validation.proofs.TakingLaws.{adds-none}
 
 -- ---- steps
 
@@ -132,8 +129,8 @@ module _ {X : Type 0} (rsa ecdsa : X → Check) (sha1 sha256 : X → List ℕ �
     abbrev AddsRouters' : List Holder → List Holder → Type 0
     AddsRouters' = AddsRoutersHere rsa ecdsa sha1 sha256 c octets
 
-    abbrev Takes' : {Y : Type 0} → Next X Y → Next X Y → Type 0
-    Takes' = TakesHere rsa ecdsa sha1 sha256 c octets
+    abbrev AddsBelow' : List Holder → List Holder → Type 0
+    AddsBelow' = AddsAuthoritiesHere rsa ecdsa sha1 sha256 c octets
 
     abbrev Spelled : CertParts → Type 0
     Spelled x = SpellsCert x octets
@@ -143,11 +140,10 @@ module _ {X : Type 0} (rsa ecdsa : X → Check) (sha1 sha256 : X → List ℕ �
     unread-routers K s xs h =
         stops-none Spelled K (AddsRouters' xs xs) s (λ none. adds-none _ xs (λ x k. none x.cert k.spells)) h
 
-    pub unread-below : {Y : Type 0} (K : Reason → Type 0) (s : Stop) (next : Next X Y) → StopsAt Spelled K s
-        → UnlessMemory (Takes' next next) s
-    unread-below K s next h =
-        stops-none Spelled K (Takes' next next) s
-        (λ none may. taking-none _ _ _ (alike-none (IsCert Ca) (λ x k. none x.cert k.spells))) h
+    pub unread-below : (K : Reason → Type 0) (s : Stop) (xs : List Holder) → StopsAt Spelled K s
+        → UnlessMemory (AddsBelow' xs xs) s
+    unread-below K s xs h =
+        stops-none Spelled K (AddsBelow' xs xs) s (λ none may. adds-none _ xs (λ x k. none x.cert k.spells)) h
 
     pub unread-cert : (s : Stop) → StopsAt Spelled (IsCertReason (IsDecodedPart octets) (λ e. ⊥)) s
         → StopsAt (IsCountedCert c.issuer.depth (basis_in rsa ecdsa sha1 sha256 c) (holder_of c.issuer) c.list octets)
@@ -181,9 +177,9 @@ module _ {X : Type 0} (rsa ecdsa : X → Check) (sha1 sha256 : X → List ℕ �
           → AddsRouters' xs xs
       other-routers not xs = adds-none _ xs (other Router not)
 
-      pub other-below : {Y : Type 0} → ((strict : Bool) → HasProfile Ca strict cert.tbs → ⊥) → (next : Next X Y)
-          → Takes' next next
-      other-below not next may = taking-none _ _ _ (alike-none (IsCert Ca) (other Ca not))
+      pub other-below : ((strict : Bool) → HasProfile Ca strict cert.tbs → ⊥) → (xs : List Holder)
+          → AddsBelow' xs xs
+      other-below not xs may = adds-none _ xs (other Ca not)
 
       -- it isn't issued
       pub no-routers : (K : Reason → Type 0) (s : Stop) (xs : List Holder) → StopsAt (Issued Router) K s
@@ -192,12 +188,11 @@ module _ {X : Type 0} (rsa ecdsa : X → Check) (sha1 sha256 : X → List ℕ �
           stops-none (Issued Router) K (AddsRouters' xs xs) s
           (λ none. adds-none _ xs (λ x k. none x.resources (issued Router x k))) h
 
-      pub no-below : {Y : Type 0} (s : Stop) (next : Next X Y) → IsNoAuthorityHere rsa ecdsa sha1 sha256 c cert s
-          → UnlessMemory (Takes' next next) s
-      no-below s next h =
-          stops-none (λ (r : ResourceSet). MayIssue rsa ecdsa sha1 sha256 c × Issued Ca r) _ (Takes' next next) s
-          (λ none may. taking-none _ _ _
-          (alike-none (IsCert Ca) (λ x k. none x.resources (may, issued Ca x k)))) h
+      pub no-below : (s : Stop) (xs : List Holder) → IsNoAuthorityHere rsa ecdsa sha1 sha256 c cert s
+          → UnlessMemory (AddsBelow' xs xs) s
+      no-below s xs h =
+          stops-none (λ (r : ResourceSet). MayIssue rsa ecdsa sha1 sha256 c × Issued Ca r) _ (AddsBelow' xs xs) s
+          (λ none may. adds-none _ xs (λ x k. none x.resources (may, issued Ca x k))) h
 
       -- it is, and has these resources
       held : (profile : Profile) (x : Holder) → x.cert ≡ cert → IsSole (Issued profile) x.resources
@@ -266,19 +261,14 @@ module _ {X : Type 0} (rsa ecdsa : X → Check) (sha1 sha256 : X → List ℕ �
       pub router-said : (x : Holder) → x.cert ≡ cert → IsSole (Issued Router) x.resources → IsCert Router x
       router-said x e h = (held Router x e h).holds
 
-      pub below-found : {Y : Type 0} (a : Authority X) → a.cert ≡ cert → IsSole (Issued Ca) a.resources
-          → (old new : Next X Y)
-          → IsTaking (AreAlike (holder_of a)) (IsMet old.met) (IsMet new.met) (IsOf old.level.items)
-          (IsOf new.level.items) → Takes' old new
-      below-found a e h old new taking may =
-          let one = held Ca (holder_of a) e h in
-          taking-same (AreAlike (holder_of a)) (Alike (IsCert Ca)) _ _ _ _ (λ y k. (holder_of a, one.holds, k))
-          (λ y k. subst (λ (x : Holder). AreAlike x y) (one.sole k.0 k.1) k.2) taking
+      pub below-found : (a : Authority X) → a.cert ≡ cert → IsSole (Issued Ca) a.resources → (xs : List Holder)
+          → AddsBelow' xs (xs ++ holder_of a ∷ [])
+      below-found a e h xs may = adds-sole (IsCert Ca) (holder_of a) (held Ca (holder_of a) e h) xs
 
   -- ---- a file, by its name
 
   module _ (file : ListedFile) (octets : List ℕ) where
-    abbrev Adds' : Found X → Found X → Type 0
+    abbrev Adds' : Found → Found → Type 0
     Adds' = AddsFile rsa ecdsa sha1 sha256 c file octets
 
     abbrev End : List ℕ → Type 0
@@ -290,36 +280,35 @@ module _ {X : Type 0} (rsa ecdsa : X → Check) (sha1 sha256 : X → List ℕ �
     abbrev Are : TypedParts AspaParts → List ℕ → Type 0
     Are = AreProvidersHere rsa ecdsa sha1 sha256 c
 
-    abbrev with_origins : Found X → List RouteOrigin → Found X
+    abbrev with_origins : Found → List RouteOrigin → Found
     with_origins f xs = record f { origins = xs }
 
-    abbrev with_providers : Found X → List (TypedParts AspaParts) → Found X
+    abbrev with_providers : Found → List (TypedParts AspaParts) → Found
     with_providers f xs = record f { providers = xs }
 
-    pub origins-file : End (codes ".roa") → (old : Found X) (new : List RouteOrigin)
+    pub origins-file : End (codes ".roa") → (old : Found) (new : List RouteOrigin)
         → AddsOriginsHere rsa ecdsa sha1 sha256 c octets old.origins new → Adds' old (with_origins old new)
     origins-file roa old new h = record {
       origins = adds-where _ _ roa old.origins new h;
       providers = adds-never _ _ (roa-asa file.0 roa) old.providers;
       routers = adds-never _ _ (roa-cer file.0 roa) old.routers;
-      below = λ may. taking-never _ _ (roa-cer file.0 roa) _ _;
+      below = λ may. adds-never _ _ (roa-cer file.0 roa) old.below;
     }
 
-    pub providers-file : (End (codes ".roa") → ⊥) → End (codes ".asa") → (old : Found X)
+    pub providers-file : (End (codes ".roa") → ⊥) → End (codes ".asa") → (old : Found)
         (new : List (TypedParts AspaParts)) → AddsProvidersHere rsa ecdsa sha1 sha256 c octets old.providers new
         → Adds' old (with_providers old new)
     providers-file none asa old new h = record {
       origins = adds-never _ _ none old.origins;
       providers = adds-where _ _ asa old.providers new h;
       routers = adds-never _ _ (asa-cer file.0 asa) old.routers;
-      below = λ may. taking-never _ _ (asa-cer file.0 asa) _ _;
+      below = λ may. adds-never _ _ (asa-cer file.0 asa) old.below;
     }
 
-    pub cert-file : (End (codes ".roa") → ⊥) → (End (codes ".asa") → ⊥) → End (codes ".cer") → (old new : Found X)
+    pub cert-file : (End (codes ".roa") → ⊥) → (End (codes ".asa") → ⊥) → End (codes ".cer") → (old new : Found)
         → old.origins ≡ new.origins → old.providers ≡ new.providers
         → AddsRoutersHere rsa ecdsa sha1 sha256 c octets old.routers new.routers
-        → (MayIssue rsa ecdsa sha1 sha256 c → IsTaking (Alike (λ x. IsCertHere rsa ecdsa sha1 sha256 c Ca x octets))
-        (IsMet old.met) (IsMet new.met) (IsOf old.level) (IsOf new.level)) → Adds' old new
+        → AddsAuthoritiesHere rsa ecdsa sha1 sha256 c octets old.below new.below → Adds' old new
     cert-file none not cer old new o p h k = record {
       origins = subst
           (λ (xs : List RouteOrigin). Adds (λ v. IsSaidBy (codes ".roa") (Says v) file octets) old.origins xs) o
@@ -329,16 +318,16 @@ module _ {X : Type 0} (rsa ecdsa : X → Check) (sha1 sha256 : X → List ℕ �
           Adds (λ x. IsSaidBy (codes ".asa") (Are x) file octets) old.providers xs) p
           (adds-never (End (codes ".asa")) (λ x. Are x octets) not old.providers);
       routers = adds-where _ _ cer old.routers new.routers h;
-      below = λ may. taking-where _ _ cer _ _ _ _ (k may);
+      below = λ may. adds-where _ _ cer old.below new.below (k may);
     }
 
-    pub other-file : (End (codes ".roa") → ⊥) → (End (codes ".asa") → ⊥) → (End (codes ".cer") → ⊥) → (xs : Found X)
+    pub other-file : (End (codes ".roa") → ⊥) → (End (codes ".asa") → ⊥) → (End (codes ".cer") → ⊥) → (xs : Found)
         → Adds' xs xs
     other-file none not never xs = record {
       origins = adds-never _ _ none xs.origins;
       providers = adds-never _ _ not xs.providers;
       routers = adds-never _ _ never xs.routers;
-      below = λ may. taking-never _ _ never _ _;
+      below = λ may. adds-never _ _ never xs.below;
     }
 
     -- ---- whether it counts

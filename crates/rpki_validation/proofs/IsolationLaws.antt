@@ -1,5 +1,5 @@
 -- What is elsewhere has no part in the payloads of an authority.
-use Rattle.std.proofs.Common.{◌≡◌, ◌∙◌, ℕ, Bool, List, IsTrue, sym}
+use Rattle.std.proofs.Common.{◌≡◌, ◌∙◌, inl, ℕ, Bool, List, IsTrue, sym}
 use Rattle.std.specs.List.{Contains}
 use Rattle.rpki_contents.specs.ListedFile.{ListedFile}
 use Rattle.rpki_contents.specs.declared.route_origin.RouteOrigin.{RouteOrigin}
@@ -9,7 +9,8 @@ use Rattle.rpki_locator.specs.declared.anchor_uri.AnchorUri.{AnchorUri}
 use Rattle.rpki_text.specs.RsyncText.{RsyncUri, uri_of, joined_uri}
 use Rattle.rpki_valid.specs.Verified.{Holder}
 use Rattle.rpki_validation.specs.Basis.{Basis}
-use Rattle.rpki_validation.specs.Isolation.{AgreeAt, CountsAt, IsBelowAt, PublishesAt}
+use Rattle.rpki_validation.specs.Isolation.{AgreeAt, IsNamedAt, IsNamedBelowAt, PublishesAt}
+use Rattle.rpki_validation.specs.Named.{IsNamedBelow, IsNamedByManifest}
 use Rattle.rpki_validation.specs.Levels.{Reached}
 use Rattle.rpki_validation.specs.Levels.Reached.{First, Next}
 use Rattle.rpki_validation.specs.Payload.{AreProviders, IsCounted, IsOrigin, IsRouter}
@@ -102,32 +103,71 @@ module _ (own : RsyncUri → Bool) (uris : List AnchorUri) (one other : Publishe
 
   -- ---- authorities
 
-  below-moves : (issuer x : Holder) → IsBelowAt own one basis issuer x → IsBelow other basis issuer x
-  below-moves issuer x h = record {
-    point = h.1.point;
-    published_there = point-moves issuer h.1.point h.0 h.1.published_there;
-    octets = h.1.octets;
-    file = named-moves issuer h.1.point _ h.1.octets h.0 h.1.published_there h.1.file;
-    cert = h.1.cert;
+  below-moves : (issuer x : Holder) → PublishesAt own issuer → IsBelow one basis issuer x → IsBelow other basis issuer x
+  below-moves issuer x at h = record {
+    point = h.point;
+    published_there = point-moves issuer h.point at h.published_there;
+    octets = h.octets;
+    file = named-moves issuer h.point _ h.octets at h.published_there h.file;
+    cert = h.cert;
   }
 
-  reached-moves : (n : ℕ) (x : Holder) → Reached (IsFirstAnchor one basis uris) (IsBelowAt own one basis) n x
-      → Reached (IsFirstAnchor other basis uris) (IsBelow other basis) n x
+  -- what a manifest names
+  place-moves : (x : Holder) (uri : List ℕ) → PublishesAt own x
+      → IsNamedByManifest one basis.terms.strictness.attributes x.cert.tbs uri
+      → IsNamedByManifest other basis.terms.strictness.attributes x.cert.tbs uri
+  place-moves x uri at h = record {
+    place = h.place;
+    manifest_place = h.manifest_place;
+    manifest = h.manifest;
+    there = record {
+      octets = h.there.octets;
+      stands = sym (agree.objects (uri_of h.place) (at.manifest h.place h.manifest_place)) ∙ h.there.stands;
+      spells = h.there.spells;
+    };
+    names = h.names;
+  }
+
+  by-name-moves : (issuer x : Holder) → IsNamedBelowAt own one basis issuer x → IsNamedBelow other basis issuer x
+  by-name-moves issuer x h = record {
+    below = below-moves issuer x h.above h.named.below;
+    follows = record {
+      uri = h.named.follows.uri;
+      named = place-moves issuer h.named.follows.uri h.above h.named.follows.named;
+      other = h.named.follows.other;
+      names = h.named.follows.names;
+      same = h.named.follows.same;
+    };
+    stands = record {
+      uri = h.named.stands.uri;
+      named = place-moves x h.named.stands.uri h.itself h.named.stands.named;
+      cert = record {
+        octets = h.named.stands.cert.octets;
+        stands = sym (agree.objects (uri_of h.named.stands.uri) h.stands) ∙ h.named.stands.cert.stands;
+        cert = h.named.stands.cert.cert;
+        spells = h.named.stands.cert.spells;
+        same = h.named.stands.cert.same;
+      };
+    };
+  }
+
+  reached-moves : (n : ℕ) (x : Holder) → Reached (IsFirstAnchor one basis uris) (IsNamedBelowAt own one basis) n x
+      → Reached (IsFirstAnchor other basis uris) (IsNamedBelow other basis) n x
   reached-moves _ _ (First x h) = First x (first-moves one other basis uris x agree.anchors h)
-  reached-moves _ _ (Next n above x r h) = Next n above x (reached-moves n above r) (below-moves above x h)
+  reached-moves _ _ (Next n above x r h) = Next n above x (reached-moves n above r) (by-name-moves above x h)
 
   -- ---- payloads
 
   counted-moves : (end octets : List ℕ) (issuer : Holder) (point : PublicationParts)
-      → IsCounted one basis uris end octets issuer point → CountsAt own one basis uris issuer
+      → IsCounted one basis uris end octets issuer point → IsNamedAt own one basis uris issuer
       → IsCounted other basis uris end octets issuer point
   counted-moves end octets issuer point h at = record {
-    counts = record { steps = at.steps; few = at.few; reached = reached-moves at.steps issuer at.reached };
+    counts = record { steps = at.steps; few = at.few; counted = inl (reached-moves at.steps issuer at.reached) };
     published_there = point-moves issuer point at.itself h.published_there;
     file = named-moves issuer point end octets at.itself h.published_there h.file;
   }
 
-  pub origin-moves : (v : RouteOrigin) (h : IsOrigin one basis uris v) → CountsAt own one basis uris h.issuer
+  pub origin-moves : (v : RouteOrigin) (h : IsOrigin one basis uris v) → IsNamedAt own one basis uris h.issuer
       → IsOrigin other basis uris v
   origin-moves v h at = record {
     issuer = h.issuer;
@@ -139,7 +179,7 @@ module _ (own : RsyncUri → Bool) (uris : List AnchorUri) (one other : Publishe
     says = h.says;
   }
 
-  pub providers-move : (v : AspaParts) (h : AreProviders one basis uris v) → CountsAt own one basis uris h.issuer
+  pub providers-move : (v : AspaParts) (h : AreProviders one basis uris v) → IsNamedAt own one basis uris h.issuer
       → AreProviders other basis uris v
   providers-move v h at = record {
     issuer = h.issuer;
@@ -151,7 +191,7 @@ module _ (own : RsyncUri → Bool) (uris : List AnchorUri) (one other : Publishe
     says = h.says;
   }
 
-  pub router-moves : (x : Holder) (h : IsRouter one basis uris x) → CountsAt own one basis uris h.issuer
+  pub router-moves : (x : Holder) (h : IsRouter one basis uris x) → IsNamedAt own one basis uris h.issuer
       → IsRouter other basis uris x
   router-moves x h at = record {
     issuer = h.issuer;

@@ -7,13 +7,15 @@
 -- The octets of files, in sequence; what is where an authority publishes: FilesLaws, PlaceLaws,
 --   PublicationLaws.
 -- The first trust anchor of a locator: AnchorLaws.
--- A walk by levels looks at exactly what is reached; that is an authority: LevelsLaws, ReachedLaws.
+-- What counts is reached, and is an authority: ReachedLaws.
 -- What is alike publishes and issues the same: AlikeLaws.
--- What is met and taken for the next level, in sequence: MetLaws, NextLaws, TakingLaws.
+-- Lists, and marks in sets: MetLaws, MarkLaws, TakingLaws. Whether an authority is named: NamedLaws.
+-- What waits in a map, and what is below an authority: WaitingLaws, BelowLaws.
+-- What was looked at and what waits, at any moment and in the end; one turn: TraceLaws, TurnLaws.
 -- What octets say under a list, what files say, what the point of an authority says is added: HereLaws (names of files:
 --   EndingLaws), AddingLaws, VisitLaws.
--- Notes of pairs, in sequence: NotingLaws. What is rejected of files and of a point, and of authorities in
---   sequence: RejectedLaws, RejectsLaws. How long payloads hold: HeldLaws.
+-- Notes of pairs, in sequence: NotingLaws. What is rejected of files and of a point: RejectedLaws. How long payloads
+--   hold: HeldLaws.
 -- The walk, and that what it tells is exactly what is valid: WalkLaws.
 -- Payloads are signed down from the key of the locator; what is elsewhere has no part in them: SignedDownLaws,
 --   IsolationLaws, over names of files: FileNameLaws.
@@ -28,20 +30,23 @@ pub mod FilesLaws
 pub mod PlaceLaws
 pub mod PublicationLaws
 pub mod AnchorLaws
-pub mod LevelsLaws
 pub mod ReachedLaws
 pub mod AlikeLaws
 pub mod MetLaws
+pub mod MarkLaws
+pub mod NamedLaws
+pub mod WaitingLaws
+pub mod BelowLaws
+pub mod TraceLaws
+pub mod TurnLaws
 pub mod TakingLaws
 pub mod NotingLaws
-pub mod NextLaws
 pub mod AddingLaws
 pub mod EndingLaws
 pub mod HereLaws
 pub mod VisitLaws
 pub mod RejectedLaws
 pub mod HeldLaws
-pub mod RejectsLaws
 pub mod WalkLaws
 pub mod SignedDownLaws
 pub mod FileNameLaws

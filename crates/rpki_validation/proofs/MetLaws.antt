@@ -1,20 +1,25 @@
 -- Authorities that were met: a mark is added to a set; numbers tell resources apart.
-use Rattle.std.proofs.Common.{◌≡◌, ◌++◌, ◌⊎◌, ◌∙◌, inl, inr, ℕ, Bool, true, false}
+use Rattle.std.proofs.Common.{◌≡◌, ◌++◌, ◌⊎◌, ◌∙◌, ◌||◌, not, inl, inr, ℕ, Bool, true, false}
 use Rattle.std.proofs.Common.{Option, Some, None, List, [], ◌∷◌, length, map, ap, subst, sym}
 use Rattle.std.proofs.Common.{refl, arith, append-nil, append_assoc, Ordering, Less, Equal, Greater}
 use Rattle.std.proofs.lemmas.List.Elements.{Contains-append_left, Contains-append_right, Contains-append_cases}
 use Rattle.std.proofs.lemmas.List.Elements.{Contains-push, Contains-push_cases}
 use Rattle.std.proofs.lemmas.Map.Lookups.{exact_bytes}
 use Rattle.std.specs.BTreeSet.{BTreeSet}
-use Rattle.std.specs.Bool.{OnFalse}
+use Rattle.std.specs.Bool.{OnFalse, OnTrue}
 use Rattle.std.specs.Cmp.Lexicographic.{slice_cmp}
-use Rattle.std.specs.BTreeSet.{insert_key}
-use Rattle.std.specs.List.{Contains}
+use Rattle.std.specs.BTreeSet.{contains_by, insert_key}
+use Rattle.std.specs.BTreeMap.{is_at}
+use Rattle.std.proofs.lemmas.Cmp.{lists_total, nat_cmp_total, on_total, then_total, tied_itself}
+use Rattle.std.specs.Cmp.{IsTotalOrder}
+use Rattle.std.specs.Cmp.Lexicographic.{options_total}
+use Rattle.rpki_validation.specs.Counts.{mark_cmp}
+use Rattle.std.specs.List.{Contains, list_any}
 use Rattle.std.specs.Option.{option_cmp}
-use Rattle.std.specs.Ordering.{match_ordering, nat_cmp, ordering_then}
+use Rattle.std.specs.Ordering.{is_eq, match_ordering, nat_cmp, ordering_then}
 use Rattle.rpki_resources.specs.declared.block.Block.{Block}
 use Rattle.rpki_valid.specs.declared.resource.set.ResourceSet.{ResourceSet}
-use Rattle.rpki_validation.specs.Met.{bounds, counted, numbers_of, mark, mark_in, marks_of, Inserts}
+use Rattle.rpki_validation.specs.Met.{Mark, bounds, counted, numbers_of, mark, mark_in, marks_of, Inserts}
 
 -- ---- lists
 
@@ -101,30 +106,41 @@ module _ {K M : Type 0} (cmp : K → K → Ordering) (f : K → M) (k : K)
       by more Equal c = inl c
       by more Greater c = later more (cons-cases (f x) (map f (insert_key cmp xs k)) m c)
 
-both-equal : (o p : Ordering) → ordering_then o p ≡ Equal → (o ≡ Equal) × (p ≡ Equal)
+pub mark-total : IsTotalOrder mark_cmp
+mark-total =
+    then_total
+    (then_total
+    (then_total
+    (then_total (on_total (λ (m : Mark). m.name) (lists_total nat_cmp_total))
+    (on_total (λ (m : Mark). m.key) (lists_total nat_cmp_total)))
+    (on_total (λ (m : Mark). m.folder) (options_total (lists_total nat_cmp_total))))
+    (on_total (λ (m : Mark). m.manifest) (options_total (lists_total nat_cmp_total))))
+    (on_total (λ (m : Mark). m.numbers) (lists_total nat_cmp_total))
+
+pub both-equal : (o p : Ordering) → ordering_then o p ≡ Equal → (o ≡ Equal) × (p ≡ Equal)
 both-equal Less p e = grind (arith, e)
 both-equal Equal p e = (refl, e)
 both-equal Greater p e = grind (arith, e)
 
 module _ {V : Type 0} (numbers : V → List ℕ) where
-  abbrev Key : Type 0
+  abbrev pub Key : Type 0
   Key = List ℕ × List ℕ × Option (List ℕ) × Option (List ℕ) × V
 
-  abbrev octets_cmp : List ℕ → List ℕ → Ordering
+  abbrev pub octets_cmp : List ℕ → List ℕ → Ordering
   octets_cmp = slice_cmp nat_cmp
 
-  abbrev Order : Key → Key → Ordering
+  abbrev pub Order : Key → Key → Ordering
   Order x y =
       ordering_then (ordering_then (ordering_then (ordering_then (octets_cmp x.0 y.0) (octets_cmp x.1 y.1))
       (option_cmp octets_cmp x.2 y.2)) (option_cmp octets_cmp x.3 y.3)) (octets_cmp (numbers x.4) (numbers y.4))
 
-  same-place : (p q : Option (List ℕ)) → option_cmp octets_cmp p q ≡ Equal → p ≡ q
+  pub same-place : (p q : Option (List ℕ)) → option_cmp octets_cmp p q ≡ Equal → p ≡ q
   same-place None None e = refl
   same-place None (Some q) e = grind (arith, e)
   same-place (Some p) None e = grind (arith, e)
   same-place (Some p) (Some q) e = ap (λ (o : List ℕ). Some o) (exact_bytes p q e)
 
-  same-mark : (x y : Key) → Order x y ≡ Equal → mark_in numbers x ≡ mark_in numbers y
+  pub same-mark : (x y : Key) → Order x y ≡ Equal → mark_in numbers x ≡ mark_in numbers y
   same-mark x y e =
       let four = both-equal (ordering_then (ordering_then (ordering_then (octets_cmp x.0 y.0) (octets_cmp x.1 y.1))
       (option_cmp octets_cmp x.2 y.2)) (option_cmp octets_cmp x.3 y.3)) (octets_cmp (numbers x.4) (numbers y.4))
@@ -140,11 +156,35 @@ module _ {V : Type 0} (numbers : V → List ℕ) where
       ∙ ap (λ (o : Option (List ℕ)). mark y.0 y.1 y.2 o (numbers x.4)) (same-place x.3 y.3 three.1)
       ∙ ap (λ (n : List ℕ). mark y.0 y.1 y.2 y.3 n) (exact_bytes (numbers x.4) (numbers y.4) four.1)
 
+  module _ (k : Key) where
+    any-first : (b c : Bool) → b ≡ true → (b || c) ≡ true
+    any-first true c e = refl
+    any-first false c e = absurd (cc)
+
+    any-later : (b c : Bool) → c ≡ true → (b || c) ≡ true
+    any-later true c e = refl
+    any-later false c e = e
+
+    -- a key with the mark is found
+    among : (ks : List Key) → Contains (map (mark_in numbers) ks) (mark_in numbers k)
+        → list_any (is_at (Order k)) ks ≡ true
+    among [] h = absurd (none-in (mark_in numbers k) h)
+    among (x ∷ ks) h =
+        by (among ks) (cons-cases (mark_in numbers x) (map (mark_in numbers) ks) (mark_in numbers k) h) where
+          by : (Contains (map (mark_in numbers) ks) (mark_in numbers k) → list_any (is_at (Order k)) ks ≡ true)
+              → (mark_in numbers x ≡ mark_in numbers k) ⊎ Contains (map (mark_in numbers) ks) (mark_in numbers k)
+              → list_any (is_at (Order k)) (x ∷ ks) ≡ true
+          by more (inl same) =
+              any-first (is_eq (Order k x)) (list_any (is_at (Order k)) ks) (ap is_eq
+              (subst (λ (m : Mark). mark_cmp (mark_in numbers k) m ≡ Equal) (sym same)
+              (tied_itself mark-total (mark_in numbers k))))
+          by more (inr there) = any-later (is_eq (Order k x)) (list_any (is_at (Order k)) ks) (more there)
+
   -- a mark is added to a set
   pub inserts : (s t : BTreeSet Key) (k : Key) (is_new : Bool) → t.keys ≡ insert_key Order s.keys k
-      → OnFalse is_new (t.keys ≡ s.keys)
+      → OnFalse is_new (t.keys ≡ s.keys) → is_new ≡ not (contains_by (Order k) s)
       → Inserts (marks_of numbers s) (marks_of numbers t) (mark_in numbers k) is_new
-  inserts s t k is_new e unchanged = record {
+  inserts s t k is_new e unchanged told = record {
     added = subst (λ (ks : List Key). Contains (map (mark_in numbers) ks) (mark_in numbers k)) (sym e)
         (inserted-in Order (mark_in numbers) k (same-mark k) s.keys);
     kept = λ m h. inserted-only Order (mark_in numbers) k (same-mark k) s.keys m
@@ -152,7 +192,16 @@ module _ {V : Type 0} (numbers : V → List ℕ) where
     old = λ m h. subst (λ (ks : List Key). Contains (map (mark_in numbers) ks) m) (sym e)
         (inserted-old Order (mark_in numbers) k (same-mark k) s.keys m h);
     same = then is_new unchanged;
+    fresh = unless is_new told;
   } where
+    unless : (b : Bool) → b ≡ not (contains_by (Order k) s)
+        → OnTrue b (Contains (marks_of numbers s) (mark_in numbers k) → ⊥)
+    unless false told = tt
+    unless true told = λ h. no (contains_by (Order k) s) (among k s.keys h) told where
+      no : (c : Bool) → c ≡ true → true ≡ not c → ⊥
+      no true e f = absurd (cc)
+      no false e f = absurd (cc)
+
     then : (b : Bool) → OnFalse b (t.keys ≡ s.keys) → OnFalse b (marks_of numbers t ≡ marks_of numbers s)
     then true h = tt
     then false h = ap (λ (ks : List Key). map (mark_in numbers) ks) h

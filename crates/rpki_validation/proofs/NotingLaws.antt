@@ -17,14 +17,6 @@ module _ {V : Type 0} where
   pub adds-nothing : (P : V → Type 0) (xs : List V) → AddsOnly P xs xs
   adds-nothing P xs v h = inl h
 
-  -- no other than this one is added
-  pub adds-from : (P : V → Type 0) (old new : List V) (x : V) → AddsOnly (λ v. x ≡ v) old new → P x
-      → AddsOnly P old new
-  adds-from P old new x only h v c = by (only v c) where
-    by : Contains old v ⊎ (x ≡ v) → Contains old v ⊎ P v
-    by (inl k) = inl k
-    by (inr e) = inr (subst P e h)
-
   -- one is added
   pub adds-one : (P : V → Type 0) (xs : List V) (x : V) → P x → AddsOnly P xs (xs ++ x ∷ [])
   adds-one P xs x h v c = by (Contains-push_cases xs x v c) where

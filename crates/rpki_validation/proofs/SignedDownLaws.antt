@@ -18,7 +18,7 @@ use Rattle.rpki_validation.specs.Issued.{IsIssuedCert}
 use Rattle.rpki_validation.specs.Payload.{AreProviders, IsOrigin, IsRouter}
 use Rattle.rpki_validation.specs.Point.{IsPoint}
 use Rattle.rpki_validation.specs.Publication.{PublicationParts}
-use Rattle.rpki_validation.specs.Reached.{Counts}
+use Rattle.rpki_validation.specs.Counts.{Counts}
 use Rattle.rpki_validation.specs.SignedDown.{IsObjectSignedDown, IsSignedDown}
 use Rattle.rpki_validation.specs.Snapshot.{Published}
 use Rattle.rpki_validation.proofs.ReachedLaws.{counts-is-authority}

@@ -13,19 +13,18 @@ use Rattle.rpki_valid.specs.Verified.{Authority, Holder}
 use Rattle.rpki_validation.specs.declared.reason.Reason.{Reason}
 use Rattle.rpki_validation.specs.declared.stop.Stop.{Stop}
 use Rattle.rpki_validation.specs.Adding.{AddsFiles, AddsSaid, Found, IsSaidAmong, IsSaidBy, UnlessMemory}
-use Rattle.rpki_validation.specs.Alike.{Alike}
 use Rattle.rpki_validation.specs.Basis.{Basis, basis_of, holder_of}
 use Rattle.rpki_validation.specs.Finding.{IsNone, IsSole, StopsAt}
 use Rattle.rpki_validation.specs.Issued.{AreProvidersIn, IsCertIn}
-use Rattle.rpki_validation.specs.Next.{AreSistersBelow}
+use Rattle.rpki_validation.specs.Sisters.{AreSistersBelow}
 use Rattle.rpki_validation.specs.Point.{AreOctetsOf, HoldsAtMoment, IsFile, IsPoint}
 use Rattle.rpki_validation.specs.Publication.{IsPublication, PublicationParts, StandsAs}
 use Rattle.rpki_validation.specs.Reached.{IsBelow}
 use Rattle.rpki_validation.specs.Said.{IsSaid, SayOrigin, SaysOrigin, SaysProviders, SaysRouter}
 use Rattle.rpki_validation.specs.Snapshot.{Published}
-use Rattle.rpki_validation.proofs.AddingLaws.{alike-map, alike-none, stops-none}
+use Rattle.rpki_validation.proofs.AddingLaws.{stops-none}
 use Rattle.rpki_validation.proofs.MetLaws.{cons-cases, head-in, none-in, tail-in}
-use Rattle.rpki_validation.proofs.TakingLaws.{adds-none, adds-same, taking-none, taking-same}
+use Rattle.rpki_validation.proofs.TakingLaws.{adds-none, adds-same}
 
 -- ---- files with their octets
 
@@ -198,18 +197,17 @@ module _ {X : Type 0} (rsa ecdsa : X → Check) (sha1 sha256 : X → List ℕ �
   abbrev pub H : Holder
   H = holder_of issuer
 
-  abbrev Said : Found X → Found X → Type 0
+  abbrev Said : Found → Found → Type 0
   Said = AddsSaid (issuer.depth < issuer.terms.deepest) (SaysOrigin published B H) (SaysProviders published B H)
       (SaysRouter published B H) (IsBelow published B H)
 
   -- where there is no point, nothing is
-  pub point-none : IsNone (IsPoint published B H) → (xs : Found X) → Said xs xs
+  pub point-none : IsNone (IsPoint published B H) → (xs : Found) → Said xs xs
   point-none none xs = record {
     origins = adds-none (SaysOrigin published B H) xs.origins (λ v h. none h.point h.file.published_there);
     providers = adds-none (SaysProviders published B H) xs.providers (λ v h. none h.point h.file.published_there);
     routers = adds-none (SaysRouter published B H) xs.routers (λ v h. none h.point h.file.published_there);
-    below = λ may. taking-none _ _ _
-        (alike-none (IsBelow published B H) (λ y h. none h.point h.published_there));
+    below = λ may. adds-none (IsBelow published B H) xs.below (λ y h. none h.point h.published_there);
   }
 
   pub none-published : IsNone (IsPublication published B.sha256 B.terms.strictness.attributes H.cert.tbs)
@@ -218,7 +216,7 @@ module _ {X : Type 0} (rsa ecdsa : X → Check) (sha1 sha256 : X → List ℕ �
 
   module _ (p : PublicationParts) (sole : IsSole (Publishes published B H) p) (holds : HoldsAtMoment B H p)
       (os : List (List ℕ)) (are : AreOctetsOf published B.sha256 p.folder p.manifest.content.files os)
-      (old new : Found X) where
+      (old new : Found) where
     files-said : AddsFiles rsa ecdsa sha1 sha256 (in_force issuer p.list Refused at) p.manifest.content.files os old new
         → Said old new
     files-said h = record {
@@ -235,11 +233,11 @@ module _ {X : Type 0} (rsa ecdsa : X → Check) (sha1 sha256 : X → List ℕ �
           (λ point octets. IsCertIn Router B H point.list octets v))
           (λ v. said-in published B H p sole holds os are (codes ".cer")
           (λ point octets. IsCertIn Router B H point.list octets v)) h.routers;
-      below = λ may. taking-same _ (Alike (IsBelow published B H)) _ _ _ _
-          (alike-map _ _ (λ y k. said-child published B H y
-          (said-out published B H p sole holds os are (codes ".cer") (IsChild published B H y) k)))
-          (alike-map _ _ (λ y k. said-in published B H p sole holds os are (codes ".cer") (IsChild published B H y)
-          (child-said published B H y k))) (h.below may);
+      below = λ may. adds-same _ (IsBelow published B H) old.below new.below
+          (λ y k. said-child published B H y
+          (said-out published B H p sole holds os are (codes ".cer") (IsChild published B H y) k))
+          (λ y k. said-in published B H p sole holds os are (codes ".cer") (IsChild published B H y)
+          (child-said published B H y k)) (h.below may);
     }
 
     -- what the files say
@@ -249,7 +247,7 @@ module _ {X : Type 0} (rsa ecdsa : X → Check) (sha1 sha256 : X → List ℕ �
         (subst (λ (q : InForce X). AddsFiles rsa ecdsa sha1 sha256 q p.manifest.content.files os old new) e h)
 
   -- why there is none
-  pub stop-publication : (K : Reason → Type 0) (s : Stop) (xs : Found X)
+  pub stop-publication : (K : Reason → Type 0) (s : Stop) (xs : Found)
       → StopsAt (IsPublication published B.sha256 B.terms.strictness.attributes H.cert.tbs) K s
       → UnlessMemory (Said xs xs) s
   stop-publication K s xs h =
@@ -257,13 +255,13 @@ module _ {X : Type 0} (rsa ecdsa : X → Check) (sha1 sha256 : X → List ℕ �
       (λ none. point-none (none-published none) xs) h
 
   module _ (p : PublicationParts) (sole : IsSole (Publishes published B H) p) where
-    pub stop-moment : (K : Reason → Type 0) (s : Stop) (xs : Found X)
+    pub stop-moment : (K : Reason → Type 0) (s : Stop) (xs : Found)
         → StopsAt (λ (u : Unit {0}). HoldsAtMoment B H p) K s → UnlessMemory (Said xs xs) s
     stop-moment K s xs h =
         stops-none (λ (u : Unit {0}). HoldsAtMoment B H p) K (Said xs xs) s
         (λ none. point-none (none-holds published B H p sole none) xs) h
 
-    pub stop-files : (K : Reason → Type 0) (s : Stop) (xs : Found X)
+    pub stop-files : (K : Reason → Type 0) (s : Stop) (xs : Found)
         → StopsAt (AreOctetsOf published B.sha256 p.folder p.manifest.content.files) K s → UnlessMemory (Said xs xs) s
     stop-files K s xs h =
         stops-none (AreOctetsOf published B.sha256 p.folder p.manifest.content.files) K (Said xs xs) s

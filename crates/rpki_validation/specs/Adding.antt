@@ -1,6 +1,6 @@
 -- What is added to what a walk has found, by a file, by the files of a point, and by the point of an authority.
 use Rattle.std.specs.Prelude.{◌≡◌, ◌⊎◌, ◌<◌, ℕ, true, List, [], ◌∷◌, nat_eq, Option, Result, MatchResult}
-use Rattle.std.specs.Prelude.{IfOk, codes}
+use Rattle.std.specs.Prelude.{IfOk, Vec, codes}
 use Rattle.std.specs.List.{Contains, ends_with}
 use Rattle.jiff.specs.Types.{DateTime}
 use Rattle.rpki.specs.Provider.{Check}
@@ -14,21 +14,17 @@ use Rattle.rpki_contents.specs.declared.route_origin.RouteOrigin.{RouteOrigin}
 use Rattle.rpki_objects.specs.TypedObject.{TypedParts}
 use Rattle.rpki_valid.specs.CrlIssued.{InForce}
 use Rattle.rpki_valid.specs.Verified.{Authority, Holder}
-use Rattle.rpki_validation.specs.declared.next.Next.{Next}
 use Rattle.rpki_validation.specs.declared.outcome.Outcome.{Outcome}
 use Rattle.rpki_validation.specs.declared.payload.Payload.{Payload}
 use Rattle.rpki_validation.specs.declared.stop.Stop.{Stop}
 use Rattle.rpki_validation.specs.declared.stop.Stop.TheVariants.{Rejected, OutOfMemory}
-use Rattle.rpki_validation.specs.Alike.{Alike}
-use Rattle.rpki_validation.specs.Basis.{basis_in, basis_of, holder_of}
+use Rattle.rpki_validation.specs.Basis.{basis_in, basis_of, holder_of, holders}
 use Rattle.rpki_validation.specs.Holding.{values}
 use Rattle.rpki_validation.specs.Issued.{AreOriginsIn, AreProvidersIn, IsCertIn}
 use Rattle.rpki_validation.specs.Reached.{IsBelow}
 use Rattle.rpki_validation.specs.Said.{SaysOrigin, SaysProviders, SaysRouter}
 use Rattle.rpki_validation.specs.Snapshot.{Published, Where}
-use Rattle.rpki_validation.specs.Met.{Mark}
-use Rattle.rpki_validation.specs.Next.{IsMet, IsOf}
-use Rattle.rpki_validation.specs.Taking.{Adds, IsTaking}
+use Rattle.rpki_validation.specs.Taking.{Adds}
 
 -- ---- steps
 
@@ -42,36 +38,29 @@ WhereMemory r A = MatchResult r (λ _. A) (UnlessMemory A)
 
 -- ---- what is found
 
--- payloads; the authorities of the next level; and what was met
-pub record Found (X : Type 0) : Type 0 where
+-- payloads, and authorities
+pub record Found : Type 0 where
   pub origins : List RouteOrigin
   pub providers : List (TypedParts AspaParts)
   pub routers : List Holder
-  pub level : List (Authority X)
-  pub met : List Mark
+  pub below : List Holder
 
-abbrev pub found : {X Y : Type 0} → Next X Y → Outcome → Found X
-found next outcome = record {
+abbrev pub found : {X A : Type 0} → Vec (Authority X) A → Outcome → Found
+found below outcome = record {
   origins = values outcome.origins.items;
   providers = values outcome.providers.items;
   routers = values outcome.routers.items;
-  level = next.level.items;
-  met = next.met;
+  below = holders below.items;
 }
 
--- authorities are taken for the next level, one of those that are alike where P is true of it
-abbrev pub Takes : {X : Type 0} → (Holder → Type 0) → List Mark → List Mark → List (Authority X) → List (Authority X)
-    → Type 0
-Takes P met met' level level' = IsTaking (Alike P) (IsMet met) (IsMet met') (IsOf level) (IsOf level')
-
--- Exactly these payloads are added; and these authorities are taken for the next level, where a path may be so long.
-pub record AddsSaid {X : Type 0} (may : Type 0) (IsOrigin : RouteOrigin → Type 0)
-    (AreProviders : TypedParts AspaParts → Type 0) (IsRouter IsAuthority : Holder → Type 0) (old new : Found X)
+-- Exactly these payloads are added, and these authorities, where a path may be so long.
+pub record AddsSaid (may : Type 0) (IsOrigin : RouteOrigin → Type 0)
+    (AreProviders : TypedParts AspaParts → Type 0) (IsRouter IsAuthority : Holder → Type 0) (old new : Found)
     : Type 0 where
   pub origins : Adds IsOrigin old.origins new.origins
   pub providers : Adds AreProviders old.providers new.providers
   pub routers : Adds IsRouter old.routers new.routers
-  pub below : may → Takes IsAuthority old.met new.met old.level new.level
+  pub below : may → Adds IsAuthority old.below new.below
 
 -- ---- files
 
@@ -119,12 +108,11 @@ module _ {X : Type 0} (rsa ecdsa : X → Check) (sha1 sha256 : X → List ℕ �
   abbrev pub AddsRoutersHere : List ℕ → List Holder → List Holder → Type 0
   AddsRoutersHere octets = Adds (λ x. IsCertHere Router x octets)
 
-  abbrev pub TakesHere : {Y : Type 0} → List ℕ → Next X Y → Next X Y → Type 0
-  TakesHere octets old new =
-      MayIssue → Takes (λ x. IsCertHere Ca x octets) old.met new.met old.level.items new.level.items
+  abbrev pub AddsAuthoritiesHere : List ℕ → List Holder → List Holder → Type 0
+  AddsAuthoritiesHere octets old new = MayIssue → Adds (λ x. IsCertHere Ca x octets) old new
 
   -- what a file says is added
-  abbrev pub AddsFile : ListedFile → List ℕ → Found X → Found X → Type 0
+  abbrev pub AddsFile : ListedFile → List ℕ → Found → Found → Type 0
   AddsFile file octets =
       AddsSaid MayIssue (λ v. IsSaidBy (codes ".roa") (SaysOriginHere v) file octets)
       (λ x. IsSaidBy (codes ".asa") (AreProvidersHere x) file octets)
@@ -132,7 +120,7 @@ module _ {X : Type 0} (rsa ecdsa : X → Check) (sha1 sha256 : X → List ℕ �
       (λ x. IsSaidBy (codes ".cer") (IsCertHere Ca x) file octets)
 
   -- what files say
-  abbrev pub AddsFiles : List ListedFile → List (List ℕ) → Found X → Found X → Type 0
+  abbrev pub AddsFiles : List ListedFile → List (List ℕ) → Found → Found → Type 0
   AddsFiles files octets =
       AddsSaid MayIssue (λ v. IsSaidAmong (codes ".roa") (SaysOriginHere v) files octets)
       (λ x. IsSaidAmong (codes ".asa") (AreProvidersHere x) files octets)
@@ -144,7 +132,7 @@ module _ {X : Type 0} (rsa ecdsa : X → Check) (sha1 sha256 : X → List ℕ �
 module _ {X : Type 0} (rsa ecdsa : X → Check) (sha1 sha256 : X → List ℕ → List ℕ) (known : Option Published)
     (issuer : Authority X) (at : DateTime) where
   -- all that it says is added
-  abbrev pub AddsPoint : {R : Type 0} → Found X → Found X → Result R Stop → Type 0
+  abbrev pub AddsPoint : {R : Type 0} → Found → Found → Result R Stop → Type 0
   AddsPoint old new r =
       let basis = basis_of rsa ecdsa sha1 sha256 issuer at in
       let x = holder_of issuer in
@@ -172,8 +160,8 @@ module _ {X : Type 0} (rsa ecdsa : X → Check) (sha1 sha256 : X → List ℕ �
       Where known (λ published. IfOk r (λ _. Adds
       (SaysRouter published (basis_of rsa ecdsa sha1 sha256 issuer at) (holder_of issuer)) (values old) (values new)))
 
-  abbrev pub TakesBelow : {E Y : Type 0} → Next X Y → Next X Y → Result (Unit {0}) E → Type 0
-  TakesBelow old new r =
+  abbrev pub AddsAuthorities : {E : Type 0} → List (Authority X) → List (Authority X) → Result (Unit {0}) E → Type 0
+  AddsAuthorities old new r =
       Where known (λ published. IfOk r (λ _. issuer.depth < issuer.terms.deepest
-      → Takes (IsBelow published (basis_of rsa ecdsa sha1 sha256 issuer at) (holder_of issuer)) old.met new.met
-      old.level.items new.level.items))
+      → Adds (IsBelow published (basis_of rsa ecdsa sha1 sha256 issuer at) (holder_of issuer)) (holders old)
+      (holders new)))

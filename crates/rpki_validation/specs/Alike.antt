@@ -11,6 +11,13 @@ pub record AreAlike (x y : Holder) : Type 0 where
   pub folder : (uri : List ℕ) → HasRepository x.cert.tbs uri ↔ HasRepository y.cert.tbs uri
   pub manifest : (uri : List ℕ) → HasManifest x.cert.tbs uri ↔ HasManifest y.cert.tbs uri
 
+-- one name and one key, and the same places, whatever their resources
+pub record PublishTheSame (x y : Holder) : Type 0 where
+  pub subject : x.cert.tbs.subject ≡ y.cert.tbs.subject
+  pub key : x.cert.tbs.key ≡ y.cert.tbs.key
+  pub folder : (uri : List ℕ) → HasRepository x.cert.tbs uri ↔ HasRepository y.cert.tbs uri
+  pub manifest : (uri : List ℕ) → HasManifest x.cert.tbs uri ↔ HasManifest y.cert.tbs uri
+
 -- one that P is true of is alike
 abbrev pub Alike : (Holder → Type 0) → Holder → Type 0
 Alike P y = (x : Holder) × P x × AreAlike x y

@@ -6,7 +6,7 @@ use Rattle.rpki_locator.specs.declared.anchor_uri.AnchorUri.{AnchorUri}
 use Rattle.rpki_valid.specs.declared.staleness.Staleness.TheVariants.{Refused}
 use Rattle.rpki_valid.specs.Verified.{Holder, IsAuthorityAt, Terms, checkers_by}
 use Rattle.rpki_validation.specs.Basis.{basis_by}
-use Rattle.rpki_validation.specs.Reached.{Counts}
+use Rattle.rpki_validation.specs.Counts.{Counts}
 use Rattle.rpki_validation.specs.Snapshot.{Published}
 
 -- a path of authorities leads from each that counts to a trust anchor, and a list of each was asked

@@ -1,5 +1,5 @@
 -- What validity rests on beside the octets that are published.
-use Rattle.std.specs.Prelude.{ℕ, List, Some}
+use Rattle.std.specs.Prelude.{ℕ, List, Some, map}
 use Rattle.jiff.specs.Types.{DateTime}
 use Rattle.rpki.specs.Provider.{Check}
 use Rattle.rpki_time.specs.Validity.{Period}
@@ -7,8 +7,8 @@ use Rattle.rpki_valid.specs.declared.staleness.Staleness.TheVariants.{Refused}
 use Rattle.rpki_valid.specs.CrlIssued.{InForce}
 use Rattle.rpki_valid.specs.Verified.{Authority, Checkers, Holder, Terms, Verified, checkers_by, holder}
 
--- what all certificates of a path are checked against: the key of the trust anchor, whether names are looked at, how
--- many authorities there are at most below the trust anchor; what signatures and digests are; and the moment
+-- what all certificates of a path are checked against: the key of the trust anchor, which rules are kept strictly, and
+-- how many steps there are at most below the trust anchor; what signatures and digests are; and the moment
 pub record Basis : Type 1 where
   pub terms : Terms
   pub by : Checkers
@@ -34,6 +34,10 @@ basis_in rsa ecdsa sha1 sha256 c = basis_of rsa ecdsa sha1 sha256 c.issuer c.at
 -- the certificate of an authority, and its resources
 abbrev pub holder_of : {X : Type 0} → Authority X → Holder
 holder_of a = holder a.cert a.resources
+
+-- those of several
+abbrev pub holders : {X : Type 0} → List (Authority X) → List Holder
+holders level = map holder_of level
 
 abbrev pub moment : DateTime → Period
 moment at = record { not_before = at; not_after = at }

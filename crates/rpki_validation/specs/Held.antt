@@ -1,9 +1,7 @@
 -- What steps of a walk promise of the periods of payloads.
-use Rattle.std.specs.Prelude.{◌<◌, ℕ, List, Option, codes}
-use Rattle.std.specs.List.{Contains}
+use Rattle.std.specs.Prelude.{ℕ, List, Option, codes}
 use Rattle.jiff.specs.Types.{DateTime}
 use Rattle.rpki.specs.Provider.{Check}
-use Rattle.rpki_time.specs.Validity.{Period}
 use Rattle.rpki_cert.specs.Cert.{CertParts}
 use Rattle.rpki_contents.specs.declared.route_origin.RouteOrigin.{RouteOrigin}
 use Rattle.rpki_contents.specs.Aspa.{AspaParts}
@@ -16,7 +14,7 @@ use Rattle.rpki_validation.specs.declared.outcome.Outcome.{Outcome}
 use Rattle.rpki_validation.specs.declared.payload.Payload.{Payload}
 use Rattle.rpki_validation.specs.Adding.{IsSaidBy}
 use Rattle.rpki_validation.specs.Basis.{Basis, basis_in, basis_of, holder_of}
-use Rattle.rpki_validation.specs.Holding.{IsPeriodUnder, IsSaidFor, ReachedFor, SaysOriginBy, SaysProvidersBy}
+use Rattle.rpki_validation.specs.Holding.{IsPeriodUnder, IsSaidFor, SaysOriginBy, SaysProvidersBy}
 use Rattle.rpki_validation.specs.Holding.{SaysRouterBy}
 use Rattle.rpki_validation.specs.Noting.{AddsOnly, AnyPair}
 use Rattle.rpki_validation.specs.Snapshot.{Published, Where}
@@ -59,19 +57,10 @@ module _ {X : Type 0} (rsa ecdsa : X → Check) (sha1 sha256 : X → List ℕ �
       AddsHeld (IsSaidByOne (codes ".roa") SaysOriginBy files octets)
       (IsSaidByOne (codes ".asa") SaysProvidersBy files octets) (IsSaidByOne (codes ".cer") SaysRouterBy files octets)
 
--- ---- of an authority, and of one of several
+-- ---- of an authority
 
 abbrev pub IsSaidOf : {X T : Type 0} → Published → Basis → List ℕ → SaysBy T → Authority X → Payload T → Type 0
 IsSaidOf published basis end Says a = IsSaidFor published basis end Says (holder_of a) a.period
-
-abbrev pub OneOf : {X V : Type 0} → (Authority X → V → Type 0) → List (Authority X) → V → Type 0
-OneOf {X} Of level v = (a : Authority X) × Contains level a × Of a v
-
-abbrev pub AddsHeldBy : {X : Type 0} → Published → Basis → List (Authority X) → Outcome → Outcome → Type 0
-AddsHeldBy published basis level =
-    AddsHeld (OneOf (IsSaidOf published basis (codes ".roa") SaysOriginBy) level)
-    (OneOf (IsSaidOf published basis (codes ".asa") SaysProvidersBy) level)
-    (OneOf (IsSaidOf published basis (codes ".cer") SaysRouterBy) level)
 
 module _ {X : Type 0} (rsa ecdsa : X → Check) (sha1 sha256 : X → List ℕ → List ℕ) (known : Option Published)
     (issuer : Authority X) (at : DateTime) where
@@ -81,20 +70,3 @@ module _ {X : Type 0} (rsa ecdsa : X → Check) (sha1 sha256 : X → List ℕ �
       Where known (λ published. AddsHeld (IsSaidOf published basis (codes ".roa") SaysOriginBy issuer)
       (IsSaidOf published basis (codes ".asa") SaysProvidersBy issuer)
       (IsSaidOf published basis (codes ".cer") SaysRouterBy issuer) old new)
-
--- ---- of authorities that are reached by fewer steps
-
-abbrev pub IsHeldUnder : {T : Type 0} → Published → Basis → (Holder → Type 0) → ℕ → List ℕ → SaysBy T → Payload T
-    → Type 0
-IsHeldUnder published basis IsTop k end Says v =
-    (n : ℕ) × (n < k) × (x : Holder) × (above : Period) × ReachedFor published basis IsTop n x above
-    × IsSaidFor published basis end Says x above v
-
-pub record AreHeldBy (published : Published) (basis : Basis) (IsTop : Holder → Type 0) (k : ℕ) (o : Outcome) : Type 0
-  where
-    pub origins : (v : Payload RouteOrigin) → Contains o.origins.items v
-        → IsHeldUnder published basis IsTop k (codes ".roa") SaysOriginBy v
-    pub providers : (v : Payload (TypedParts AspaParts)) → Contains o.providers.items v
-        → IsHeldUnder published basis IsTop k (codes ".asa") SaysProvidersBy v
-    pub routers : (v : Payload Holder) → Contains o.routers.items v
-        → IsHeldUnder published basis IsTop k (codes ".cer") SaysRouterBy v

@@ -17,6 +17,7 @@ use Rattle.rpki_valid.specs.Revocation.{IsCurrentAt}
 use Rattle.rpki_valid.specs.Verified.{Holder}
 use Rattle.rpki_validation.specs.declared.payload.Payload.{Payload}
 use Rattle.rpki_validation.specs.Basis.{Basis}
+use Rattle.rpki_validation.specs.Counts.{CountsAt}
 use Rattle.rpki_validation.specs.Issued.{AreOriginsIn, AreProvidersIn, IsCertIn}
 use Rattle.rpki_validation.specs.Point.{IsFile, IsPoint}
 use Rattle.rpki_validation.specs.Publication.{PublicationParts}
@@ -92,6 +93,7 @@ pub record IsHeldFor {T : Type 0} (published : Published) (basis : Basis) (uris 
   pub few : steps ≤ basis.terms.deepest
   pub issuer : Holder
   pub above : Period
+  pub counted : CountsAt published basis uris steps issuer
   pub reached : ReachedFor published basis (IsFirstAnchor published basis uris) steps issuer above
   pub said : IsSaidFor published basis end Says issuer above v
 

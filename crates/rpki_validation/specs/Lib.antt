@@ -7,6 +7,7 @@ pub mod Point
 pub mod Issued
 pub mod Levels
 pub mod Reached
+pub mod Named
 pub mod Steps
 pub mod Authorities
 pub mod Payload
@@ -14,7 +15,10 @@ pub mod Said
 pub mod Alike
 pub mod Met
 pub mod Taking
-pub mod Next
+pub mod Sisters
+pub mod Counts
+pub mod Waiting
+pub mod Looked
 pub mod Noting
 pub mod Rejected
 pub mod Holding

@@ -2,7 +2,7 @@
 use Rattle.std.specs.Prelude.{◌≡◌, ◌↔◌, ◌++◌, ◌⊎◌, ℕ, Bool, List, [], ◌∷◌, length, map, Option, Some, None, Result}
 use Rattle.std.specs.Prelude.{Ok, Err}
 use Rattle.std.specs.BTreeSet.{BTreeSet}
-use Rattle.std.specs.Bool.{OnFalse}
+use Rattle.std.specs.Bool.{OnFalse, OnTrue}
 use Rattle.std.specs.List.{Contains}
 use Rattle.rpki.specs.declared.crypto.keys.PublicKeyFormat.{PublicKeyFormat}
 use Rattle.rpki.specs.declared.crypto.keys.PublicKeyFormat.TheVariants.{Rsa, EcdsaP256}
@@ -51,7 +51,15 @@ mark name key folder manifest numbers =
 abbrev pub IsPlace : (List ℕ → Type 0) → Option (List ℕ) → Type 0
 IsPlace Has place = (uri : List ℕ) → Has uri ↔ (place ≡ Some uri)
 
--- the mark of an authority
+-- the mark of where an authority publishes
+pub record HasPlaceMark (x : Holder) (m : Mark) : Type 0 where
+  pub name : m.name ≡ x.cert.tbs.subject
+  pub key : m.key ≡ x.cert.tbs.key.bits.octets
+  pub folder : IsPlace (HasRepository x.cert.tbs) m.folder
+  pub manifest : IsPlace (HasManifest x.cert.tbs) m.manifest
+  pub numbers : m.numbers ≡ format_number x.cert.tbs.key.format ∷ x.cert.tbs.key.bits.unused ∷ []
+
+-- that of the authority itself
 pub record HasMark (x : Holder) (m : Mark) : Type 0 where
   pub name : m.name ≡ x.cert.tbs.subject
   pub key : m.key ≡ x.cert.tbs.key.bits.octets
@@ -82,7 +90,12 @@ pub record Inserts (before after : List Mark) (mark : Mark) (is_new : Bool) : Ty
   pub kept : (x : Mark) → Contains after x → Contains before x ⊎ (x ≡ mark)
   pub old : (x : Mark) → Contains before x → Contains after x
   pub same : OnFalse is_new (after ≡ before)
+  pub fresh : OnTrue is_new (Contains before mark → ⊥)
 
 -- the mark of an authority is so
 abbrev pub InsertsMarkOf : List Mark → List Mark → Holder → Bool → Type 0
 InsertsMarkOf before after x is_new = (m : Mark) × HasMark x m × Inserts before after m is_new
+
+-- the mark of where an authority publishes is
+abbrev pub InsertsPlaceOf : List Mark → List Mark → Holder → Bool → Type 0
+InsertsPlaceOf before after x is_new = (m : Mark) × HasPlaceMark x m × Inserts before after m is_new

@@ -13,7 +13,7 @@ use Rattle.rpki_validation.specs.Basis.{Basis}
 use Rattle.rpki_validation.specs.Issued.{AreOriginsIn, AreProvidersIn, IsCertIn}
 use Rattle.rpki_validation.specs.Point.{IsFile, IsPoint}
 use Rattle.rpki_validation.specs.Publication.{PublicationParts}
-use Rattle.rpki_validation.specs.Reached.{Counts}
+use Rattle.rpki_validation.specs.Counts.{Counts}
 use Rattle.rpki_validation.specs.Snapshot.{Published}
 
 -- the octets are a file, whose name ends so, of a point of an authority that counts

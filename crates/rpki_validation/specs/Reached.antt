@@ -1,5 +1,5 @@
 -- The authorities that a walk from the trust anchor of a locator reaches (RFC 8630 3, RFC 6487 7.2).
-use Rattle.std.specs.Prelude.{◌≡◌, ◌⊎◌, ◌≤◌, ℕ, List, [], ◌∷◌, Some, None, codes}
+use Rattle.std.specs.Prelude.{◌≡◌, ◌⊎◌, ℕ, List, [], ◌∷◌, Some, None, codes}
 use Rattle.rpki_locator.specs.declared.anchor_uri.AnchorUri.{AnchorUri}
 use Rattle.rpki_locator.specs.Locator.{uri_text}
 use Rattle.rpki_cert.specs.CertFault.{IsDecodedPart}
@@ -68,10 +68,3 @@ pub record IsBelow (published : Published) (basis : Basis) (issuer x : Holder) :
 -- so many steps lead down from the trust anchor of the locator with these URIs
 abbrev pub IsReached : Published → Basis → List AnchorUri → ℕ → Holder → Type 0
 IsReached published basis uris = Reached (IsFirstAnchor published basis uris) (IsBelow published basis)
-
--- The authority counts: it is reached by no more steps than the terms have. By how many steps it is reached first
--- doesn't matter, so that authorities which certify each other are no harm.
-pub record Counts (published : Published) (basis : Basis) (uris : List AnchorUri) (x : Holder) : Type 0 where
-  pub steps : ℕ
-  pub few : steps ≤ basis.terms.deepest
-  pub reached : IsReached published basis uris steps x

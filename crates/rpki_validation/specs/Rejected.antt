@@ -13,6 +13,7 @@ use Rattle.rpki_validation.specs.declared.outcome.Rejection.{Rejection}
 use Rattle.rpki_validation.specs.declared.reason.Reason.{Reason}
 use Rattle.rpki_validation.specs.Alike.{AreAlike}
 use Rattle.rpki_validation.specs.Basis.{Basis}
+use Rattle.rpki_validation.specs.Counts.{CountsAt}
 use Rattle.rpki_validation.specs.Finding.{IsNone}
 use Rattle.rpki_validation.specs.Issued.{AreOriginsIn, AreNoOriginsIn, AreProvidersIn, AreNoProvidersIn, IsCountedCert}
 use Rattle.rpki_validation.specs.Issued.{IsNoCertIn}
@@ -20,7 +21,6 @@ use Rattle.rpki_validation.specs.Met.{IsPlace}
 use Rattle.rpki_validation.specs.Noting.{Noted}
 use Rattle.rpki_validation.specs.Point.{HoldsAtMoment, IsIncomplete, IsNoMoment, IsPoint}
 use Rattle.rpki_validation.specs.Publication.{HasManifest, IsNoPublication, IsPublication, PublicationParts, StandsAs}
-use Rattle.rpki_validation.specs.Reached.{IsReached}
 use Rattle.rpki_validation.specs.Snapshot.{Published}
 
 -- ---- files, by the ends of their names
@@ -111,7 +111,7 @@ pub record IsRejection (published : Published) (basis : Basis) (uris : List Anch
   pub steps : ℕ
   pub few : steps ≤ basis.terms.deepest
   pub issuer : Holder
-  pub reached : IsReached published basis uris steps issuer
+  pub counted : CountsAt published basis uris steps issuer
   pub rejected : IsRejectionOf published basis steps issuer r
 
 -- among these is all that is rejected of an authority that counts, and is alike
@@ -121,5 +121,5 @@ pub record IsNotedUnder (published : Published) (basis : Basis) (uris : List Anc
   pub few : steps ≤ basis.terms.deepest
   pub issuer : Holder
   pub alike : AreAlike issuer x
-  pub reached : IsReached published basis uris steps issuer
+  pub counted : CountsAt published basis uris steps issuer
   pub noted : AreNoted published basis steps issuer all

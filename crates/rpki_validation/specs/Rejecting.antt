@@ -1,7 +1,6 @@
 -- What steps of a walk promise of rejections.
 use Rattle.std.specs.Prelude.{◌≡◌, ◌++◌, ℕ, true, false, List, [], ◌∷◌, Option, Some, None, Result}
 use Rattle.std.specs.Prelude.{MatchResult, codes}
-use Rattle.std.specs.List.{Contains}
 use Rattle.jiff.specs.Types.{DateTime}
 use Rattle.rpki.specs.Provider.{Check}
 use Rattle.rpki_cert.specs.declared.profile.Profile.TheVariants.{Ca}
@@ -129,10 +128,6 @@ pub record Rejects (published : Published) (basis : Basis) (depth : ℕ) (Level 
 
 abbrev pub Only : Holder → Holder → Type 0
 Only x y = x ≡ y
-
--- the holder is one of these authorities
-abbrev pub IsIn : {X : Type 0} → List (Authority X) → Holder → Type 0
-IsIn {X} level x = (a : Authority X) × Contains level a × (holder_of a ≡ x)
 
 -- the one authority is below the other, and this is the period of its path
 abbrev pub IsChild : {X : Type 0} → Published → Basis → Authority X → Authority X → Type 0

@@ -1,5 +1,6 @@
 -- What a walk finds is exactly what is valid under a locator.
-use Rattle.std.specs.Prelude.{◌≡◌, ◌↔◌, ◌<◌, ◌+◌, ℕ, List, ◌∷◌, [], Option, Result, MatchResult, suc}
+use Rattle.std.specs.Prelude.{◌≡◌, ◌⊎◌, ◌↔◌, ◌<◌, ◌+◌, not, ℕ, Bool, true, false, List, Option, Result}
+use Rattle.std.specs.Prelude.{IsTrue, MatchResult, codes}
 use Rattle.std.specs.List.{Contains}
 use Rattle.jiff.specs.Types.{DateTime}
 use Rattle.rpki.specs.Provider.{Check}
@@ -8,26 +9,28 @@ use Rattle.rpki_contents.specs.Aspa.{AspaParts}
 use Rattle.rpki_locator.specs.declared.anchor_uri.AnchorUri.{AnchorUri}
 use Rattle.rpki_objects.specs.TypedObject.{TypedParts}
 use Rattle.rpki_valid.specs.Verified.{Authority, Holder, Terms}
-use Rattle.rpki_validation.specs.declared.next.Next.{Next}
 use Rattle.rpki_validation.specs.declared.outcome.Outcome.{Outcome}
 use Rattle.rpki_validation.specs.declared.outcome.Rejection.{Rejection}
 use Rattle.rpki_validation.specs.declared.payload.Payload.{Payload}
 use Rattle.rpki_validation.specs.declared.stop.Stop.{Stop}
-use Rattle.rpki_validation.specs.Alike.{Alike, AreAlike}
+use Rattle.rpki_validation.specs.Alike.{PublishTheSame}
 use Rattle.rpki_validation.specs.Basis.{Basis, basis_by, basis_of, holder_of}
-use Rattle.rpki_validation.specs.Finding.{StopsAt}
-use Rattle.rpki_validation.specs.Held.{AddsHeldBy, AreHeldBy, OneOf}
-use Rattle.rpki_validation.specs.Holding.{AreProvidersFor, IsOriginFor, IsRouterFor, values}
-use Rattle.rpki_validation.specs.Levels.{Before, Reached}
-use Rattle.rpki_validation.specs.Next.{AreSisters, IsMet, IsOf}
-use Rattle.rpki_validation.specs.Noting.{AddsOnly}
+use Rattle.rpki_validation.specs.Counts.{Counts, CountsAt}
+use Rattle.rpki_validation.specs.Finding.{IsSole, StopsAt}
+use Rattle.rpki_validation.specs.Held.{AddsHeld, IsSaidOf}
+use Rattle.rpki_validation.specs.Holding.{AreProvidersFor, IsOriginFor, IsRouterFor, SaysOriginBy, SaysProvidersBy}
+use Rattle.rpki_validation.specs.Holding.{SaysRouterBy, values}
+use Rattle.rpki_validation.specs.Met.{HasMark, Mark}
+use Rattle.rpki_validation.specs.Named.{IsNamedBelow}
 use Rattle.rpki_validation.specs.Payload.{AreProviders, IsOrigin, IsRouter}
-use Rattle.rpki_validation.specs.Reached.{Counts, IsBelow, IsFirstAnchor, IsNoAnchor}
-use Rattle.rpki_validation.specs.Rejected.{AreNoted, IsNotedUnder, IsRejection, IsRejectionOf}
-use Rattle.rpki_validation.specs.Rejecting.{IsChild, IsIn, Only, Rejects}
+use Rattle.rpki_validation.specs.Reached.{IsBelow, IsFirstAnchor, IsNoAnchor}
+use Rattle.rpki_validation.specs.Rejected.{IsNotedUnder, IsRejection}
+use Rattle.rpki_validation.specs.Rejecting.{IsChild, Only, Rejects}
 use Rattle.rpki_validation.specs.Said.{SaysOrigin, SaysProviders, SaysRouter}
+use Rattle.rpki_validation.specs.Sisters.{IsSister}
 use Rattle.rpki_validation.specs.Snapshot.{Published, Where}
-use Rattle.rpki_validation.specs.Taking.{Adds, Among, IsTaking}
+use Rattle.rpki_validation.specs.Taking.{Adds}
+use Rattle.rpki_validation.specs.Waiting.{Entry, HasKey, Key}
 
 -- ---- the whole
 
@@ -37,7 +40,9 @@ SayProviders all v = (x : TypedParts AspaParts) × Contains all x × (x.content 
 
 -- A locator with these URIs has a trust anchor; and the payloads are those that are valid under it, and no others, each
 -- in its period. Each rejection is one of an authority that counts, and has a true reason; and all that is rejected of
--- it is among them.
+-- it is among them. And no place is passed over: of what is below one that counts, where a path may be longer,
+-- something
+-- that counts publishes the same.
 pub record AreExactly (published : Published) (basis : Basis) (uris : List AnchorUri) (o : Outcome) : Type 0 where
   pub anchor : Holder
   pub first : IsFirstAnchor published basis uris anchor
@@ -51,6 +56,8 @@ pub record AreExactly (published : Published) (basis : Basis) (uris : List Ancho
   pub rejections : (r : Rejection) → Contains o.rejections.items r → IsRejection published basis uris r
   pub rejected : (x : Holder) → Counts published basis uris x
       → IsNotedUnder published basis uris o.rejections.items x
+  pub covered : (k : ℕ) (x y : Holder) → CountsAt published basis uris k x → k < basis.terms.deepest
+      → IsBelow published basis x y → (z : Holder) × Counts published basis uris z × PublishTheSame z y
 
 -- the payloads of a locator; or why it has no trust anchor
 abbrev pub Validates : {X : Type 0} → (X → Check) → (X → Check) → (X → List ℕ → List ℕ) → (X → List ℕ → List ℕ)
@@ -60,106 +67,58 @@ Validates rsa ecdsa sha1 sha256 terms provider at known uris r =
     Where known (λ published. MatchResult r (AreExactly published basis uris)
     (StopsAt (IsFirstAnchor published basis uris) (IsNoAnchor published basis uris)))
 
--- ---- parts of the walk
+-- ---- the walk
 
--- exactly what the points of these authorities say is added
-pub record AreSaid (published : Published) (basis : Basis) (Level : Holder → Type 0) (old new : Outcome) : Type 0 where
-  pub origins : Adds (Among Level (SaysOrigin published basis)) (values old.origins.items) (values new.origins.items)
-  pub providers : Adds (Among Level (SaysProviders published basis)) (values old.providers.items)
-      (values new.providers.items)
-  pub routers : Adds (Among Level (SaysRouter published basis)) (values old.routers.items) (values new.routers.items)
+-- where the trust anchor is that of a locator with these URIs, what is valid below it
+abbrev pub TellsBelow : {X : Type 0} → (X → Check) → (X → Check) → (X → List ℕ → List ℕ) → (X → List ℕ → List ℕ)
+    → Option Published → DateTime → Authority X → Outcome → Type 0
+TellsBelow rsa ecdsa sha1 sha256 known at anchor o =
+    let basis = basis_of rsa ecdsa sha1 sha256 anchor at in
+    Where known (λ published. (uris : List AnchorUri)
+    → IsSole (IsFirstAnchor published basis uris) (holder_of anchor) → AreExactly published basis uris o)
 
--- one alike is below
-abbrev pub IsAlikeBelow : Published → Basis → Holder → Holder → Type 0
-IsAlikeBelow published basis x = Alike (IsBelow published basis x)
+-- ---- one authority that is looked at
 
--- exactly what the points of those say that are reached by fewer steps
-pub record AreToldBy (published : Published) (basis : Basis) (IsFirst : Holder → Type 0) (k : ℕ) (o : Outcome) : Type 0
-  where
-    pub origins : (v : RouteOrigin) → Contains (values o.origins.items) v
-        ↔ Among (Before IsFirst (IsAlikeBelow published basis) k) (SaysOrigin published basis) v
-    pub providers : (v : TypedParts AspaParts) → Contains (values o.providers.items) v
-        ↔ Among (Before IsFirst (IsAlikeBelow published basis) k) (SaysProviders published basis) v
-    pub routers : (v : Holder) → Contains (values o.routers.items) v
-        ↔ Among (Before IsFirst (IsAlikeBelow published basis) k) (SaysRouter published basis) v
+-- an authority that waits is below the one, under its steps and its mark; and by name, where both are named
+pub record IsWaitingBelow {X : Type 0} (published : Published) (basis : Basis) (is_named : Bool) (issuer : Authority X)
+    (e : Entry X) : Type 0 where
+  pub child : IsChild published basis issuer e.1
+  pub marked : HasMark (holder_of e.1) e.0.1.1
+  pub depth : e.0.1.0 ≡ e.1.depth
+  pub named : IsTrue (not e.0.0)
+      → IsTrue is_named × IsNamedBelow published basis (holder_of issuer) (holder_of e.1)
 
--- Each rejection is one of an authority that is reached by fewer steps; and all that is rejected of one that is reached
--- so is noted, of one that is alike and reached so too.
-pub record AreRejectedBy (published : Published) (basis : Basis) (IsFirst IsTop : Holder → Type 0) (k : ℕ)
-    (all : List Rejection) : Type 0 where
-  pub each : (r : Rejection) → Contains all r
-      → (n : ℕ) × (n < k) × (x : Holder) × Reached IsTop (IsBelow published basis) n x
-      × IsRejectionOf published basis n x r
-  pub noted : (x : Holder) → Before IsFirst (IsAlikeBelow published basis) k x
-      → (n : ℕ) × (n < k) × (y : Holder) × AreAlike y x × Reached IsTop (IsBelow published basis) n y
-      × AreNoted published basis n y all
+-- it waits under so many steps
+abbrev pub WaitsUnder : {X : Type 0} → List (Entry X) → Bool → ℕ → Holder → Type 0
+WaitsUnder w is_other k x = (m : Mark) × HasMark x m × HasKey w (is_other, (k, m))
 
--- one of these authorities has issued it
-abbrev pub IsBelowOne : {X : Type 0} → Published → Basis → List (Authority X) → Authority X → Type 0
-IsBelowOne published basis = OneOf (IsChild published basis)
+-- What the authority says is added, and what is rejected of it; and what is below it waits: as named, where both are.
+pub record LooksAtOne {X : Type 0} (published : Published) (basis : Basis) (is_named : Bool) (issuer : Authority X)
+    (w w' : List (Entry X)) (o o' : Outcome) : Type 0 where
+  pub origins : Adds (SaysOrigin published basis (holder_of issuer)) (values o.origins.items) (values o'.origins.items)
+  pub providers : Adds (SaysProviders published basis (holder_of issuer)) (values o.providers.items)
+      (values o'.providers.items)
+  pub routers : Adds (SaysRouter published basis (holder_of issuer)) (values o.routers.items) (values o'.routers.items)
+  pub held : AddsHeld (IsSaidOf published basis (codes ".roa") SaysOriginBy issuer)
+      (IsSaidOf published basis (codes ".asa") SaysProvidersBy issuer)
+      (IsSaidOf published basis (codes ".cer") SaysRouterBy issuer) o o'
+  pub rejected : Rejects published basis issuer.depth (Only (holder_of issuer)) o.rejections.items o'.rejections.items
+  pub only : (e : Entry X) → Contains w' e
+      → Contains w e ⊎ IsWaitingBelow published basis is_named issuer e
+  pub named : IsTrue is_named → issuer.depth < issuer.terms.deepest → (x : Holder)
+      → IsNamedBelow published basis (holder_of issuer) x → WaitsUnder w' false (issuer.depth + 1) x
+  pub others : issuer.depth < issuer.terms.deepest → (x : Holder) → IsBelow published basis (holder_of issuer) x
+      → (IsTrue is_named × IsNamedBelow published basis (holder_of issuer) x)
+      ⊎ WaitsUnder w' true (issuer.depth + 1) x
+  pub kept : (key : Key) → HasKey w key → HasKey w' key
 
--- a fact of authorities, each so many steps below the trust anchor, that are checked against one thing
-abbrev pub OfSisters : {X : Type 0} → DateTime → List (Authority X) → (Terms → X → ℕ → Type 0) → Type 0
-OfSisters {X} at level P =
-    (terms : Terms) (provider : X) (k : ℕ) → AreSisters terms provider at k level → P terms provider k
+abbrev pub LooksAt : {X : Type 0} → (X → Check) → (X → Check) → (X → List ℕ → List ℕ) → (X → List ℕ → List ℕ)
+    → Option Published → DateTime → Bool → Authority X → List (Entry X) → List (Entry X) → Outcome → Outcome → Type 0
+LooksAt rsa ecdsa sha1 sha256 known at is_named issuer w w' o o' =
+    Where known (λ published. LooksAtOne published (basis_of rsa ecdsa sha1 sha256 issuer at) is_named issuer w w' o o')
 
-module _ {X : Type 0} (rsa ecdsa : X → Check) (sha1 sha256 : X → List ℕ → List ℕ) (known : Option Published)
-    (at : DateTime) where
-  -- what the points of these authorities say is added
-  abbrev pub SaysLevel : List (Authority X) → Outcome → Outcome → Type 0
-  SaysLevel level old new = OfSisters at level (λ terms provider k.
-      Where known (λ published. AreSaid published (basis_by rsa ecdsa sha1 sha256 terms provider at) (IsOf level) old
-      new))
-
-  -- what is below them is taken, where more steps are permitted
-  abbrev pub TakesLevel : {Y : Type 0} → List (Authority X) → Next X Y → Next X Y → Type 0
-  TakesLevel level old new = OfSisters at level (λ terms provider k.
-      Where known (λ published. k < terms.deepest
-      → IsTaking (Among (IsOf level) (IsAlikeBelow published (basis_by rsa ecdsa sha1 sha256 terms provider at)))
-      (IsMet old.met) (IsMet new.met) (IsOf old.level.items) (IsOf new.level.items)))
-
-  -- all that is rejected of these authorities is noted
-  abbrev pub RejectsLevel : List (Authority X) → Outcome → Outcome → Type 0
-  RejectsLevel level old new = OfSisters at level (λ terms provider k.
-      Where known (λ published. Rejects published (basis_by rsa ecdsa sha1 sha256 terms provider at) k (IsIn level)
-      old.rejections.items new.rejections.items))
-
-  -- payloads that are added hold in their periods
-  abbrev pub HoldsLevel : List (Authority X) → Outcome → Outcome → Type 0
-  HoldsLevel level old new = OfSisters at level (λ terms provider k.
-      Where known (λ published. AddsHeldBy published (basis_by rsa ecdsa sha1 sha256 terms provider at) level old new))
-
-  -- an authority that is added is below one of them
-  abbrev pub AddsChildrenOf : List (Authority X) → List (Authority X) → List (Authority X) → Type 0
-  AddsChildrenOf level old new = OfSisters at level (λ terms provider k.
-      Where known (λ published.
-      AddsOnly (IsBelowOne published (basis_by rsa ecdsa sha1 sha256 terms provider at) level) old new))
-
-  -- what is valid below this trust anchor
-  abbrev pub TellsBelow : Authority X → Outcome → Type 0
-  TellsBelow anchor o =
-      Where known (λ published. AreToldBy published (basis_of rsa ecdsa sha1 sha256 anchor at) (IsOf (anchor ∷ []))
-      (suc anchor.terms.deepest) o)
-
-  -- each payload in its period
-  abbrev pub HoldsBelow : Authority X → Outcome → Type 0
-  HoldsBelow anchor o =
-      Where known (λ published. AreHeldBy published (basis_of rsa ecdsa sha1 sha256 anchor at)
-      (Only (holder_of anchor)) (suc anchor.terms.deepest) o)
-
-  -- what is rejected
-  abbrev pub RejectsBelow : Authority X → Outcome → Type 0
-  RejectsBelow anchor o =
-      Where known (λ published. AreRejectedBy published (basis_of rsa ecdsa sha1 sha256 anchor at)
-      (IsOf (anchor ∷ [])) (Only (holder_of anchor)) (suc anchor.terms.deepest) o.rejections.items)
-
--- the authorities that are added are one step further down
-abbrev pub AddsSisters : {X : Type 0} → DateTime → List (Authority X) → List (Authority X) → List (Authority X) → Type 0
-AddsSisters at level old new =
-    OfSisters at level (λ terms provider k. AreSisters terms provider at (k + 1) old
-    → AreSisters terms provider at (k + 1) new)
-
--- the authority is taken for the next level
-abbrev pub TakesOne : {X Y : Type 0} → Authority X → Next X Y → Next X Y → Type 0
-TakesOne a old new =
-    IsTaking (AreAlike (holder_of a)) (IsMet old.met) (IsMet new.met) (IsOf old.level.items) (IsOf new.level.items)
+-- each that waits was there, or is one step below the authority
+abbrev pub WaitBelow : {X : Type 0} → Authority X → DateTime → List (Entry X) → List (Entry X) → Type 0
+WaitBelow issuer at w w' =
+    (e : Entry _) → Contains w' e
+    → Contains w e ⊎ IsSister issuer.terms issuer.provider at (issuer.depth + 1) e.1

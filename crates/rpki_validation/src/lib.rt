@@ -6,8 +6,9 @@
 mod anchor;
 mod issued;
 pub mod laws;
+mod looked;
 mod met;
-mod next;
+mod named;
 mod outcome;
 mod payload;
 mod point;
@@ -17,6 +18,7 @@ mod router;
 mod snapshot;
 mod stop;
 mod visit;
+mod waiting;
 mod walk;
 
 pub use anchor::anchor_of;

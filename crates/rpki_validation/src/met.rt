@@ -4,7 +4,7 @@ ghost use Rattle.std.specs.Prelude.{◌≡◌, ◌++◌, [], IfOk};
 ghost use Rattle.rpki_valid.specs.Verified.{IsVerified, verified_by};
 ghost use Rattle.rpki_validation.specs.Basis.{holder_of};
 ghost use Rattle.rpki_validation.specs.Met.{counted, format_number, numbers_of, mark_in};
-ghost use Rattle.rpki_validation.specs.Met.{HasMark, InsertsMarkOf, IsPlaceOf};
+ghost use Rattle.rpki_validation.specs.Met.{HasMark, HasPlaceMark, InsertsMarkOf, InsertsPlaceOf, IsPlaceOf};
 
 use crate::publication::{manifest_place, repository_of};
 use crate::stop::Stop;
@@ -20,7 +20,7 @@ use std::marker::Model;
 
 /// What tells an authority apart: its name, its key's bits, the URIs of its folder and its manifest, and numbers: the
 /// algorithm of the key, its count of unused bits, and the resources. Octets are compared, and no digests of them.
-type Mark = (Bytes, Bytes, Option<Bytes>, Option<Bytes>, Vec<u128>);
+pub(crate) type Mark = (Bytes, Bytes, Option<Bytes>, Option<Bytes>, Vec<u128>);
 
 /// Authorities that were met.
 #[derive(Drop)]
@@ -85,12 +85,12 @@ fn place_of(found: Result<Rsync, Stop>) -> Result<Option<Bytes>, AllocError>
     }
 }
 
-/// The mark of the authority.
-fn mark_of<'p, P: PreparingProvider>(
+/// The mark of where the authority publishes, which is without its resources.
+fn place_mark_of<'p, P: PreparingProvider>(
     alloc: Global,
     authority: &ResourceCert<'p, P>,
 ) -> Result<Mark, AllocError>
-    ensures mark { IfOk result (λ k. HasMark (holder_of authority.now) (mark_in (λ v. v.items) k)) }
+    ensures mark { IfOk result (λ k. HasPlaceMark (holder_of authority.now) (mark_in (λ v. v.items) k)) }
     // It was verified.
     ensures verified { IfOk result (λ _. IsVerified (verified_by P.rsa_of P.ecdsa_of P.sha1_of authority.now)) }
 {
@@ -103,6 +103,19 @@ fn mark_of<'p, P: PreparingProvider>(
     let mut numbers = Vec::new(alloc);
     numbers.push(format_number(key.algorithm()))?;
     numbers.push(u128::from(key.unused()))?;
+    Ok((name, bits, folder, manifest, numbers))
+}
+
+/// The mark of the authority.
+pub(crate) fn mark_of<'p, P: PreparingProvider>(
+    alloc: Global,
+    authority: &ResourceCert<'p, P>,
+) -> Result<Mark, AllocError>
+    ensures mark { IfOk result (λ k. HasMark (holder_of authority.now) (mark_in (λ v. v.items) k)) }
+    // It was verified.
+    ensures verified { IfOk result (λ _. IsVerified (verified_by P.rsa_of P.ecdsa_of P.sha1_of authority.now)) }
+{
+    let (name, bits, folder, manifest, mut numbers) = place_mark_of(alloc, authority)?;
     push_resources(authority.resources(), &mut numbers)?;
     Ok((name, bits, folder, manifest, numbers))
 }
@@ -130,6 +143,20 @@ impl Met {
         ensures verified { IfOk result (λ _. IsVerified (verified_by P.rsa_of P.ecdsa_of P.sha1_of authority.now)) }
     {
         let mark = mark_of(alloc, authority)?;
+        let is_new = self.marks.insert(mark)?;
+        Ok(is_new)
+    }
+    /// Adds the mark of where the authority publishes; returns whether it was not among them.
+    ///
+    /// Returns `AllocError` if allocation fails.
+    pub(crate) fn insert_place<'p, P: PreparingProvider>(
+        &mut self,
+        alloc: Global,
+        authority: &ResourceCert<'p, P>,
+    ) -> Result<bool, AllocError>
+        ensures { IfOk result (InsertsPlaceOf self.old self.new (holder_of authority.now)) }
+    {
+        let mark = place_mark_of(alloc, authority)?;
         let is_new = self.marks.insert(mark)?;
         Ok(is_new)
     }

@@ -60,7 +60,7 @@ pub(crate) fn manifest_place(alloc: Global, tbs: &TbsCert) -> Result<Rsync, Stop
 }
 
 /// The manifest that is at the URI.
-fn manifest_at<S: Snapshot>(
+pub(crate) fn manifest_at<S: Snapshot>(
     alloc: Global,
     snapshot: &S,
     uri: &Rsync,

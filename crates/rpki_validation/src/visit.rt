@@ -1,6 +1,7 @@
 //! What is in the point of one authority.
 
-ghost use Rattle.std.specs.Prelude.{◌≡◌, ◌++◌, map, IfOk, IfErr};
+ghost use Rattle.std.specs.Prelude.{◌≡◌, ◌++◌, [], ◌∷◌, map, IfOk, IfErr};
+ghost use Rattle.rpki_valid.specs.Verified.{IsVerified, verified_by};
 ghost use Rattle.rpki_valid.specs.CrlIssued.{CountsAt};
 ghost use Rattle.rpki_time.specs.Validity.{HoldsAt};
 ghost use Rattle.rpki_validation.specs.Adding.{AddsFile, AddsFiles, AddsOrigins, AddsOriginsHere, AddsPoint};
@@ -8,9 +9,10 @@ ghost use Rattle.rpki_validation.specs.Adding.{AddsProviders, AddsProvidersHere,
 ghost use Rattle.rpki_validation.specs.Held.{AddsHeldFile, AddsHeldFiles, AddsHeldOf, IsSaidHere};
 ghost use Rattle.rpki_validation.specs.Holding.{IsPeriodUnder, SaysOriginBy, SaysProvidersBy, SaysRouterBy};
 ghost use Rattle.rpki_validation.specs.Holding.{in_period, values};
-ghost use Rattle.rpki_validation.specs.Adding.{TakesBelow, TakesHere, UnlessMemory, WhereMemory, found};
+ghost use Rattle.rpki_validation.specs.Adding.{AddsAuthorities, AddsAuthoritiesHere, UnlessMemory, WhereMemory, found};
+ghost use Rattle.rpki_validation.specs.Basis.{holders};
 ghost use Rattle.rpki_validation.specs.Met.{IsPlace};
-ghost use Rattle.rpki_validation.specs.Next.{AreSistersBelow};
+ghost use Rattle.rpki_validation.specs.Sisters.{AreSistersBelow};
 ghost use Rattle.rpki_validation.specs.Noting.{AddsOnly};
 ghost use Rattle.rpki_validation.specs.Publication.{HasManifest};
 ghost use Rattle.rpki_validation.specs.Rejecting.{AddsBelow, AddsChildren, AddsNote, IsChildHere, IsChildOf};
@@ -19,7 +21,6 @@ ghost use Rattle.rpki_validation.specs.Rejecting.{RejectsAll, RejectsIn, Settles
 ghost use Rattle.rpki_validation.specs.Rejecting.{SettlesPoint, SettlesProviders};
 
 use crate::issued::{authority_of, cert_in, is_authority, origins_in, providers_in, router_of};
-use crate::next::Next;
 use crate::outcome::{Outcome, Rejection};
 use crate::payload::Payload;
 use crate::point::{files_of, verify_publication};
@@ -98,31 +99,45 @@ fn add_providers<'a, 'p, P: PreparingProvider>(
     Ok(())
 }
 
-/// Adds the certificate that the octets are, if it is valid: that of an authority to the next level, that of a router
-/// to the routers.
+/// Adds the authority to those below.
+fn add_below<'p, P: PreparingProvider>(
+    authority: ResourceCert<'p, P>,
+    below: &mut Vec<ResourceCert<'p, P>>,
+) -> Result<(), AllocError>
+    ensures items { IfOk result (λ _. below.new.items ≡ below.old.items ++ authority.entry ∷ []) }
+    // It was verified, as a look at its certificate tells.
+    ensures verified { IsVerified (verified_by P.rsa_of P.ecdsa_of P.sha1_of authority.entry) }
+{
+    let _cert = authority.cert();
+    below.push(authority)?;
+    Ok(())
+}
+
+/// Adds the certificate that the octets are, if it is valid: that of an authority to those below, that of a router to
+/// the routers.
 fn add_cert<'a, 'p, P: PreparingProvider>(
     alloc: Global,
     list: &CurrentCrl<'a, 'p, P>,
     octets: Bytes,
-    next: &mut Next<'p, P>,
+    below: &mut Vec<ResourceCert<'p, P>>,
     routers: &mut Vec<Payload<RouterCert>>,
 ) -> Result<(), Stop>
     ensures routers { WhereMemory result (AddsRoutersHere P.rsa_of P.ecdsa_of P.sha1_of P.sha256_of list.now octets
         (values routers.old.items) (values routers.new.items)) }
     ensures held { WhereMemory result (AddsOnly (IsSaidHere P.rsa_of P.ecdsa_of P.sha1_of P.sha256_of list.now
         SaysRouterBy octets) routers.old.items routers.new.items) }
-    ensures below { WhereMemory result (TakesHere P.rsa_of P.ecdsa_of P.sha1_of P.sha256_of list.now octets
-        next.old next.new) }
-    ensures sisters { WhereMemory result (AreSistersBelow list.now.issuer list.now.at next.old.level.items
-        next.new.level.items) }
+    ensures below { WhereMemory result (AddsAuthoritiesHere P.rsa_of P.ecdsa_of P.sha1_of P.sha256_of list.now octets
+        (holders below.old.items) (holders below.new.items)) }
+    ensures sisters { WhereMemory result (AreSistersBelow list.now.issuer list.now.at below.old.items
+        below.new.items) }
     ensures children { WhereMemory result (AddsOnly (IsChildHere P.rsa_of P.ecdsa_of P.sha1_of P.sha256_of list.now
-        octets) next.old.level.items next.new.level.items) }
+        octets) below.old.items below.new.items) }
     ensures why { SettlesCert P.rsa_of P.ecdsa_of P.sha1_of P.sha256_of list.now octets result }
 {
     let cert = cert_in(alloc, octets)?;
     if is_authority(&cert)? {
         let authority = authority_of(alloc, list, cert)?;
-        next.add(alloc, authority)?;
+        add_below(authority, below)?;
         return Ok(());
     }
     let value = router_of(alloc, list, cert)?;
@@ -137,15 +152,15 @@ fn add_file<'a, 'p, P: PreparingProvider>(
     list: &CurrentCrl<'a, 'p, P>,
     file: &FileAndHash,
     octets: Bytes,
-    next: &mut Next<'p, P>,
+    below: &mut Vec<ResourceCert<'p, P>>,
     outcome: &mut Outcome,
 ) -> Result<(), Stop>
     ensures said { WhereMemory result (AddsFile P.rsa_of P.ecdsa_of P.sha1_of P.sha256_of list.now file.now octets
-        (found next.old outcome.old) (found next.new outcome.new)) }
-    ensures sisters { WhereMemory result (AreSistersBelow list.now.issuer list.now.at next.old.level.items
-        next.new.level.items) }
+        (found below.old outcome.old) (found below.new outcome.new)) }
+    ensures sisters { WhereMemory result (AreSistersBelow list.now.issuer list.now.at below.old.items
+        below.new.items) }
     ensures children { WhereMemory result (AddsOnly (IsChildOf P.rsa_of P.ecdsa_of P.sha1_of P.sha256_of list.now
-        file.now octets) next.old.level.items next.new.level.items) }
+        file.now octets) below.old.items below.new.items) }
     ensures held { WhereMemory result (AddsHeldFile P.rsa_of P.ecdsa_of P.sha1_of P.sha256_of list.now file.now octets
         outcome.old outcome.new) }
     ensures why { SettlesFile P.rsa_of P.ecdsa_of P.sha1_of P.sha256_of list.now file.now octets result }
@@ -159,7 +174,7 @@ fn add_file<'a, 'p, P: PreparingProvider>(
         return add_providers(alloc, list, octets, &mut outcome.providers);
     }
     if name.ends_with(b".cer") {
-        return add_cert(alloc, list, octets, next, &mut outcome.routers);
+        return add_cert(alloc, list, octets, below, &mut outcome.routers);
     }
     Ok(())
 }
@@ -195,15 +210,15 @@ fn add_files<'a, 'p, P: PreparingProvider>(
     folder: &Rsync,
     files: &[FileAndHash],
     octets: Vec<Bytes>,
-    next: &mut Next<'p, P>,
+    below: &mut Vec<ResourceCert<'p, P>>,
     outcome: &mut Outcome,
 ) -> Result<(), AllocError>
     ensures said { IfOk result (λ _. AddsFiles P.rsa_of P.ecdsa_of P.sha1_of P.sha256_of list.now files.now
-        octets.items (found next.old outcome.old) (found next.new outcome.new)) }
-    ensures sisters { IfOk result (λ _. AreSistersBelow list.now.issuer list.now.at next.old.level.items
-        next.new.level.items) }
+        octets.items (found below.old outcome.old) (found below.new outcome.new)) }
+    ensures sisters { IfOk result (λ _. AreSistersBelow list.now.issuer list.now.at below.old.items
+        below.new.items) }
     ensures children { IfOk result (λ _. AddsChildren P.rsa_of P.ecdsa_of P.sha1_of P.sha256_of list.now files.now
-        octets.items next.old.level.items next.new.level.items) }
+        octets.items below.old.items below.new.items) }
     ensures held { IfOk result (λ _. AddsHeldFiles P.rsa_of P.ecdsa_of P.sha1_of P.sha256_of list.now files.now
         octets.items outcome.old outcome.new) }
     ensures rejected { IfOk result (λ _. RejectsAll P.rsa_of P.ecdsa_of P.sha1_of P.sha256_of list.now folder.now
@@ -214,7 +229,7 @@ fn add_files<'a, 'p, P: PreparingProvider>(
         let Some((file, following)) = rest.split_first() else {
             return Ok(());
         };
-        match add_file(alloc, list, file, one, next, outcome) {
+        match add_file(alloc, list, file, one, below, outcome) {
             Ok(()) => {}
             Err(Stop::OutOfMemory) => return Err(AllocError),
             Err(Stop::Rejected(reason)) => {
@@ -233,15 +248,15 @@ fn add_point<'p, S: Snapshot, P: PreparingProvider>(
     snapshot: &S,
     issuer: &ResourceCert<'p, P>,
     at: Time,
-    next: &mut Next<'p, P>,
+    below: &mut Vec<ResourceCert<'p, P>>,
     outcome: &mut Outcome,
 ) -> Result<(), Stop>
     requires { HoldsAt issuer.now.period at }
     ensures said { AddsPoint P.rsa_of P.ecdsa_of P.sha1_of P.sha256_of (S.holds snapshot.now) issuer.now at
-        (found next.old outcome.old) (found next.new outcome.new) result }
-    ensures sisters { WhereMemory result (AreSistersBelow issuer.now at next.old.level.items next.new.level.items) }
+        (found below.old outcome.old) (found below.new outcome.new) result }
+    ensures sisters { WhereMemory result (AreSistersBelow issuer.now at below.old.items below.new.items) }
     ensures children { WhereMemory result (AddsBelow P.rsa_of P.ecdsa_of P.sha1_of P.sha256_of (S.holds snapshot.now)
-        issuer.now at next.old.level.items next.new.level.items) }
+        issuer.now at below.old.items below.new.items) }
     ensures held { WhereMemory result (AddsHeldOf P.rsa_of P.ecdsa_of P.sha1_of P.sha256_of (S.holds snapshot.now)
         issuer.now at outcome.old outcome.new) }
     ensures rejected { SettlesPoint P.rsa_of P.ecdsa_of P.sha1_of P.sha256_of (S.holds snapshot.now) issuer.now at
@@ -253,7 +268,7 @@ fn add_point<'p, S: Snapshot, P: PreparingProvider>(
     let files = publication.manifest().content().file_list();
     let folder = publication.folder();
     let octets = files_of(alloc, snapshot, issuer.provider(), folder, files)?;
-    add_files(alloc, &list, folder, files, octets, next, outcome)?;
+    add_files(alloc, &list, folder, files, octets, below, outcome)?;
     Ok(())
 }
 
@@ -296,7 +311,7 @@ pub(crate) fn visit<'p, S: Snapshot, P: PreparingProvider>(
     snapshot: &S,
     issuer: &ResourceCert<'p, P>,
     at: Time,
-    next: &mut Next<'p, P>,
+    below: &mut Vec<ResourceCert<'p, P>>,
     outcome: &mut Outcome,
 ) -> Result<(), AllocError>
     requires { HoldsAt issuer.now.period at }
@@ -306,17 +321,17 @@ pub(crate) fn visit<'p, S: Snapshot, P: PreparingProvider>(
         outcome.old.providers.items outcome.new.providers.items result }
     ensures routers { AddsRouters P.rsa_of P.ecdsa_of P.sha1_of P.sha256_of (S.holds snapshot.now) issuer.now at
         outcome.old.routers.items outcome.new.routers.items result }
-    ensures taking { TakesBelow P.rsa_of P.ecdsa_of P.sha1_of P.sha256_of (S.holds snapshot.now) issuer.now at
-        next.old next.new result }
-    ensures sisters { IfOk result (λ _. AreSistersBelow issuer.now at next.old.level.items next.new.level.items) }
+    ensures below { AddsAuthorities P.rsa_of P.ecdsa_of P.sha1_of P.sha256_of (S.holds snapshot.now) issuer.now at
+        below.old.items below.new.items result }
+    ensures sisters { IfOk result (λ _. AreSistersBelow issuer.now at below.old.items below.new.items) }
     ensures children { IfOk result (λ _. AddsBelow P.rsa_of P.ecdsa_of P.sha1_of P.sha256_of (S.holds snapshot.now)
-        issuer.now at next.old.level.items next.new.level.items) }
+        issuer.now at below.old.items below.new.items) }
     ensures held { IfOk result (λ _. AddsHeldOf P.rsa_of P.ecdsa_of P.sha1_of P.sha256_of (S.holds snapshot.now)
         issuer.now at outcome.old outcome.new) }
     ensures rejected { IfOk result (λ _. RejectsIn P.rsa_of P.ecdsa_of P.sha1_of P.sha256_of (S.holds snapshot.now)
         issuer.now at outcome.old outcome.new) }
 {
-    match add_point(alloc, snapshot, issuer, at, next, outcome) {
+    match add_point(alloc, snapshot, issuer, at, below, outcome) {
         Ok(()) => Ok(()),
         Err(Stop::OutOfMemory) => Err(AllocError),
         Err(Stop::Rejected(reason)) => {

@@ -1,55 +1,93 @@
-//! The walk from a trust anchor down, level after level.
+//! The walk from a trust anchor down.
 
-ghost use Rattle.std.specs.Prelude.{◌≡◌, IfOk};
+ghost use Rattle.std.specs.Prelude.{◌≡◌, ◌⊎◌, IfOk};
 ghost use Rattle.std.specs.List.{Contains};
 ghost use Rattle.rpki_time.specs.Validity.{HoldsAt};
-ghost use Rattle.rpki_valid.specs.Verified.{Authority, terms_in};
-ghost use Rattle.rpki_validation.specs.Validated.{AddsChildrenOf, AddsSisters, HoldsBelow, HoldsLevel};
-ghost use Rattle.rpki_validation.specs.Validated.{RejectsBelow, RejectsLevel, SaysLevel};
-ghost use Rattle.rpki_validation.specs.Validated.{TakesLevel, TellsBelow, Validates};
+ghost use Rattle.rpki_valid.specs.Verified.{terms_in};
+ghost use Rattle.rpki_validation.specs.Named.{IsFrom};
+ghost use Rattle.rpki_validation.specs.Snapshot.{Where};
+ghost use Rattle.rpki_validation.specs.Validated.{LooksAt, TellsBelow, Validates, WaitBelow};
+ghost use Rattle.rpki_validation.specs.Waiting.{AddsAll, Entry};
 
 use crate::anchor::anchor_of;
-use crate::met::Met;
-use crate::next::Next;
+use crate::looked::Looked;
+use crate::named::{is_named, place_by_manifest};
 use crate::outcome::Outcome;
 use crate::snapshot::Snapshot;
 use crate::stop::Stop;
 use crate::visit::visit;
+use crate::waiting::Waiting;
 use rpki::repository::x509::Time;
+use rpki::uri::Rsync;
 use rpki_locator::AnchorUri;
 use rpki_rsa::PreparingProvider;
 use rpki_valid::{ResourceCert, Terms};
 use std::alloc::{AllocError, Global};
 
-/// Looks at the authorities of a level, in sequence: what their points say is added, and the authorities below
-/// them. Requires that all of each one's path is valid at the moment.
+/// Adds authorities to those that wait: below one that is named at the place, those that name it are named as well.
 ///
 /// Returns `AllocError` if allocation fails.
-fn visit_all<'p, S: Snapshot, P: PreparingProvider>(
+fn add_all<'p, S: Snapshot, P: PreparingProvider>(
     alloc: Global,
     snapshot: &S,
-    level: &[ResourceCert<'p, P>],
-    at: Time,
-    next: &mut Next<'p, P>,
-    outcome: &mut Outcome,
+    place: &Option<Rsync>,
+    below: Vec<ResourceCert<'p, P>>,
+    waiting: &mut Waiting<'p, P>,
 ) -> Result<(), AllocError>
-    requires { (a : Authority P) → Contains level.now a → HoldsAt a.period at }
-    ensures said { IfOk result (λ _. SaysLevel P.rsa_of P.ecdsa_of P.sha1_of P.sha256_of (S.holds snapshot.now) at
-        level.now outcome.old outcome.new) }
-    ensures taking { IfOk result (λ _. TakesLevel P.rsa_of P.ecdsa_of P.sha1_of P.sha256_of (S.holds snapshot.now) at
-        level.now next.old next.new) }
-    ensures sisters { IfOk result (λ _. AddsSisters at level.now next.old.level.items next.new.level.items) }
-    ensures children { IfOk result (λ _. AddsChildrenOf P.rsa_of P.ecdsa_of P.sha1_of P.sha256_of
-        (S.holds snapshot.now) at level.now next.old.level.items next.new.level.items) }
-    ensures held { IfOk result (λ _. HoldsLevel P.rsa_of P.ecdsa_of P.sha1_of P.sha256_of (S.holds snapshot.now) at
-        level.now outcome.old outcome.new) }
-    ensures rejected { IfOk result (λ _. RejectsLevel P.rsa_of P.ecdsa_of P.sha1_of P.sha256_of
-        (S.holds snapshot.now) at level.now outcome.old outcome.new) }
+    ensures all { IfOk result (λ _. AddsAll (S.holds snapshot.now) place.now below.entry.items waiting.old
+        waiting.new) }
+    ensures waiting { IfOk result (λ _. (e : Entry P) → Contains waiting.new e
+        → Contains waiting.old e ⊎ Contains below.entry.items e.1) }
 {
-    'level: for issuer in level {
-        visit(alloc, snapshot, issuer, at, next, outcome)?;
+    'below: for authority in below {
+        let strict = authority.strictness().attributes;
+        let is_named = is_named(alloc, snapshot, place, authority.cert(), strict)?;
+        waiting.add(alloc, is_named, authority)?;
     }
     Ok(())
+}
+
+/// Where the certificate of the authority is, as its manifest says, if it is named; None else.
+///
+/// Returns `AllocError` if allocation fails.
+fn place_of<'p, S: Snapshot, P: PreparingProvider>(
+    alloc: Global,
+    snapshot: &S,
+    is_named: bool,
+    issuer: &ResourceCert<'p, P>,
+) -> Result<Option<Rsync>, AllocError>
+    ensures { Where (S.holds snapshot.now) (λ published. IfOk result
+        (IsFrom published issuer.now.terms.strictness.attributes is_named issuer.now.cert)) }
+{
+    if is_named {
+        let strict = issuer.strictness().attributes;
+        return place_by_manifest(alloc, snapshot, issuer.cert().tbs(), strict);
+    }
+    Ok(None)
+}
+
+/// Looks at an authority: adds what its point says, and the authorities below it to those that wait. Requires that all
+/// of its path is valid at the moment.
+///
+/// Returns `AllocError` if allocation fails.
+fn look_at<'p, S: Snapshot, P: PreparingProvider>(
+    alloc: Global,
+    snapshot: &S,
+    is_named: bool,
+    issuer: &ResourceCert<'p, P>,
+    at: Time,
+    waiting: &mut Waiting<'p, P>,
+    outcome: &mut Outcome,
+) -> Result<(), AllocError>
+    requires { HoldsAt issuer.now.period at }
+    ensures looks { IfOk result (λ _. LooksAt P.rsa_of P.ecdsa_of P.sha1_of P.sha256_of (S.holds snapshot.now) at
+        is_named issuer.now waiting.old waiting.new outcome.old outcome.new) }
+    ensures waiting { IfOk result (λ _. WaitBelow issuer.now at waiting.old waiting.new) }
+{
+    let mut below = Vec::new(alloc);
+    visit(alloc, snapshot, issuer, at, &mut below, outcome)?;
+    let place = place_of(alloc, snapshot, is_named, issuer)?;
+    add_all(alloc, snapshot, &place, below, waiting)
 }
 
 /// What is valid at the moment below the trust anchor. Requires that it is valid then.
@@ -64,40 +102,36 @@ fn walk<'p, S: Snapshot, P: PreparingProvider>(
     requires period { HoldsAt anchor.period at }
     requires own { anchor.period ≡ anchor.cert.tbs.validity }
     requires depth { anchor.depth ≡ 0 }
-    ensures told { IfOk result (TellsBelow P.rsa_of P.ecdsa_of P.sha1_of P.sha256_of (S.holds snapshot.now) at
-        anchor.entry) }
-    ensures held { IfOk result (HoldsBelow P.rsa_of P.ecdsa_of P.sha1_of P.sha256_of (S.holds snapshot.now) at
-        anchor.entry) }
-    ensures rejected { IfOk result (RejectsBelow P.rsa_of P.ecdsa_of P.sha1_of P.sha256_of (S.holds snapshot.now) at
+    ensures { IfOk result (TellsBelow P.rsa_of P.ecdsa_of P.sha1_of P.sha256_of (S.holds snapshot.now) at
         anchor.entry) }
 {
     let mut outcome = Outcome::new(alloc);
-    let mut left = anchor.terms().deepest;
-    let mut next = Next {
-        level: Vec::new(alloc),
-        met: Met::new(alloc),
-    };
-    next.level.push(anchor)?;
-    'levels: loop {
-        let level = std::mem::replace(&mut next.level, Vec::new(alloc));
-        visit_all(
-            alloc,
-            snapshot,
-            level.as_slice(),
-            at,
-            &mut next,
-            &mut outcome,
-        )?;
-        if left == 0 || next.level.is_empty() {
+    let mut looked = Looked::new(alloc);
+    let mut waiting = Waiting::new(alloc);
+    waiting.add(alloc, true, anchor)?;
+    'turns: for _ in 0..u64::MAX {
+        let Some((is_named, authority)) = waiting.take_first() else {
             return Ok(outcome);
+        };
+        if looked.insert(alloc, is_named, &authority)? {
+            look_at(
+                alloc,
+                snapshot,
+                is_named,
+                &authority,
+                at,
+                &mut waiting,
+                &mut outcome,
+            )?;
         }
-        left -= 1;
     }
+    Err(AllocError)
 }
 
 /// What the snapshot makes valid at the moment, from the locator of a trust anchor with these URIs down to payloads.
-/// The key of the locator is that of the terms. An authority is looked at once for each set of resources that a path
-/// gives it, if it is no more steps below the trust anchor than the terms permit.
+/// The key of the locator is that of the terms. Of the authorities that publish at one place one is looked at: that
+/// which is named there (RFC 6487 4.8.7), else the first that is met, if it is no more steps below the trust anchor
+/// than the terms permit.
 ///
 /// The errors are those of [anchor_of]: the locator has no trust anchor, and why; or `OutOfMemory` if allocation fails.
 pub fn validate<'p, S: Snapshot, P: PreparingProvider>(

@@ -1,5 +1,6 @@
 -- What is found under a locator, from what is valid under it; and under several, in sequence.
-use Rattle.std.proofs.Common.{◌≡◌, ◌↔◌, ◌∙◌, ℕ, Bool, true, false, List, [], ◌∷◌, ◌++◌, length, refl, sym, subst, ap}
+use Rattle.std.proofs.Common.{◌≡◌, ◌↔◌, ◌∙◌, ℕ, zero, suc, Bool, true, false, List, [], ◌∷◌, ◌++◌, length}
+use Rattle.std.proofs.Common.{refl, sym, subst, ap}
 use Rattle.std.proofs.Common.{append_assoc, append-nil, arith, ◌⊎◌, inl, inr}
 use Rattle.std.proofs.lemmas.List.Elements.{Contains-append_left, Contains-append_right, Contains-append_cases}
 use Rattle.std.proofs.lemmas.List.Elements.{Contains-push, Contains-push_cases}
@@ -26,7 +27,9 @@ use Rattle.rpki_validation.specs.Levels.{Reached}
 use Rattle.rpki_validation.specs.Levels.Reached.{First, Next}
 use Rattle.rpki_validation.specs.Payload.{AreProviders, IsOrigin, IsRouter}
 use Rattle.rpki_validation.specs.declared.outcome.Rejection.{Rejection}
-use Rattle.rpki_validation.specs.Reached.{Counts, IsFirstAnchor}
+use Rattle.rpki_validation.specs.Counts.{Counts, CountsAt, Taken}
+use Rattle.rpki_validation.specs.Named.{IsNamed}
+use Rattle.rpki_validation.specs.Reached.{IsFirstAnchor}
 use Rattle.rpki_validation.specs.Rejected.{IsNotedUnder, IsRejection}
 use Rattle.rpki_validation.specs.Snapshot.{Published, Where}
 use Rattle.rpki_validation.specs.Validated.{SayProviders}
@@ -121,9 +124,26 @@ none-reached none _ _ (First x f) = none x f
 none-reached none _ _ (Next n above x reached below) = none-reached none n above reached
 
 -- without a trust anchor no authority counts
+module _ (published : Published) (basis : Basis) (uris : List AnchorUri)
+    (none : IsNone (IsFirstAnchor published basis uris)) where
+  none-above : (S : ℕ → Holder → Type 0) → ((n : ℕ) (x : Holder) → S n x → ⊥) → (n : ℕ) (x : Holder)
+      → IsNamed published basis uris n x ⊎ S n x → ⊥
+  none-above S nothing n x (inl h) = none-reached none n x h
+  none-above S nothing n x (inr h) = nothing n x h
+
+  none-taken : (r n : ℕ) (x : Holder) → Taken published basis uris r n x → ⊥
+  none-taken zero n x h = h
+  none-taken (suc r) n x (inl h) = none-taken r n x h
+  none-taken (suc r) n x (inr h) =
+      none-above (Taken published basis uris r) (none-taken r) h.holds.steps h.holds.above h.holds.counts
+
+  none-counted : (n : ℕ) (x : Holder) → CountsAt published basis uris n x → ⊥
+  none-counted n x (inl h) = none-reached none n x h
+  none-counted n x (inr h) = none-taken h.0 n x h.1
+
 none-counts : (published : Published) (basis : Basis) (uris : List AnchorUri) (x : Holder)
     → IsNone (IsFirstAnchor published basis uris) → Counts published basis uris x → ⊥
-none-counts published basis uris x none counts = none-reached none counts.steps x counts.reached
+none-counts published basis uris x none counts = none-counted published basis uris none counts.steps x counts.counted
 
 -- ---- a locator
 

@@ -16,7 +16,7 @@ use Rattle.rpki_validation.specs.declared.outcome.Rejection.{Rejection}
 use Rattle.rpki_validation.specs.declared.reason.Reason.{Reason}
 use Rattle.rpki_validation.specs.declared.reason.Reason.TheVariants as R
 use Rattle.rpki_validation.specs.Basis.{Basis}
-use Rattle.rpki_validation.specs.Reached.{Counts}
+use Rattle.rpki_validation.specs.Counts.{Counts}
 use Rattle.rpki_validation.specs.Rejected.{IsNotedUnder, IsRejection}
 use Rattle.rpki_validation.specs.Snapshot.{Published, Where}
 use Rattle.rpkivalid.specs.declared.counted.Kind.{Kind}

@@ -1,10 +1,13 @@
 use Rattle.rpki_x509.proofs.TriedLaws.{tried-fault}
-use Rattle.std.proofs.Common.{◌∙◌, List, [], ◌∷◌, ap, refl, subst, sym}
+use Rattle.std.proofs.Common.{◌∙◌, ◌++◌, List, [], ◌∷◌, ap, arith, refl, subst, sym}
+use Rattle.std.proofs.lemmas.List.Elements.{Contains-push_cases}
 use Rattle.rpki_cert.specs.Cert.{CertParts}
 use Rattle.rpki_valid.specs.CrlIssued.{CountsAt}
-use Rattle.rpki_valid.specs.Verified.{Holder}
+use Rattle.rpki_valid.specs.Verified.{Authority, Holder}
 use Rattle.rpki_validation.specs.declared.payload.Payload.{Payload}
-use Rattle.rpki_validation.specs.Adding.{AddsRoutersHere}
+use Rattle.rpki_validation.specs.Adding.{AddsAuthoritiesHere, AddsRoutersHere}
+use Rattle.rpki_validation.specs.Basis.{holders}
+use Rattle.rpki_validation.specs.Sisters.{AreSistersBelow}
 use Rattle.rpki_validation.specs.Held.{IsSaidHere}
 use Rattle.rpki_validation.specs.Holding.{IsPeriodUnder, SaysRouterBy, in_period, values}
 use Rattle.rpki_validation.specs.Noting.{AddsOnly}
@@ -12,10 +15,9 @@ use Rattle.rpki_validation.specs.Rejecting.{IsChildHere}
 use Rattle.rpki_validation.proofs.HeldLaws.{values-push}
 use Rattle.rpki_validation.proofs.HereLaws.{router-said, where-always}
 use Rattle.rpki_validation.proofs.NotingLaws.{adds-nothing, adds-one}
-use Rattle.rpki_validation.proofs.AddingLaws.{sisters-one}
+use Rattle.rpki_validation.proofs.AddingLaws.{holders-push, sisters-one}
 use Rattle.rpki_validation.proofs.HereLaws.{authority-counts, authority-said, may-issue, no-authority, no-router}
 use Rattle.rpki_validation.proofs.HereLaws.{router-counts, unread-cert, wrong-constraints}
-use Rattle.rpki_validation.proofs.NotingLaws.{adds-from}
 use Rattle.rpki_validation.proofs.HereLaws.{below-found, memory-here, no-below, no-routers, other-below, other-routers}
 use Rattle.rpki_validation.proofs.HereLaws.{routers-found, told-authority, told-router, tried-memory, unread-below}
 use Rattle.rpki_validation.proofs.HereLaws.{unread-routers}
@@ -33,7 +35,7 @@ returns-in_err-cert-clause-below g c =
     let p = g.P.Provider in
     tried-memory _ _ _ c.from_residual.ensures
     (unread-below p.rsa_of p.ecdsa_of p.sha1_of p.sha256_of c.args.list.now c.args.octets _ _
-    c.args.next.now c.in_err-cert.ensures)
+    (holders c.args.below.now.items) c.in_err-cert.ensures)
 
 pub returns-in_err-is_authority-clause-routers : goal.returns-in_err-is_authority-clause-routers
 returns-in_err-is_authority-clause-routers g c =
@@ -49,7 +51,7 @@ returns-in_err-is_authority-clause-below g c =
     tried-memory _ _ _ c.from_residual-in_err-is_authority.ensures
     (memory-here _ _ (other-below p.rsa_of p.ecdsa_of p.sha1_of p.sha256_of c.args.list.now c.args.octets
     c.in_ok-cert.cert c.in_ok-cert.ensures (λ strict. (c.in_err-is_authority.ensures.err strict).1)
-    c.args.next.now))
+    (holders c.args.below.now.items)))
 
 pub returns-then-branch-clause-routers : goal.returns-then-branch-clause-routers
 returns-then-branch-clause-routers g c =
@@ -62,20 +64,34 @@ returns-then-branch-clause-routers g c =
 pub returns-then-branch-clause-below : goal.returns-then-branch-clause-below
 returns-then-branch-clause-below g c =
     let p = g.P.Provider in
-    below-found p.rsa_of p.ecdsa_of p.sha1_of p.sha256_of c.args.list.now c.args.octets c.in_ok-cert.cert
-    c.in_ok-cert.ensures c.in_ok-authority.authority c.in_ok-authority.ensures.cert c.in_ok-authority.ensures.ok
-    c.args.next.now c.add.new.self c.in_ok-add.ensures.taking
+    let old = c.args.below.now.items in
+    let a = c.in_ok-authority.authority in
+    subst
+    (λ (l : List Holder). AddsAuthoritiesHere p.rsa_of p.ecdsa_of p.sha1_of p.sha256_of c.args.list.now c.args.octets
+    (holders old) l)
+    (sym (ap (λ (l : List (Authority g.row.P.Denot)). holders l) c.in_ok-add_below.ensures.items ∙ holders-push old a))
+    (below-found p.rsa_of p.ecdsa_of p.sha1_of p.sha256_of c.args.list.now c.args.octets c.in_ok-cert.cert
+    c.in_ok-cert.ensures a c.in_ok-authority.ensures.cert c.in_ok-authority.ensures.ok (holders old))
 
 pub returns-then-branch-clause-sisters : goal.returns-then-branch-clause-sisters
 returns-then-branch-clause-sisters g c =
-    sisters-one c.args.list.now.issuer c.args.list.now.at c.args.next.now.level.items c.add.new.self.level.items
-    c.in_ok-authority.authority c.in_ok-add.ensures.level
+    let p = g.P.Provider in
+    let old = c.args.below.now.items in
+    let a = c.in_ok-authority.authority in
+    subst (λ (l : List (Authority g.row.P.Denot)). AreSistersBelow c.args.list.now.issuer c.args.list.now.at old l)
+    (sym c.in_ok-add_below.ensures.items)
+    (sisters-one c.args.list.now.issuer c.args.list.now.at old (old ++ a ∷ []) a (λ b h. Contains-push_cases old a b h)
     (record {
       period = c.in_ok-authority.ensures.period;
       terms_are = c.in_ok-authority.ensures.terms;
       provider_is = c.in_ok-authority.ensures.provider;
       depth_is = c.in_ok-authority.ensures.depth;
-    })
+      few = omega (
+        arith,
+        may-issue p.rsa_of p.ecdsa_of p.sha1_of p.sha256_of c.args.list.now a c.add_below.ensures.verified
+            c.in_ok-authority.ensures.period c.in_ok-authority.ensures.depth c.in_ok-authority.ensures.terms,
+      );
+    }))
 
 pub returns-clause-routers : goal.returns-clause-routers
 returns-clause-routers g c =
@@ -128,7 +144,7 @@ returns-clause-below g c =
     other-below p.rsa_of p.ecdsa_of p.sha1_of p.sha256_of c.args.list.now c.args.octets c.in_ok-cert.cert
     c.in_ok-cert.ensures
     (told-router c.in_ok-cert.cert c.in_ok-is_authority.field-0 c.if-branch.false c.in_ok-is_authority.ensures.ok)
-    c.args.next.now
+    (holders c.args.below.now.items)
 
 pub returns-in_err-authority-clause-routers : goal.returns-in_err-authority-clause-routers
 returns-in_err-authority-clause-routers g c =
@@ -144,7 +160,7 @@ returns-in_err-authority-clause-below g c =
     let p = g.P.Provider in
     tried-memory _ _ _ c.from_residual-in_err-authority.ensures
     (no-below p.rsa_of p.ecdsa_of p.sha1_of p.sha256_of c.args.list.now c.args.octets c.in_ok-cert.cert
-    c.in_ok-cert.ensures _ c.args.next.now c.in_err-authority.ensures.err)
+    c.in_ok-cert.ensures _ (holders c.args.below.now.items) c.in_err-authority.ensures.err)
 
 pub returns-in_err-value-clause-routers : goal.returns-in_err-value-clause-routers
 returns-in_err-value-clause-routers g c =
@@ -160,20 +176,23 @@ returns-in_err-value-clause-below g c =
     (memory-here _ _ (other-below p.rsa_of p.ecdsa_of p.sha1_of p.sha256_of c.args.list.now c.args.octets
     c.in_ok-cert.cert c.in_ok-cert.ensures
     (told-router c.in_ok-cert.cert c.in_ok-is_authority.field-0 c.if-branch.false c.in_ok-is_authority.ensures.ok)
-    c.args.next.now))
+    (holders c.args.below.now.items)))
 
 -- ---- the authorities that are added
 
 pub returns-then-branch-clause-children : goal.returns-then-branch-clause-children
 returns-then-branch-clause-children g c =
     let p = g.P.Provider in
-    adds-from (IsChildHere p.rsa_of p.ecdsa_of p.sha1_of p.sha256_of c.args.list.now c.args.octets)
-    c.args.next.now.level.items c.add.new.self.level.items c.in_ok-authority.authority c.in_ok-add.ensures.level (
+    let old = c.args.below.now.items in
+    let a = c.in_ok-authority.authority in
+    let Child = IsChildHere p.rsa_of p.ecdsa_of p.sha1_of p.sha256_of c.args.list.now c.args.octets in
+    subst (λ (l : List (Authority g.row.P.Denot)). AddsOnly Child old l) (sym c.in_ok-add_below.ensures.items)
+    (adds-one Child old a (
       authority-said p.rsa_of p.ecdsa_of p.sha1_of p.sha256_of c.args.list.now c.args.octets c.in_ok-cert.cert
-          c.in_ok-cert.ensures c.in_ok-authority.authority c.in_ok-authority.ensures.cert c.in_ok-authority.ensures.ok,
-      subst (λ (x : CertParts). IsPeriodUnder (CountsAt c.args.list.now) x c.in_ok-authority.authority.period)
+          c.in_ok-cert.ensures a c.in_ok-authority.ensures.cert c.in_ok-authority.ensures.ok,
+      subst (λ (x : CertParts). IsPeriodUnder (CountsAt c.args.list.now) x a.period)
           (sym c.in_ok-authority.ensures.cert) c.in_ok-authority.ensures.holds,
-    )
+    ))
 
 -- ---- whether it counts
 
@@ -215,7 +234,7 @@ returns-then-branch-clause-why g c =
     authority-counts p.rsa_of p.ecdsa_of p.sha1_of p.sha256_of c.args.list.now c.args.octets c.in_ok-cert.cert
     c.in_ok-cert.ensures c.in_ok-authority.authority c.in_ok-authority.ensures.cert c.in_ok-authority.ensures.ok
     (may-issue p.rsa_of p.ecdsa_of p.sha1_of p.sha256_of c.args.list.now c.in_ok-authority.authority
-    c.in_ok-add.ensures.verified c.in_ok-authority.ensures.period c.in_ok-authority.ensures.depth
+    c.add_below.ensures.verified c.in_ok-authority.ensures.period c.in_ok-authority.ensures.depth
     c.in_ok-authority.ensures.terms)
 
 pub returns-clause-why : goal.returns-clause-why

@@ -16,7 +16,7 @@ returns-then-ends_with-clause-said g c =
     let roa = rw c.file-name.ensures.name at (ends-so _ _ c.ends_with.ensures.value c.if-ends_with.true) in
     where-memory _ _ c.add_origins.result
     (origins-file p.rsa_of p.ecdsa_of p.sha1_of p.sha256_of c.args.list.now c.args.file.now c.args.octets roa
-    (found c.args.next.now c.args.outcome.now) (values c.add_origins.new.origins.items)) c.add_origins.ensures.said
+    (found c.args.below.now c.args.outcome.now) (values c.add_origins.new.origins.items)) c.add_origins.ensures.said
 
 pub returns-then-ends_with-2-clause-said : goal.returns-then-ends_with-2-clause-said
 returns-then-ends_with-2-clause-said g c =
@@ -25,7 +25,7 @@ returns-then-ends_with-2-clause-said g c =
     let asa = rw c.file-name.ensures.name at (ends-so _ _ c.ends_with-2.ensures.value c.if-ends_with-2.true) in
     where-memory _ _ c.add_providers.result
     (providers-file p.rsa_of p.ecdsa_of p.sha1_of p.sha256_of c.args.list.now c.args.file.now c.args.octets none asa
-    (found c.args.next.now c.args.outcome.now) (values c.add_providers.new.providers.items))
+    (found c.args.below.now c.args.outcome.now) (values c.add_providers.new.providers.items))
     c.add_providers.ensures.said
 
 pub returns-then-ends_with-3-clause-said : goal.returns-then-ends_with-3-clause-said
@@ -37,7 +37,7 @@ returns-then-ends_with-3-clause-said g c =
     let cer = rw c.file-name.ensures.name at (ends-so _ _ c.ends_with-3.ensures.value c.if-ends_with-3.true) in
     where-both _ _ _ c.add_cert.result
     (λ routers below. cert-file p.rsa_of p.ecdsa_of p.sha1_of p.sha256_of c.args.list.now c.args.file.now
-    c.args.octets none other cer (found c.args.next.now c.args.outcome.now) _ refl refl routers below)
+    c.args.octets none other cer (found c.args.below.now c.args.outcome.now) _ refl refl routers below)
     c.add_cert.ensures.routers c.add_cert.ensures.below
 
 pub returns-clause-said : goal.returns-clause-said
@@ -49,42 +49,42 @@ returns-clause-said g c =
     let never = rw c.file-name.ensures.name at
     (ends-otherwise _ _ c.ends_with-3.ensures.value c.if-ends_with-3.false) in
     other-file p.rsa_of p.ecdsa_of p.sha1_of p.sha256_of c.args.list.now c.args.file.now c.args.octets none other never
-    (found c.args.next.now c.args.outcome.now)
+    (found c.args.below.now c.args.outcome.now)
 
 pub returns-then-ends_with-clause-sisters : goal.returns-then-ends_with-clause-sisters
 returns-then-ends_with-clause-sisters g c =
     where-always _ c.add_origins.result
-    (sisters-none c.args.list.now.issuer c.args.list.now.at c.args.next.now.level.items)
+    (sisters-none c.args.list.now.issuer c.args.list.now.at c.args.below.now.items)
 
 pub returns-then-ends_with-2-clause-sisters : goal.returns-then-ends_with-2-clause-sisters
 returns-then-ends_with-2-clause-sisters g c =
     where-always _ c.add_providers.result
-    (sisters-none c.args.list.now.issuer c.args.list.now.at c.args.next.now.level.items)
+    (sisters-none c.args.list.now.issuer c.args.list.now.at c.args.below.now.items)
 
 pub returns-then-ends_with-3-clause-sisters : goal.returns-then-ends_with-3-clause-sisters
 returns-then-ends_with-3-clause-sisters g c = c.add_cert.ensures.sisters
 
 pub returns-clause-sisters : goal.returns-clause-sisters
-returns-clause-sisters g c = sisters-none c.args.list.now.issuer c.args.list.now.at c.args.next.now.level.items
+returns-clause-sisters g c = sisters-none c.args.list.now.issuer c.args.list.now.at c.args.below.now.items
 
 -- ---- the authorities that are added
 
 pub returns-then-ends_with-clause-children : goal.returns-then-ends_with-clause-children
 returns-then-ends_with-clause-children g c =
-    where-always _ c.add_origins.result (adds-nothing _ c.args.next.now.level.items)
+    where-always _ c.add_origins.result (adds-nothing _ c.args.below.now.items)
 
 pub returns-then-ends_with-2-clause-children : goal.returns-then-ends_with-2-clause-children
 returns-then-ends_with-2-clause-children g c =
-    where-always _ c.add_providers.result (adds-nothing _ c.args.next.now.level.items)
+    where-always _ c.add_providers.result (adds-nothing _ c.args.below.now.items)
 
 pub returns-then-ends_with-3-clause-children : goal.returns-then-ends_with-3-clause-children
 returns-then-ends_with-3-clause-children g c =
     let cer = rw c.file-name.ensures.name at (ends-so _ _ c.ends_with-3.ensures.value c.if-ends_with-3.true) in
-    where-memory _ _ c.add_cert.result (adds-map _ _ c.args.next.now.level.items _ (λ a h. (cer, h)))
+    where-memory _ _ c.add_cert.result (adds-map _ _ c.args.below.now.items _ (λ a h. (cer, h)))
     c.add_cert.ensures.children
 
 pub returns-clause-children : goal.returns-clause-children
-returns-clause-children g c = adds-nothing _ c.args.next.now.level.items
+returns-clause-children g c = adds-nothing _ c.args.below.now.items
 
 -- ---- payloads in their periods
 

@@ -14,7 +14,7 @@ pub octets-init : goal.octets-init
 octets-init g c =
     let p = g.P.Provider in
     let gives = c.into_iter-one-iterator.ensures.into_iter_gives in
-    let old = found c.args.next.now c.args.outcome.now in
+    let old = found c.args.below.now c.args.outcome.now in
     let Child = IsChildOf p.rsa_of p.ecdsa_of p.sha1_of p.sha256_of c.args.list.now in
     let Right = IsRightHere p.rsa_of p.ecdsa_of p.sha1_of p.sha256_of c.args.list.now in
     let Note = IsNotedHere p.rsa_of p.ecdsa_of p.sha1_of p.sha256_of c.args.list.now c.args.folder.now in
@@ -22,7 +22,7 @@ octets-init g c =
       next = tt;
       ends = tt;
       count = omega (arith, gives.1, ap length gives.0, c.args.octets.ok.0);
-      sisters = sisters-none c.args.list.now.issuer c.args.list.now.at c.args.next.now.level.items;
+      sisters = sisters-none c.args.list.now.issuer c.args.list.now.at c.args.below.now.items;
       said = subst
           (λ (q : List (List ℕ)). AreLeft p.rsa_of p.ecdsa_of p.sha1_of p.sha256_of c.args.list.now c.args.files.now
           c.args.files.now c.args.octets.items q old old) (sym gives.0)
@@ -30,8 +30,8 @@ octets-init g c =
           old);
       children = subst
           (λ (q : List (List ℕ)). AddsUpTo Child c.args.files.now c.args.files.now c.args.octets.items q
-          c.args.next.now.level.items c.args.next.now.level.items) (sym gives.0)
-          (adds-start Child c.args.files.now c.args.octets.items c.args.next.now.level.items);
+          c.args.below.now.items c.args.below.now.items) (sym gives.0)
+          (adds-start Child c.args.files.now c.args.octets.items c.args.below.now.items);
       held = subst
           (λ (q : List (List ℕ)). HeldUpTo p.rsa_of p.ecdsa_of p.sha1_of p.sha256_of c.args.list.now c.args.files.now
           c.args.octets.items c.args.files.now q c.args.outcome.now c.args.outcome.now) (sym gives.0)
@@ -47,8 +47,8 @@ pub returns-in_default-clause-said : goal.returns-in_default-clause-said
 returns-in_default-clause-said g c =
     let p = g.P.Provider in
     files-end p.rsa_of p.ecdsa_of p.sha1_of p.sha256_of c.args.list.now c.args.files.now c.args.octets.items
-    (found c.args.next.now c.args.outcome.now) c.octets.rest.now (into_iter_items c.octets.one-iterator)
-    (found c.octets.next c.octets.outcome) c.octets.invariant.said c.in_default.ensures.cases
+    (found c.args.below.now c.args.outcome.now) c.octets.rest.now (into_iter_items c.octets.one-iterator)
+    (found c.octets.below c.octets.outcome) c.octets.invariant.said c.in_default.ensures.cases
 
 pub octets-preserved-in-Ok : goal.octets-preserved-in-Ok
 octets-preserved-in-Ok g c =
@@ -60,15 +60,15 @@ octets-preserved-in-Ok g c =
       sisters = sisters-then c.args.list.now.issuer c.args.list.now.at _ _ _ c.octets.invariant.sisters
           c.in-Ok.ensures.sisters;
       said = files-step p.rsa_of p.ecdsa_of p.sha1_of p.sha256_of c.args.list.now c.args.files.now c.args.octets.items
-          (found c.args.next.now c.args.outcome.now) c.octets.rest.now (into_iter_items c.octets.one-iterator)
-          (found c.octets.next c.octets.outcome) c.octets.invariant.said c.in-Some-split_first.file.now
+          (found c.args.below.now c.args.outcome.now) c.octets.rest.now (into_iter_items c.octets.one-iterator)
+          (found c.octets.below c.octets.outcome) c.octets.invariant.said c.in-Some-split_first.file.now
           c.in-Some-split_first.following.now c.in-Some.one (into_iter_items c.next.new.self) _
           c.in-Some-split_first.ensures.cases.0 c.in-Some.ensures.steps.0 c.in-Ok.ensures.said;
       children = children-step p.rsa_of p.ecdsa_of p.sha1_of p.sha256_of c.args.list.now c.args.folder.now
           c.args.files.now c.args.octets.items c.in-Some-split_first.file.now c.octets.rest.now
           c.in-Some-split_first.following.now c.in-Some.one (into_iter_items c.octets.one-iterator)
           (into_iter_items c.next.new.self) c.in-Some-split_first.ensures.cases.0 c.in-Some.ensures.steps.0
-          c.args.next.now.level.items _ _ c.octets.invariant.children c.in-Ok.ensures.children;
+          c.args.below.now.items _ _ c.octets.invariant.children c.in-Ok.ensures.children;
       held = held-step p.rsa_of p.ecdsa_of p.sha1_of p.sha256_of c.args.list.now c.args.files.now c.args.octets.items
           c.in-Some-split_first.file.now c.octets.rest.now c.in-Some-split_first.following.now c.in-Some.one
           (into_iter_items c.octets.one-iterator) (into_iter_items c.next.new.self)
@@ -93,8 +93,8 @@ octets-preserved g c =
       sisters = sisters-then c.args.list.now.issuer c.args.list.now.at _ _ _ c.octets.invariant.sisters
           (rw c.in-Err-Rejected.field-0-is at c.in-Err-Rejected.ensures.sisters);
       said = files-step p.rsa_of p.ecdsa_of p.sha1_of p.sha256_of c.args.list.now c.args.files.now c.args.octets.items
-          (found c.args.next.now c.args.outcome.now) c.octets.rest.now (into_iter_items c.octets.one-iterator)
-          (found c.octets.next c.octets.outcome) c.octets.invariant.said c.in-Some-split_first.file.now
+          (found c.args.below.now c.args.outcome.now) c.octets.rest.now (into_iter_items c.octets.one-iterator)
+          (found c.octets.below c.octets.outcome) c.octets.invariant.said c.in-Some-split_first.file.now
           c.in-Some-split_first.following.now c.in-Some.one (into_iter_items c.next.new.self) _
           c.in-Some-split_first.ensures.cases.0 c.in-Some.ensures.steps.0
           (rw c.in-Err-Rejected.field-0-is at c.in-Err-Rejected.ensures.said);
@@ -102,7 +102,7 @@ octets-preserved g c =
           c.args.files.now c.args.octets.items c.in-Some-split_first.file.now c.octets.rest.now
           c.in-Some-split_first.following.now c.in-Some.one (into_iter_items c.octets.one-iterator)
           (into_iter_items c.next.new.self) c.in-Some-split_first.ensures.cases.0 c.in-Some.ensures.steps.0
-          c.args.next.now.level.items _ _ c.octets.invariant.children
+          c.args.below.now.items _ _ c.octets.invariant.children
           (rw c.in-Err-Rejected.field-0-is at c.in-Err-Rejected.ensures.children);
       held = held-step p.rsa_of p.ecdsa_of p.sha1_of p.sha256_of c.args.list.now c.args.files.now c.args.octets.items
           c.in-Some-split_first.file.now c.octets.rest.now c.in-Some-split_first.following.now c.in-Some.one
@@ -124,8 +124,8 @@ pub returns-clause-said : goal.returns-clause-said
 returns-clause-said g c =
     let p = g.P.Provider in
     octets-end p.rsa_of p.ecdsa_of p.sha1_of p.sha256_of c.args.list.now c.args.files.now c.args.octets.items
-    (found c.args.next.now c.args.outcome.now) c.octets.rest.now (into_iter_items c.octets.one-iterator)
-    (found c.octets.next c.octets.outcome) c.octets.invariant.said
+    (found c.args.below.now c.args.outcome.now) c.octets.rest.now (into_iter_items c.octets.one-iterator)
+    (found c.octets.below c.octets.outcome) c.octets.invariant.said
     (omega (arith, c.in-None.ensures.steps.0, c.octets.invariant.count))
 
 -- ---- the end

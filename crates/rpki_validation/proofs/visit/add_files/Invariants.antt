@@ -1,7 +1,7 @@
 use Rattle.std.proofs.Common.{◌≡◌, length}
 use Rattle.std.specs.Vec.Iter.{into_iter_items, into_iter_len}
 use Rattle.rpki_validation.specs.Adding.{found}
-use Rattle.rpki_validation.specs.Next.{AreSistersBelow}
+use Rattle.rpki_validation.specs.Sisters.{AreSistersBelow}
 use Rattle.rpki_validation.specs.Rejecting.{IsChildOf, IsNotedHere, IsRightHere}
 use Rattle.rpki_validation.proofs.AddingLaws.{AreLeft}
 use Rattle.rpki_validation.proofs.HeldLaws.{HeldUpTo}
@@ -16,11 +16,11 @@ invariant-octets g l =
       next : (goal.iterator-octets g).can_next l.one-iterator;
       ends : (goal.iterator-octets g).is_finite l.one-iterator;
       count : into_iter_len l.one-iterator ≡ length (into_iter_items l.one-iterator);
-      sisters : AreSistersBelow l.list.issuer l.list.at l.fn.next.level.items l.next.level.items;
+      sisters : AreSistersBelow l.list.issuer l.list.at l.fn.below.items l.below.items;
       said : AreLeft p.rsa_of p.ecdsa_of p.sha1_of p.sha256_of l.list l.fn.files l.rest l.fn.octets.items
-          (into_iter_items l.one-iterator) (found l.fn.next l.fn.outcome) (found l.next l.outcome);
+          (into_iter_items l.one-iterator) (found l.fn.below l.fn.outcome) (found l.below l.outcome);
       children : AddsUpTo (IsChildOf p.rsa_of p.ecdsa_of p.sha1_of p.sha256_of l.list) l.fn.files l.rest
-          l.fn.octets.items (into_iter_items l.one-iterator) l.fn.next.level.items l.next.level.items;
+          l.fn.octets.items (into_iter_items l.one-iterator) l.fn.below.items l.below.items;
       held : HeldUpTo p.rsa_of p.ecdsa_of p.sha1_of p.sha256_of l.list l.fn.files l.fn.octets.items l.rest
           (into_iter_items l.one-iterator) l.fn.outcome l.outcome;
       rejected : NotesUpTo (IsRightHere p.rsa_of p.ecdsa_of p.sha1_of p.sha256_of l.list)

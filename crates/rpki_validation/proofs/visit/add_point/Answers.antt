@@ -15,7 +15,7 @@ use Rattle.rpki_validation.proofs.visit.add_point.Goals as goal
 pub returns-in_err-publication-clause-said : goal.returns-in_err-publication-clause-said
 returns-in_err-publication-clause-said g c = λ published known.
     let p = g.P.Provider in
-    let old = found c.args.next.now c.args.outcome.now in
+    let old = found c.args.below.now c.args.outcome.now in
     tried-memory _ _ _ c.from_residual.ensures
     (stop-publication p.rsa_of p.ecdsa_of p.sha1_of p.sha256_of published c.args.issuer.now c.args.at _ _ old
     (c.in_err-publication.ensures published known))
@@ -23,7 +23,7 @@ returns-in_err-publication-clause-said g c = λ published known.
 pub returns-in_err-list-clause-said : goal.returns-in_err-list-clause-said
 returns-in_err-list-clause-said g c = λ published known.
     let p = g.P.Provider in
-    let old = found c.args.next.now c.args.outcome.now in
+    let old = found c.args.below.now c.args.outcome.now in
     tried-memory _ _ _ c.from_residual-in_err-list.ensures
     (stop-moment p.rsa_of p.ecdsa_of p.sha1_of p.sha256_of published c.args.issuer.now c.args.at
     c.in_ok-publication.publication (c.in_ok-publication.ensures published known) _ _ old
@@ -32,7 +32,7 @@ returns-in_err-list-clause-said g c = λ published known.
 pub returns-in_err-octets-clause-said : goal.returns-in_err-octets-clause-said
 returns-in_err-octets-clause-said g c = λ published known.
     let p = g.P.Provider in
-    let old = found c.args.next.now c.args.outcome.now in
+    let old = found c.args.below.now c.args.outcome.now in
     let none = rw (
       c.provider.ensures,
       c.folder-folder.ensures,
@@ -47,7 +47,7 @@ returns-in_err-octets-clause-said g c = λ published known.
 pub returns-clause-said : goal.returns-clause-said
 returns-clause-said g c = λ published known.
     let p = g.P.Provider in
-    let old = found c.args.next.now c.args.outcome.now in
+    let old = found c.args.below.now c.args.outcome.now in
     let all = rw (
       c.provider.ensures,
       c.folder-folder.ensures,
@@ -71,7 +71,7 @@ returns-in_err-add_files-clause-sisters g c = tried-memory _ _ _ c.from_residual
 pub returns-clause-sisters : goal.returns-clause-sisters
 returns-clause-sisters g c =
     sisters-of c.in_ok-list.list c.args.issuer.now c.in_ok-publication.publication.list c.args.at
-    c.in_ok-list.ensures.list c.args.next.now.level.items _ c.in_ok-add_files.ensures.sisters
+    c.in_ok-list.ensures.list c.args.below.now.items _ c.in_ok-add_files.ensures.sisters
 
 -- ---- why there is none
 
@@ -158,8 +158,8 @@ returns-clause-children g c = λ published known.
     let files = c.file_list-files.ensures.files
     ∙ ap (λ (x : ManifestParts). x.files) (c.content.ensures
     ∙ ap (λ (x : TypedParts ManifestParts). x.content) c.manifest.ensures) in
-    let old = c.args.next.now.level.items in
-    let new = c.add_files.new.next.level.items in
+    let old = c.args.below.now.items in
+    let new = c.add_files.new.below.items in
     let os = c.in_ok-octets.octets.items in
     let all = rw (
       c.provider.ensures,
@@ -181,19 +181,19 @@ pub returns-in_err-publication-clause-children : goal.returns-in_err-publication
 returns-in_err-publication-clause-children g c =
     let p = g.P.Provider in
     below-never p.rsa_of p.ecdsa_of p.sha1_of p.sha256_of (g.S.Snapshot.holds c.args.snapshot.now)
-    c.args.issuer.now c.args.at _ c.args.next.now.level.items
+    c.args.issuer.now c.args.at _ c.args.below.now.items
 
 pub returns-in_err-list-clause-children : goal.returns-in_err-list-clause-children
 returns-in_err-list-clause-children g c =
     let p = g.P.Provider in
     below-never p.rsa_of p.ecdsa_of p.sha1_of p.sha256_of (g.S.Snapshot.holds c.args.snapshot.now)
-    c.args.issuer.now c.args.at _ c.args.next.now.level.items
+    c.args.issuer.now c.args.at _ c.args.below.now.items
 
 pub returns-in_err-octets-clause-children : goal.returns-in_err-octets-clause-children
 returns-in_err-octets-clause-children g c =
     let p = g.P.Provider in
     below-never p.rsa_of p.ecdsa_of p.sha1_of p.sha256_of (g.S.Snapshot.holds c.args.snapshot.now)
-    c.args.issuer.now c.args.at _ c.args.next.now.level.items
+    c.args.issuer.now c.args.at _ c.args.below.now.items
 
 -- ---- payloads in their periods
 

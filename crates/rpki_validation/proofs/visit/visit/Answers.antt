@@ -37,3 +37,11 @@ returns-in-Err-Rejected-clause-held g c =
     (λ published known.
     let h = held published known in
     record { origins = h.origins; providers = h.providers; routers = h.routers })
+
+pub returns-in-Ok-clause-below : goal.returns-in-Ok-clause-below
+returns-in-Ok-clause-below g c = λ published known. (c.in-Ok.ensures.said published known).below
+
+pub returns-in-Err-Rejected-clause-below : goal.returns-in-Err-Rejected-clause-below
+returns-in-Err-Rejected-clause-below g c = λ published known.
+    let said = rw c.in-Err-Rejected.field-0-is at c.in-Err-Rejected.ensures.said in
+    ok-always _ c.reject_point.result (said published known).below

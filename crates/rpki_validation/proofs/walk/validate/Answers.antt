@@ -7,5 +7,4 @@ returns g c = λ published known.
     told-under g.P.Provider.rsa_of g.P.Provider.ecdsa_of g.P.Provider.sha1_of g.P.Provider.sha256_of published
     c.args.at c.args.uris.now c.in_ok-anchor.anchor c.in_ok-outcome.outcome (terms_in c.args.terms)
     c.args.provider.now c.in_ok-anchor.ensures.terms c.in_ok-anchor.ensures.provider
-    (c.in_ok-anchor.ensures.exactly published known) (c.in_ok-outcome.ensures.told published known)
-    (c.in_ok-outcome.ensures.held published known) (c.in_ok-outcome.ensures.rejected published known)
+    (c.in_ok-anchor.ensures.exactly published known) (c.in_ok-outcome.ensures published known)

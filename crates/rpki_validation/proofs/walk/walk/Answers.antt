@@ -1,128 +1,79 @@
-use Rattle.std.proofs.Common.{List, ℕ, Bool, true, ◌==◌, ◌≡◌, ◌-◌, ◌∙◌, ap, arith, subst}
-use Rattle.std.specs.Prelude.{Vec}
-use Rattle.std.specs.declared.alloc.Global.{Global}
-use Rattle.std.specs.List.{Contains}
-use Rattle.rpki_valid.specs.Verified.{Authority, Terms}
-use Rattle.rpki_validation.proofs.WalkLaws.{held-all, level-deepest, level-empty, level-start, level-step}
-use Rattle.rpki_validation.proofs.WalkLaws.{rejected-deepest, rejected-empty}
+use Rattle.std.proofs.Common.{List, true, subst}
+use Rattle.rpki_validation.specs.Basis.{basis_of}
+use Rattle.rpki_validation.specs.Waiting.{AddsWaiting, Entry}
+use Rattle.rpki_validation.proofs.WalkLaws.{deep-sisters, first-sister, looked-at, looks-under, more-sisters}
+use Rattle.rpki_validation.proofs.WalkLaws.{passed, rest-sisters, start-sisters, walked-all, walked-start}
+use Rattle.rpki_validation.proofs.walk.walk.Goals.{else-branch, then-branch+in_ok-look_at}
 use Rattle.rpki_validation.proofs.walk.walk.Goals as goal
-use Rattle.rpki_validation.proofs.walk.walk.Goals.{then-left-eq0-via-then-left-eq0}
-use Rattle.rpki_validation.proofs.walk.walk.Goals.{then-left-eq0-via-else-left-eq0+then-is_empty}
 
-zero-is : (n : ℕ) (b : Bool) → b ≡ (n == 0) → b ≡ true → n ≡ 0
-zero-is n b e f = grind (arith, e, f)
+pub turns-init : goal.turns-init
+turns-init g c =
+    let p = g.P.Provider in
+    let anchor = c.args.anchor in
+    let adds = subst (λ (w : List (Entry g.row.P.Denot)). AddsWaiting true anchor w c.add.new.self)
+    c.new-waiting.ensures
+    c.in_ok-add.ensures in
+    record {
+      sisters = start-sisters anchor c.args.at c.add.new.self c.requires.period c.requires.depth adds;
+      walked = λ published known uris sole.
+          walked-start published (basis_of p.rsa_of p.ecdsa_of p.sha1_of p.sha256_of anchor c.args.at) uris anchor sole
+          c.new-looked.result c.new-outcome.result c.add.new.self c.new-looked.ensures.named
+          c.new-looked.ensures.places c.new-outcome.ensures.origins c.new-outcome.ensures.providers
+          c.new-outcome.ensures.routers c.new-outcome.ensures.rejections c.requires.depth c.requires.own adds;
+    }
 
-pub levels-init : goal.levels-init
-levels-init g c =
-    let deepest = ap (λ (t : Terms). t.deepest) c.terms-left.ensures in
-    rw c.in_ok-push.ensures.items
-    (rw c.new.ensures.items
-    (rw c.new-2.ensures
-    (rw deepest
-    (level-start g.P.Provider.rsa_of g.P.Provider.ecdsa_of g.P.Provider.sha1_of g.P.Provider.sha256_of
-    (g.S.Snapshot.holds c.args.snapshot.now) c.args.at c.args.anchor c.new-outcome.result c.new-outcome.ensures.origins
-    c.new-outcome.ensures.providers c.new-outcome.ensures.routers c.new-outcome.ensures.rejections
-    c.requires.period c.requires.own c.requires.depth))))
+pub returns-in_default : goal.returns-in_default
+returns-in_default g c = λ published known uris sole.
+    let p = g.P.Provider in
+    walked-all published (basis_of p.rsa_of p.ecdsa_of p.sha1_of p.sha256_of c.args.anchor c.args.at) uris c.args.anchor
+    sole c.turns.waiting c.turns.looked c.turns.outcome (c.turns.invariant.walked published known uris sole)
+    c.in_default.ensures.none
 
-pub visit_all-requires : goal.visit_all-requires
-visit_all-requires g c = λ a h.
-    let is = c.as_slice.ensures.value
-    ∙ ap (λ (v : Vec (Authority g.row.P.Denot) Global). v.items) c.replace-level.ensures.value in
-    (c.levels.invariant.sisters a (subst (λ (xs : List (Authority g.row.P.Denot)). Contains xs a) is h)).period
+pub look_at-requires : goal.look_at-requires
+look_at-requires g c =
+    let anchor = c.args.anchor in
+    (first-sister anchor.terms anchor.provider c.args.at c.in-Some.authority c.in-Some.is_named c.turns.waiting
+    c.take_first.new.self c.in-Some.ensures.some c.turns.invariant.sisters).period
 
-pub returns-then-left-eq0-clause-told : goal.returns-then-left-eq0-clause-told
-returns-then-left-eq0-clause-told g c =
-    let is = c.as_slice.ensures.value ∙ ap (λ (v : Vec (Authority g.row.P.Denot) Global). v.items)
-    c.replace-level.ensures.value in
-    let none = ap (λ (v : Vec (Authority g.row.P.Denot) Global). v.items) c.replace-level.ensures.after
-    ∙ c.new-in-levels.ensures.items in
-    let rsa = g.P.Provider.rsa_of in
-    let ecdsa = g.P.Provider.ecdsa_of in
-    let sha1 = g.P.Provider.sha1_of in
-    let sha256 = g.P.Provider.sha256_of in
-    let known = g.S.Snapshot.holds c.args.snapshot.now in
-    let next = c.visit_all.new.next in
-    elim c.then-left-eq0.branch [
-      | then-left-eq0-via-then-left-eq0 w ↦
-          level-deepest rsa ecdsa sha1 sha256 known c.args.at c.args.anchor c.levels.left c.levels.outcome
-          c.visit_all.new.outcome c.levels.next.met next.met c.levels.next.level.items c.as_slice.result.now
-          c.replace-level.new.dest.items next.level.items is none c.levels.invariant c.in_ok-visit_all.ensures.said
-          c.in_ok-visit_all.ensures.taking c.in_ok-visit_all.ensures.sisters
-          c.in_ok-visit_all.ensures.children c.in_ok-visit_all.ensures.held c.in_ok-visit_all.ensures.rejected
-          w.if-left-eq0.true
-      | then-left-eq0-via-else-left-eq0+then-is_empty w ↦
-          level-empty rsa ecdsa sha1 sha256 known c.args.at c.args.anchor c.levels.left c.levels.outcome
-          c.visit_all.new.outcome c.levels.next.met next.met c.levels.next.level.items c.as_slice.result.now
-          c.replace-level.new.dest.items next.level.items is none c.levels.invariant c.in_ok-visit_all.ensures.said
-          c.in_ok-visit_all.ensures.taking c.in_ok-visit_all.ensures.sisters
-          c.in_ok-visit_all.ensures.children c.in_ok-visit_all.ensures.held c.in_ok-visit_all.ensures.rejected
-          (omega (arith, w.if-left-eq0.false))
-          (omega (
-            arith,
-            next.level.ok,
-            zero-is next.level.len w.is_empty.result w.is_empty.ensures w.if-is_empty.true,
-          ))
+pub turns-preserved : goal.turns-preserved
+turns-preserved g c =
+    let p = g.P.Provider in
+    let anchor = c.args.anchor in
+    let at = c.args.at in
+    let basis = basis_of p.rsa_of p.ecdsa_of p.sha1_of p.sha256_of anchor at in
+    let a = c.in-Some.authority in
+    let b = c.in-Some.is_named in
+    let old = c.turns.waiting in
+    let rest = c.take_first.new.self in
+    let first = c.in-Some.ensures.some in
+    let before = c.turns.invariant in
+    let sister = first-sister anchor.terms anchor.provider at a b old rest first before.sisters in
+    elim c.if-branch.branch [
+      | then-branch+in_ok-look_at w ↦
+          let looks = w.in_ok-look_at.ensures in
+          let insert = rw w.if-branch.true at c.in_ok-insert.ensures in
+          rw w.waiting-is
+          (rw w.outcome-is
+          (record {
+            sisters = more-sisters anchor.terms anchor.provider at a b old rest first before.sisters
+                w.look_at.new.waiting looks.waiting;
+            walked = λ published known uris sole.
+                looked-at published basis uris anchor sole a old rest c.turns.looked c.insert.new.self c.turns.outcome
+                w.look_at.new.waiting w.look_at.new.outcome b
+                (looks-under p.rsa_of p.ecdsa_of p.sha1_of p.sha256_of published at anchor.terms anchor.provider b a
+                rest w.look_at.new.waiting c.turns.outcome w.look_at.new.outcome sister.terms_are sister.provider_is
+                (looks.looks published known)) sister.terms_are
+                (deep-sisters anchor.terms anchor.provider at a b old rest first before.sisters w.look_at.new.waiting
+                looks.waiting) first insert (before.walked published known uris sole);
+          }))
+      | else-branch w ↦
+          let insert = rw w.if-branch.false at c.in_ok-insert.ensures in
+          rw w.waiting-is
+          (rw w.outcome-is
+          (record {
+            sisters = rest-sisters anchor.terms anchor.provider at a b old rest first before.sisters;
+            walked = λ published known uris sole.
+                passed published basis uris anchor sole a old rest c.turns.looked c.insert.new.self c.turns.outcome b
+                first insert (before.walked published known uris sole);
+          }))
     ]
-
-pub returns-then-left-eq0-clause-rejected : goal.returns-then-left-eq0-clause-rejected
-returns-then-left-eq0-clause-rejected g c =
-    let is = c.as_slice.ensures.value ∙ ap (λ (v : Vec (Authority g.row.P.Denot) Global). v.items)
-    c.replace-level.ensures.value in
-    let none = ap (λ (v : Vec (Authority g.row.P.Denot) Global). v.items) c.replace-level.ensures.after
-    ∙ c.new-in-levels.ensures.items in
-    let rsa = g.P.Provider.rsa_of in
-    let ecdsa = g.P.Provider.ecdsa_of in
-    let sha1 = g.P.Provider.sha1_of in
-    let sha256 = g.P.Provider.sha256_of in
-    let known = g.S.Snapshot.holds c.args.snapshot.now in
-    let next = c.visit_all.new.next in
-    elim c.then-left-eq0.branch [
-      | then-left-eq0-via-then-left-eq0 w ↦
-          rejected-deepest rsa ecdsa sha1 sha256 known c.args.at c.args.anchor c.levels.left c.levels.outcome
-          c.visit_all.new.outcome c.levels.next.met next.met c.levels.next.level.items c.as_slice.result.now
-          c.replace-level.new.dest.items next.level.items is none c.levels.invariant c.in_ok-visit_all.ensures.said
-          c.in_ok-visit_all.ensures.taking c.in_ok-visit_all.ensures.sisters
-          c.in_ok-visit_all.ensures.children c.in_ok-visit_all.ensures.held c.in_ok-visit_all.ensures.rejected
-          w.if-left-eq0.true
-      | then-left-eq0-via-else-left-eq0+then-is_empty w ↦
-          rejected-empty rsa ecdsa sha1 sha256 known c.args.at c.args.anchor c.levels.left c.levels.outcome
-          c.visit_all.new.outcome c.levels.next.met next.met c.levels.next.level.items c.as_slice.result.now
-          c.replace-level.new.dest.items next.level.items is none c.levels.invariant c.in_ok-visit_all.ensures.said
-          c.in_ok-visit_all.ensures.taking c.in_ok-visit_all.ensures.sisters
-          c.in_ok-visit_all.ensures.children c.in_ok-visit_all.ensures.held c.in_ok-visit_all.ensures.rejected
-          (omega (arith, w.if-left-eq0.false))
-          (omega (
-            arith,
-            next.level.ok,
-            zero-is next.level.len w.is_empty.result w.is_empty.ensures w.if-is_empty.true,
-          ))
-    ]
-
-pub returns-then-left-eq0-clause-held : goal.returns-then-left-eq0-clause-held
-returns-then-left-eq0-clause-held g c =
-    let is = c.as_slice.ensures.value ∙ ap (λ (v : Vec (Authority g.row.P.Denot) Global). v.items)
-    c.replace-level.ensures.value in
-    let none = ap (λ (v : Vec (Authority g.row.P.Denot) Global). v.items) c.replace-level.ensures.after
-    ∙ c.new-in-levels.ensures.items in
-    let next = c.visit_all.new.next in
-    held-all g.P.Provider.rsa_of g.P.Provider.ecdsa_of g.P.Provider.sha1_of g.P.Provider.sha256_of
-    (g.S.Snapshot.holds c.args.snapshot.now) c.args.at c.args.anchor c.levels.left c.levels.outcome
-    c.visit_all.new.outcome c.levels.next.met next.met c.levels.next.level.items c.as_slice.result.now
-    c.replace-level.new.dest.items next.level.items is none c.levels.invariant c.in_ok-visit_all.ensures.said
-    c.in_ok-visit_all.ensures.taking c.in_ok-visit_all.ensures.sisters c.in_ok-visit_all.ensures.children
-    c.in_ok-visit_all.ensures.held c.in_ok-visit_all.ensures.rejected
-
-pub levels-preserved : goal.levels-preserved
-levels-preserved g c =
-    let is = c.as_slice.ensures.value ∙ ap (λ (v : Vec (Authority g.row.P.Denot) Global). v.items)
-    c.replace-level.ensures.value in
-    let none = ap (λ (v : Vec (Authority g.row.P.Denot) Global). v.items) c.replace-level.ensures.after
-    ∙ c.new-in-levels.ensures.items in
-    let next = c.visit_all.new.next in
-    level-step g.P.Provider.rsa_of g.P.Provider.ecdsa_of g.P.Provider.sha1_of g.P.Provider.sha256_of
-    (g.S.Snapshot.holds c.args.snapshot.now) c.args.at c.args.anchor c.levels.left c.levels.outcome
-    c.visit_all.new.outcome c.levels.next.met next.met c.levels.next.level.items c.as_slice.result.now
-    c.replace-level.new.dest.items next.level.items is none c.levels.invariant c.in_ok-visit_all.ensures.said
-    c.in_ok-visit_all.ensures.taking c.in_ok-visit_all.ensures.sisters c.in_ok-visit_all.ensures.children
-    c.in_ok-visit_all.ensures.held c.in_ok-visit_all.ensures.rejected (c.levels.left - 1)
-    (omega (arith, c.if-left-eq0.false))

@@ -18,5 +18,5 @@ returns-clause-inserted g c =
       mark_in numbers k,
       c.in_ok-mark.ensures.mark,
       inserts numbers c.self.inside.marks c.insert.new.self k is_new
-          c.in_ok-is_new.ensures.keys c.in_ok-is_new.ensures.unchanged,
+          c.in_ok-is_new.ensures.keys c.in_ok-is_new.ensures.unchanged c.in_ok-is_new.ensures.added,
     )
