@@ -70,6 +70,7 @@ pub fn refusal(error: IssueError) -> &'static str {
     match error {
         IssueError::Uri => "Uri",
         IssueError::Period => "Period",
+        IssueError::Doubled => "Doubled",
         IssueError::Resources => "Resources",
         IssueError::TooLong => "TooLong",
         IssueError::Rule(rule) => rule_name(rule),

@@ -2,7 +2,8 @@
 --
 -- Contents of extensions that are written, and that they have one value: ContentsLaws, UniqueLaws. An extension, and a
 -- list of them: RowsLaws, PartsLaws, ListedLaws. What is signed of a certificate: TbsLaws, WrittenTbsLaws. That it
--- has its profile: ResourcesLaws, ProfileLaws. What is refused: UriLaws, PlanLaws, RefusedLaws. What is signed is read
+-- has its profile: ResourcesLaws, ProfileLaws. What is refused: UriLaws, PlanLaws, RefusedLaws; that a serial number is
+-- listed twice: DoubledLaws. What is signed is read
 -- as what was to be signed: CertLaws, ListLaws, ObjectLaws.
 
 pub mod ContentsLaws
@@ -15,6 +16,7 @@ pub mod TbsLaws
 pub mod WrittenTbsLaws
 pub mod CertLaws
 pub mod ListLaws
+pub mod DoubledLaws
 pub mod ObjectLaws
 pub mod PlanLaws
 pub mod ResourcesLaws

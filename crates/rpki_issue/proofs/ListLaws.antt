@@ -8,8 +8,9 @@ use Rattle.rpki_crl.specs.Crl.{entry_of, entries_in, ListParts, crl, crl_parts}
 use Rattle.rpki_crl.specs.EncodedCrl.{IsEntry, revoked_octets, list_octets, normal_list, IsShortList, IsListReadBack}
 use Rattle.rpki_crl.proofs.ListReadLaws.{revoked-short, behind-read, behind-short, list-read, crl-read}
 use Rattle.rpki_issue.specs.declared.error.IssueError.{IssueError}
-use Rattle.rpki_issue.specs.declared.error.IssueError.TheVariants.{Uri, Period, Resources, TooLong, Rule, BadSignature}
-use Rattle.rpki_issue.specs.declared.error.IssueError.TheVariants.{ContentType, Certificate, OutOfMemory}
+use Rattle.rpki_issue.specs.declared.error.IssueError.TheVariants.{Uri, Period, Doubled, Resources, TooLong}
+use Rattle.rpki_issue.specs.declared.error.IssueError.TheVariants.{Rule, ContentType, Certificate, BadSignature}
+use Rattle.rpki_issue.specs.declared.error.IssueError.TheVariants.{OutOfMemory}
 use Rattle.rpki_issue.specs.Signing.{signed_parts, signed_whole, IsShortWhole, AreSigned}
 use Rattle.rpki_issue.specs.Written.{IsKeyedRefusal}
 use Rattle.rpki_issue.specs.SignedList.{ListToSign, AreListKnown, IsListRefused, IsListPlanRefused, IsIssuedList}
@@ -54,6 +55,7 @@ revoked-refused x w h =
 pub plan-refused : (x : ListParts) (w : IssueError) → IsListRefused x w → IsListPlanRefused x w
 plan-refused x Uri h = h
 plan-refused x Period h = absurd h
+plan-refused x Doubled h = absurd h
 plan-refused x Resources h = h
 plan-refused x TooLong h = h
 plan-refused x (Rule r) h = h

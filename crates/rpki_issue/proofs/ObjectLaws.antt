@@ -12,8 +12,8 @@ use Rattle.rpki_objects.specs.SignedObject.{signed_object, object_fields_of}
 use Rattle.rpki_objects.specs.EncodedObject.{BuiltObject, object_octets, CanWriteObject, normal_object}
 use Rattle.rpki_objects.specs.EncodedObject.{IsObjectReadBack}
 use Rattle.rpki_issue.specs.declared.error.IssueError.{IssueError}
-use Rattle.rpki_issue.specs.declared.error.IssueError.TheVariants.{Uri, Period, Resources, TooLong, Rule, BadSignature}
-use Rattle.rpki_issue.specs.declared.error.IssueError.TheVariants.{ContentType, Certificate}
+use Rattle.rpki_issue.specs.declared.error.IssueError.TheVariants.{Uri, Period, Doubled, Resources, TooLong}
+use Rattle.rpki_issue.specs.declared.error.IssueError.TheVariants.{Rule, ContentType, Certificate, BadSignature}
 use Rattle.rpki_issue.specs.declared.error.IssueError.TheVariants.{OutOfMemory as NoMemory}
 use Rattle.rpki_issue.specs.Signing.{IsSignatureBy}
 use Rattle.rpki_issue.specs.SignedObjects.{ObjectToSign, AreTimed, built, IsOnlyCert, IsIssuedObject, IsObjectRefused}
@@ -87,6 +87,7 @@ module _ (rsa ecdsa : Check) (sha1 : List ℕ → List ℕ) (made : ObjectToSign
         → IsObjectRefused rsa ecdsa sha1 made certificate value w
     build-refused Uri h = h
     build-refused Period h = h
+    build-refused Doubled h = h
     build-refused Resources h = h
     build-refused TooLong h = λ x there can.
         h (subst (λ (o : BuiltObject). CanWriteObject o) (sym same)

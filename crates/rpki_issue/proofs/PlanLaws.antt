@@ -4,8 +4,9 @@ use Rattle.rpki_cert.specs.declared.profile.Profile.{Profile}
 use Rattle.rpki_cert.specs.Profile.{HasProfile}
 use Rattle.rpki_cert.specs.Cert.{TbsParts, SpellsTbs, AreExtensions}
 use Rattle.rpki_issue.specs.declared.error.IssueError.{IssueError}
-use Rattle.rpki_issue.specs.declared.error.IssueError.TheVariants.{Uri, Period, Resources, TooLong, Rule, BadSignature}
-use Rattle.rpki_issue.specs.declared.error.IssueError.TheVariants.{ContentType, Certificate, OutOfMemory}
+use Rattle.rpki_issue.specs.declared.error.IssueError.TheVariants.{Uri, Period, Doubled, Resources, TooLong}
+use Rattle.rpki_issue.specs.declared.error.IssueError.TheVariants.{Rule, ContentType, Certificate, BadSignature}
+use Rattle.rpki_issue.specs.declared.error.IssueError.TheVariants.{OutOfMemory}
 use Rattle.rpki_issue.specs.declared.kind.CertExtensions.{CertExtensions}
 use Rattle.rpki_issue.specs.Extensions.{extensions_of, profile_of, AreUris}
 use Rattle.rpki_issue.specs.Tbs.{Issued, tbs_octets, IsShortTbs, normal_tbs}
@@ -35,6 +36,7 @@ module _ (x : Issued) (e : CertExtensions) where
   pub list-refused : (w : IssueError) → IsListRefusal e w → IsPlanRefusal x e w
   list-refused Uri h = absurd h
   list-refused Period h = absurd h
+  list-refused Doubled h = absurd h
   list-refused Resources h = h
   list-refused TooLong h = λ hold short. h hold
   list-refused (Rule r) h = absurd h
@@ -47,6 +49,7 @@ module _ (x : Issued) (e : CertExtensions) where
       → IsPlanRefusal x e w
   octets-refused listed Uri l h = absurd h
   octets-refused listed Period l h = absurd h
+  octets-refused listed Doubled l h = absurd h
   octets-refused listed Resources l h = absurd h
   octets-refused listed TooLong l h = λ hold short. h (subst (λ (o : List ℕ). IsShortTbs x o) (sym l.list) short)
   octets-refused listed (Rule r) l h = absurd h
@@ -59,6 +62,7 @@ module _ (x : Issued) (e : CertExtensions) where
       → IsProfileRefusal profile (normal_tbs x (extensions_of e)) w → IsPlanRefusal x e w
   profile-refused profile Uri same h = absurd h
   profile-refused profile Period same h = absurd h
+  profile-refused profile Doubled same h = absurd h
   profile-refused profile Resources same h = absurd h
   profile-refused profile TooLong same h = absurd h
   profile-refused profile (Rule r) same h =

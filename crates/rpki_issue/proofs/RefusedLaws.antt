@@ -5,8 +5,9 @@ use Rattle.rpki_resources.specs.declared.resources.IpResources.{IpResources}
 use Rattle.rpki_resources.specs.declared.resources.AsResources.{AsResources}
 use Rattle.rpki_resources.specs.EncodedResources.{CanWriteIp, CanWriteAs}
 use Rattle.rpki_issue.specs.declared.error.IssueError.{IssueError}
-use Rattle.rpki_issue.specs.declared.error.IssueError.TheVariants.{Uri, Period, Resources, TooLong, Rule, BadSignature}
-use Rattle.rpki_issue.specs.declared.error.IssueError.TheVariants.{ContentType, Certificate, OutOfMemory}
+use Rattle.rpki_issue.specs.declared.error.IssueError.TheVariants.{Uri, Period, Doubled, Resources, TooLong}
+use Rattle.rpki_issue.specs.declared.error.IssueError.TheVariants.{Rule, ContentType, Certificate, BadSignature}
+use Rattle.rpki_issue.specs.declared.error.IssueError.TheVariants.{OutOfMemory}
 use Rattle.rpki_issue.specs.declared.kind.CertExtensions.{CertExtensions}
 use Rattle.rpki_issue.specs.Extensions.{extensions_of, extensions_listed, CanHoldIp, CanHoldAs, CanHold}
 use Rattle.rpki_issue.specs.Tbs.{Issued, IsShortTbs}
@@ -30,6 +31,7 @@ pub not-refused : (x : Issued) (e : CertExtensions) (w : IssueError) → CanIssu
     → IsShortTbs x (extensions_listed (extensions_of e)) → IsPlanRefusal x e w → w ≡ OutOfMemory
 not-refused x e Uri can short h = absurd (h can.uris)
 not-refused x e Period can short h = absurd h
+not-refused x e Doubled can short h = absurd h
 not-refused x e Resources can short h = absurd (h (writes e can.resources))
 not-refused x e TooLong can short h = absurd (h can.resources short)
 not-refused x e (Rule r) can short h = absurd (h.1 (has-profile x e can))

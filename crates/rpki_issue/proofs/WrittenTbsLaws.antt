@@ -8,8 +8,9 @@ use Rattle.rpki.specs.AlgorithmOctets.{identified_octets, algorithm_octets}
 use Rattle.rpki.specs.PublicKey.{key_octets}
 use Rattle.rpki_x509.proofs.WrittenLaws.{front-few, back-few}
 use Rattle.rpki_issue.specs.declared.error.IssueError.{IssueError}
-use Rattle.rpki_issue.specs.declared.error.IssueError.TheVariants.{Uri, Period, Resources, TooLong, Rule, BadSignature}
-use Rattle.rpki_issue.specs.declared.error.IssueError.TheVariants.{ContentType, Certificate, OutOfMemory}
+use Rattle.rpki_issue.specs.declared.error.IssueError.TheVariants.{Uri, Period, Doubled, Resources, TooLong}
+use Rattle.rpki_issue.specs.declared.error.IssueError.TheVariants.{Rule, ContentType, Certificate, BadSignature}
+use Rattle.rpki_issue.specs.declared.error.IssueError.TheVariants.{OutOfMemory}
 use Rattle.rpki_issue.specs.Tbs.{Issued, extensions_octets, IsShortTbs}
 use Rattle.rpki_issue.specs.Written.{IsKeyedRefusal, IsWriteRefusal, ArePartsSpelled, IsRead}
 use Rattle.rpki_issue.proofs.TbsLaws.{subject-short, tbs-spelled}
@@ -22,6 +23,7 @@ joined v s a i p u k e o c1 c2 c3 c4 h0 h1 h2 h3 h4 = rw (h4, h3, h2, h1, h0) (s
 pub weaker : (A B : Type 0) (w : IssueError) → (B → A) → IsKeyedRefusal A w → IsKeyedRefusal B w
 weaker A B Uri f h = h
 weaker A B Period f h = h
+weaker A B Doubled f h = h
 weaker A B Resources f h = h
 weaker A B TooLong f h = λ b. h (f b)
 weaker A B (Rule r) f h = h

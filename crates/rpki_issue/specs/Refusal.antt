@@ -6,8 +6,9 @@ use Rattle.rpki_resources.specs.declared.resources.IpResources.{IpResources}
 use Rattle.rpki_resources.specs.declared.resources.AsResources.{AsResources}
 use Rattle.rpki_resources.specs.EncodedResources.{CanWriteIp, CanWriteAs}
 use Rattle.rpki_issue.specs.declared.error.IssueError.{IssueError}
-use Rattle.rpki_issue.specs.declared.error.IssueError.TheVariants.{Uri, Period, Resources, TooLong, Rule, BadSignature}
-use Rattle.rpki_issue.specs.declared.error.IssueError.TheVariants.{ContentType, Certificate, OutOfMemory}
+use Rattle.rpki_issue.specs.declared.error.IssueError.TheVariants.{Uri, Period, Doubled, Resources, TooLong}
+use Rattle.rpki_issue.specs.declared.error.IssueError.TheVariants.{Rule, ContentType, Certificate, BadSignature}
+use Rattle.rpki_issue.specs.declared.error.IssueError.TheVariants.{OutOfMemory}
 use Rattle.rpki_issue.specs.declared.kind.CertExtensions.{CertExtensions}
 use Rattle.rpki_issue.specs.Extensions.{extensions_of, extensions_listed, CanHoldIp, CanHoldAs, CanHold}
 use Rattle.rpki_issue.specs.Issuing.{AreKeys}
@@ -16,6 +17,7 @@ use Rattle.rpki_issue.specs.Issuing.{AreKeys}
 abbrev pub issue_text : IssueError → List ℕ
 issue_text Uri = codes "URI of 3,080 octets or more"
 issue_text Period = codes "period that ends before it begins"
+issue_text Doubled = codes "serial number listed twice"
 issue_text Resources = codes "resources that no extension says"
 issue_text TooLong = codes "more octets than a length announces"
 issue_text (Rule r) = codes "rule of the profile broken"
@@ -39,6 +41,7 @@ pub record AreListed (e : CertExtensions) (octets : List ℕ) : Type 0 where
 abbrev pub IsHeldRefusal : Type 0 → Type 0 → IssueError → Type 0
 IsHeldRefusal legal held Uri = ⊥
 IsHeldRefusal legal held Period = ⊥
+IsHeldRefusal legal held Doubled = ⊥
 IsHeldRefusal legal held Resources = legal → ⊥
 IsHeldRefusal legal held TooLong = held → ⊥
 IsHeldRefusal legal held (Rule r) = ⊥

@@ -8,8 +8,9 @@ use Rattle.rpki_cert.specs.Cert.{CertParts, SpellsCert}
 use Rattle.rpki_objects.specs.SignedObject.{signed_object, object_fields_of}
 use Rattle.rpki_objects.specs.EncodedObject.{BuiltObject, object_octets, CanWriteObject, normal_object}
 use Rattle.rpki_issue.specs.declared.error.IssueError.{IssueError}
-use Rattle.rpki_issue.specs.declared.error.IssueError.TheVariants.{Uri, Period, Resources, TooLong, Rule, BadSignature}
-use Rattle.rpki_issue.specs.declared.error.IssueError.TheVariants.{ContentType, Certificate, OutOfMemory}
+use Rattle.rpki_issue.specs.declared.error.IssueError.TheVariants.{Uri, Period, Doubled, Resources, TooLong}
+use Rattle.rpki_issue.specs.declared.error.IssueError.TheVariants.{Rule, ContentType, Certificate, BadSignature}
+use Rattle.rpki_issue.specs.declared.error.IssueError.TheVariants.{OutOfMemory}
 use Rattle.rpki_issue.specs.Signing.{IsSignatureBy}
 
 -- what the attributes say, the content, and what is to be signed
@@ -45,6 +46,7 @@ pub record IsObjectToSign (v : AttributeValues) (content : List ℕ) (made : Obj
 abbrev pub IsTypeRefused : List ℕ → IssueError → Type 0
 IsTypeRefused id Uri = ⊥
 IsTypeRefused id Period = ⊥
+IsTypeRefused id Doubled = ⊥
 IsTypeRefused id Resources = ⊥
 IsTypeRefused id TooLong = ⊥
 IsTypeRefused id (Rule r) = ⊥
@@ -79,6 +81,7 @@ pub record IsIssuedObject (rsa ecdsa : Check) (sha1 : List ℕ → List ℕ) (ma
 abbrev pub IsObjectRefused : Check → Check → (List ℕ → List ℕ) → ObjectToSign → List ℕ → List ℕ → IssueError → Type 0
 IsObjectRefused rsa ecdsa sha1 made certificate value Uri = ⊥
 IsObjectRefused rsa ecdsa sha1 made certificate value Period = ⊥
+IsObjectRefused rsa ecdsa sha1 made certificate value Doubled = ⊥
 IsObjectRefused rsa ecdsa sha1 made certificate value Resources = ⊥
 IsObjectRefused rsa ecdsa sha1 made certificate value TooLong =
     (x : CertParts) → SpellsCert x certificate → CanWriteObject (built sha1 made certificate x value) → ⊥
@@ -93,6 +96,7 @@ IsObjectRefused rsa ecdsa sha1 made certificate value OutOfMemory = Unit {0}
 abbrev pub IsCertRefused : List ℕ → IssueError → Type 0
 IsCertRefused octets Uri = ⊥
 IsCertRefused octets Period = ⊥
+IsCertRefused octets Doubled = ⊥
 IsCertRefused octets Resources = ⊥
 IsCertRefused octets TooLong = ⊥
 IsCertRefused octets (Rule r) = ⊥
@@ -110,6 +114,7 @@ pub record IsOnlyCert (octets : List ℕ) (cert : CertParts) : Type 0 where
 abbrev pub IsBuildRefused : BuiltObject → IssueError → Type 0
 IsBuildRefused x Uri = ⊥
 IsBuildRefused x Period = ⊥
+IsBuildRefused x Doubled = ⊥
 IsBuildRefused x Resources = ⊥
 IsBuildRefused x TooLong = CanWriteObject x → ⊥
 IsBuildRefused x (Rule r) = ⊥

@@ -12,8 +12,9 @@ use Rattle.rpki_cert.specs.declared.profile.Profile.{Profile}
 use Rattle.rpki_cert.specs.Profile.{HasProfile, rules_of}
 use Rattle.rpki_cert.specs.Rule.{IsFirstBroken}
 use Rattle.rpki_issue.specs.declared.error.IssueError.{IssueError}
-use Rattle.rpki_issue.specs.declared.error.IssueError.TheVariants.{Uri, Period, Resources, TooLong, Rule, BadSignature}
-use Rattle.rpki_issue.specs.declared.error.IssueError.TheVariants.{ContentType, Certificate, OutOfMemory}
+use Rattle.rpki_issue.specs.declared.error.IssueError.TheVariants.{Uri, Period, Doubled, Resources, TooLong}
+use Rattle.rpki_issue.specs.declared.error.IssueError.TheVariants.{Rule, ContentType, Certificate, BadSignature}
+use Rattle.rpki_issue.specs.declared.error.IssueError.TheVariants.{OutOfMemory}
 use Rattle.rpki_issue.specs.declared.kind.CertExtensions.{CertExtensions}
 use Rattle.rpki_issue.specs.Extensions.{extensions_of, extensions_listed, profile_of, AreUris, CanHold}
 use Rattle.rpki_issue.specs.Tbs.{Issued, tbs_octets, IsShortTbs, normal_tbs}
@@ -52,6 +53,7 @@ pub record AreSigned (rsa ecdsa : Check) (key : KeyParts) (octets value whole : 
 abbrev pub IsSigningRefusal : Check → Check → KeyParts → List ℕ → List ℕ → IssueError → Type 0
 IsSigningRefusal rsa ecdsa key octets value Uri = ⊥
 IsSigningRefusal rsa ecdsa key octets value Period = ⊥
+IsSigningRefusal rsa ecdsa key octets value Doubled = ⊥
 IsSigningRefusal rsa ecdsa key octets value Resources = ⊥
 IsSigningRefusal rsa ecdsa key octets value TooLong = IsShortWhole octets value → ⊥
 IsSigningRefusal rsa ecdsa key octets value (Rule r) = ⊥
@@ -78,6 +80,7 @@ pub record IsToSign (x : Issued) (e : CertExtensions) (made : ToSign) : Type 0 w
 abbrev pub IsProfileRefusal : Profile → TbsParts → IssueError → Type 0
 IsProfileRefusal profile t Uri = ⊥
 IsProfileRefusal profile t Period = ⊥
+IsProfileRefusal profile t Doubled = ⊥
 IsProfileRefusal profile t Resources = ⊥
 IsProfileRefusal profile t TooLong = ⊥
 IsProfileRefusal profile t (Rule r) =
@@ -98,6 +101,7 @@ pub record IsReadAs (profile : Profile) (octets : List ℕ) (made : ToSign) (t :
 abbrev pub IsPlanRefusal : Issued → CertExtensions → IssueError → Type 0
 IsPlanRefusal x e Uri = AreUris e → ⊥
 IsPlanRefusal x e Period = ⊥
+IsPlanRefusal x e Doubled = ⊥
 IsPlanRefusal x e Resources = CanWrite e → ⊥
 IsPlanRefusal x e TooLong = CanHold e → IsShortTbs x (extensions_listed (extensions_of e)) → ⊥
 IsPlanRefusal x e (Rule r) = IsProfileRefusal (profile_of e.kind) (normal_tbs x (extensions_of e)) (Rule r)

@@ -10,8 +10,9 @@ use Rattle.rpki.specs.PublicKey.{key_octets, SpellsKey}
 use Rattle.rpki.specs.ExtensionValue.{ExtensionParts}
 use Rattle.rpki_cert.specs.Cert.{SpellsTbs, AreExtensions}
 use Rattle.rpki_issue.specs.declared.error.IssueError.{IssueError}
-use Rattle.rpki_issue.specs.declared.error.IssueError.TheVariants.{Uri, Period, Resources, TooLong, Rule, BadSignature}
-use Rattle.rpki_issue.specs.declared.error.IssueError.TheVariants.{ContentType, Certificate, OutOfMemory}
+use Rattle.rpki_issue.specs.declared.error.IssueError.TheVariants.{Uri, Period, Doubled, Resources, TooLong}
+use Rattle.rpki_issue.specs.declared.error.IssueError.TheVariants.{Rule, ContentType, Certificate, BadSignature}
+use Rattle.rpki_issue.specs.declared.error.IssueError.TheVariants.{OutOfMemory}
 use Rattle.rpki_issue.specs.Tbs.{Issued, version_octets, tbs_octets, IsShortTbs, normal_tbs}
 
 -- the version, the serial number and the algorithm
@@ -43,6 +44,7 @@ IsRead x e = (xs : List ExtensionParts) → AreExtensions xs e → SpellsTbs (no
 abbrev pub IsKeyedRefusal : Type 0 → IssueError → Type 0
 IsKeyedRefusal short Uri = ⊥
 IsKeyedRefusal short Period = ⊥
+IsKeyedRefusal short Doubled = ⊥
 IsKeyedRefusal short Resources = ⊥
 IsKeyedRefusal short TooLong = short → ⊥
 IsKeyedRefusal short (Rule r) = ⊥

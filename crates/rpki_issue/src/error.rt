@@ -14,6 +14,8 @@ pub enum IssueError {
     Uri,
     /// The next list is to be issued before this one is (RFC 5280 5.1.2.5).
     Period,
+    /// Two entries of the list have the same serial number (RFC 5280 5.1.2.6).
+    Doubled,
     /// No extension says these resources: there are none of a kind, a kind without a block, or a number that is none of
     /// the kind (RFC 3779 2.2.3, 3.2.3).
     Resources,
@@ -42,6 +44,7 @@ impl fmt::Display for IssueError {
         match self {
             IssueError::Uri => f.write_str("URI of 3,080 octets or more"),
             IssueError::Period => f.write_str("period that ends before it begins"),
+            IssueError::Doubled => f.write_str("serial number listed twice"),
             IssueError::Resources => f.write_str("resources that no extension says"),
             IssueError::TooLong => f.write_str("more octets than a length announces"),
             IssueError::Rule(_) => f.write_str("rule of the profile broken"),

@@ -8,6 +8,7 @@
 mod capture;
 mod contents;
 mod crl_written;
+mod doubled;
 mod error;
 mod frame;
 mod kind;

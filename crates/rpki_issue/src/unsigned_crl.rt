@@ -6,6 +6,7 @@ ghost use Rattle.rpki_issue.specs.Signing.{IsSigningRefusal};
 ghost use Rattle.rpki_issue.specs.SignedList.{IsListOrdered, IsListToSign, IsListPlanRefused, IsIssuedList};
 
 use crate::crl_written::write_list;
+use crate::doubled::are_once;
 use crate::error::IssueError;
 use crate::signing::sign;
 use bytes::Bytes;
@@ -46,14 +47,18 @@ impl UnsignedCrl {
     /// What is to be signed of the list: the first of two steps. It is read as the list, with parameters of the
     /// algorithm and without parts of a second.
     ///
-    /// The errors are `Period` if the next list is to be issued before this one, `TooLong` for 2^32 octets or more, and
-    /// `OutOfMemory` if allocation fails.
+    /// The errors are `Period` if the next list is to be issued before this one, `Doubled` if two entries have the same
+    /// serial number, which n log n steps find for n entries, `TooLong` for 2^32 octets or more, and `OutOfMemory` if
+    /// allocation fails.
     pub fn new(alloc: Global, list: TbsCertList) -> Result<UnsignedCrl, IssueError>
         ensures ok { IfOk result (λ u. IsListToSign (list_of list) u) }
         ensures err { IfErr result (λ e. IsListPlanRefused (list_of list) e) }
     {
         if !is_ordered(&list) {
             return Err(IssueError::Period);
+        }
+        if !are_once(alloc, &list.revoked_certs)? {
+            return Err(IssueError::Doubled);
         }
         match write_list(alloc, &list) {
             Ok(octets) => Ok(UnsignedCrl { octets, list }),
