@@ -5,13 +5,20 @@ use crate::words::{
     Text, bytes_of, digits, held_of, https_of, key_of, name_of, period_of, rsync_of, serial_of,
     wanted,
 };
+use rpki::crypto::PublicKey;
 use rpki_digests::{Digests, RsaProvider};
-use rpki_issue::{CertExtensions, CertKind, Issuance, Repository, TbsCertBuilder};
+use rpki_issue::{CertExtensions, CertKind, Issuance, Repository, TbsCertBuilder, UnsignedCert};
 use std::alloc::Global;
 
-/// `KIND SERIAL FROM TO SUBJECT ISSUER LIST CERTIFICATE BASE MANIFEST NOTIFICATION PRACTICES V4 V6 AS SIGNATURE`: what
-/// is to be signed where the signature is `_`, and else the certificate.
-pub fn certificate(alloc: Global, kind: &str, words: &[&str]) -> Text {
+/// What is to be signed of a certificate, and the issuer's key.
+#[derive(Drop)]
+pub struct Planned {
+    pub unsigned: UnsignedCert,
+    pub issuer: PublicKey,
+}
+
+/// `SERIAL FROM TO SUBJECT ISSUER LIST CERTIFICATE BASE MANIFEST NOTIFICATION PRACTICES V4 V6 AS`, of this kind.
+pub fn plan_of(alloc: Global, kind: &str, words: &[&str]) -> Result<Planned, &'static str> {
     let [
         serial,
         from,
@@ -27,7 +34,6 @@ pub fn certificate(alloc: Global, kind: &str, words: &[&str]) -> Text {
         v4,
         v6,
         asn,
-        signature,
     ] = words
     else {
         return Err("usage");
@@ -103,10 +109,19 @@ pub fn certificate(alloc: Global, kind: &str, words: &[&str]) -> Text {
         ip: held.ip.as_ref(),
         asn: held.asn.as_ref(),
     };
-    let unsigned = match builder.to_sign(alloc, &extensions) {
-        Ok(unsigned) => unsigned,
-        Err(e) => return Err(refusal(e)),
+    match builder.to_sign(alloc, &extensions) {
+        Ok(unsigned) => Ok(Planned { unsigned, issuer }),
+        Err(e) => Err(refusal(e)),
+    }
+}
+
+/// `KIND SERIAL FROM TO SUBJECT ISSUER LIST CERTIFICATE BASE MANIFEST NOTIFICATION PRACTICES V4 V6 AS SIGNATURE`: what
+/// is to be signed where the signature is `_`, and else the certificate.
+pub fn certificate(alloc: Global, kind: &str, words: &[&str]) -> Text {
+    let [plan @ .., signature] = words else {
+        return Err("usage");
     };
+    let Planned { unsigned, issuer } = plan_of(alloc, kind, plan)?;
     if *signature == "_" {
         return digits(alloc, unsigned.message());
     }

@@ -3,11 +3,13 @@
 #![tactic(auto)]
 
 mod cert;
+mod checked;
 mod object;
 mod signing;
 mod words;
 
 use crate::cert::certificate;
+use crate::checked::{checked, issued, top};
 use crate::object::{aspa, list, manifest, object, roa};
 use crate::words::Text;
 use std::alloc::Global;
@@ -32,6 +34,9 @@ fn answer(alloc: Global, row: &str) -> Text {
         "roa" => roa(alloc, words),
         "aspa" => aspa(alloc, words),
         "object" => object(alloc, words),
+        "checked" => checked(alloc, words),
+        "issued" => issued(alloc, words),
+        "top" => top(alloc, words),
         _ => Err("usage"),
     }
 }

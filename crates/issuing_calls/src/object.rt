@@ -5,7 +5,7 @@ use crate::words::{
     Text, bytes_of, digits, key_of, name_of, octets_of, serial_of, time_of, written,
 };
 use bytes::Bytes;
-use rpki::crypto::RpkiSignatureAlgorithm;
+use rpki::crypto::{PublicKey, RpkiSignatureAlgorithm};
 use rpki::der::{Constructed, Oid};
 use rpki::oid;
 use rpki_contents::{
@@ -19,14 +19,17 @@ use rpki_resources::{Address, Prefix};
 use std::alloc::Global;
 use std::net::IpAddr;
 
-/// `crl ISSUER NUMBER THIS NEXT SIGNATURE SERIAL@DATE..`: what is to be signed where the signature is `_`, and else the
-/// list.
-pub fn list(alloc: Global, words: &[&str]) -> Text {
-    let [issuer, number, this, next, signature, revoked @ ..] = words else {
+/// What is to be signed of a list: `NUMBER THIS NEXT`, and the entries, `SERIAL@DATE..`.
+pub fn planned_list(
+    alloc: Global,
+    issuer: &PublicKey,
+    words: &[&str],
+    revoked: &[&str],
+) -> Result<UnsignedCrl, &'static str> {
+    let [number, this, next] = words else {
         return Err("usage");
     };
-    let issuer = key_of(alloc, Some(issuer))?;
-    let name = name_of(alloc, &issuer)?;
+    let name = name_of(alloc, issuer)?;
     let mut entries = Vec::new(alloc);
     for entry in revoked {
         let mut parts = entry.split('@');
@@ -74,10 +77,20 @@ pub fn list(alloc: Global, words: &[&str]) -> Text {
             crl_number,
         },
     };
-    let unsigned = match UnsignedCrl::new(alloc, list) {
-        Ok(unsigned) => unsigned,
-        Err(e) => return Err(refusal(e)),
+    match UnsignedCrl::new(alloc, list) {
+        Ok(unsigned) => Ok(unsigned),
+        Err(e) => Err(refusal(e)),
+    }
+}
+
+/// `crl ISSUER NUMBER THIS NEXT SIGNATURE SERIAL@DATE..`: what is to be signed where the signature is `_`, and else the
+/// list.
+pub fn list(alloc: Global, words: &[&str]) -> Text {
+    let [issuer, number, this, next, signature, revoked @ ..] = words else {
+        return Err("usage");
     };
+    let issuer = key_of(alloc, Some(issuer))?;
+    let unsigned = planned_list(alloc, &issuer, &[number, this, next], revoked)?;
     if *signature == "_" {
         return digits(alloc, unsigned.message());
     }
@@ -234,7 +247,7 @@ pub fn aspa(alloc: Global, words: &[&str]) -> Text {
     }
 }
 
-fn type_of(text: &str) -> Result<&'static [u8], &'static str> {
+pub fn type_of(text: &str) -> Result<&'static [u8], &'static str> {
     match text {
         "mft" => Ok(oid::CT_RPKI_MANIFEST.0),
         "roa" => Ok(oid::ROUTE_ORIGIN_AUTHZ.0),

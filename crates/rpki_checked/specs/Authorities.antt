@@ -1,0 +1,85 @@
+-- Authorities, trust anchors and revocation lists that are handed out (RFC 5280 6.3.3, RFC 6487 7.2, RFC 8630 2).
+use Rattle.std.specs.Prelude.{◌≡◌, ◌+◌, ◌↔◌, ℕ, List, Some}
+use Rattle.jiff.specs.Types.{DateTime}
+use Rattle.rpki_der.specs.Prelude.{IsWholeFault}
+use Rattle.rpki_time.specs.Validity.{HoldsAt}
+use Rattle.rpki.specs.declared.repository.error.ValidationError.{ValidationError}
+use Rattle.rpki.specs.Provider.{Check}
+use Rattle.rpki.specs.PublicKey.{KeyParts}
+use Rattle.rpki_cert.specs.Cert.{SpellsCert}
+use Rattle.rpki_cert.specs.CertFault.{IsCertFault}
+use Rattle.rpki_cert.specs.declared.profile.Profile.TheVariants.{Ca}
+use Rattle.rpki_crl.specs.Crl.{crl}
+use Rattle.rpki_issue.specs.Signing.{ToSign, IsIssuedCert, IsSigningRefusal}
+use Rattle.rpki_issue.specs.SignedList.{ListToSign, IsIssuedList}
+use Rattle.rpki_valid.specs.declared.staleness.Staleness.TheVariants.{Refused}
+use Rattle.rpki_valid.specs.CrlIssued.{InForce, HasListedPath, CountsAt, IsRefusedList}
+use Rattle.rpki_valid.specs.ResourceSet.{AreWithin}
+use Rattle.rpki_valid.specs.Revocation.{least_asked}
+use Rattle.rpki_valid.specs.Verified.{Authority, Verified, Terms, Checkers, verified_by, IsVerifiedBy, IsRootWith}
+use Rattle.rpki_valid.specs.Verified.{IsRefusedAuthority, IsRefusedRoot}
+use Rattle.rpki_checked.specs.declared.error.CheckError.{CheckError}
+use Rattle.rpki_checked.specs.Checked.{IsUnfound, IsCheckRefusal}
+
+-- ---- what is below an authority
+
+-- The authority is verified by the list at its moment, and has a path up to the trust anchor, within the resources of
+-- the one above; it is verified as long as the list counts and its own period lasts, on the terms of the path.
+pub record IsAuthorityBelow {X : Type 0} (rsa ecdsa : X → Check) (sha1 : X → List ℕ → List ℕ) (c : InForce X)
+    (v : Authority X) : Type 0 where
+  pub verified : IsVerifiedBy Ca (Some c.list) (verified_by rsa ecdsa sha1 c.issuer) c.at v.cert v.resources
+  pub path : HasListedPath rsa ecdsa sha1 Ca c v.cert v.resources
+  pub within : AreWithin v.resources c.issuer.resources
+  pub period : (m : DateTime) → HoldsAt v.period m ↔ (CountsAt c m × HoldsAt v.cert.tbs.validity m)
+  pub terms : v.terms ≡ c.issuer.terms
+  pub depth : v.depth ≡ c.issuer.depth + 1
+  pub asked : v.asked ≡ least_asked c.issuer.asked (Some c.staleness)
+  pub provider : v.provider ≡ c.issuer.provider
+
+-- the octets couldn't be read, or are a certificate of no such authority, with the error of that
+abbrev pub IsNoAuthority : {X : Type 0} → (X → Check) → (X → Check) → (X → List ℕ → List ℕ) → InForce X → List ℕ
+    → ValidationError → Type 0
+IsNoAuthority rsa ecdsa sha1 c =
+    IsUnfound SpellsCert (IsWholeFault SpellsCert IsCertFault)
+    (IsRefusedAuthority (Some c.list) (verified_by rsa ecdsa sha1 c.issuer) c.at)
+
+-- the second step refuses it; or what it makes is none that is asked for
+abbrev pub IsCertRefusal : Check → Check → KeyParts → ToSign → List ℕ → (List ℕ → ValidationError → Type 0)
+    → CheckError → Type 0
+IsCertRefusal rsa ecdsa key made value =
+    IsCheckRefusal (IsSigningRefusal rsa ecdsa key made.octets value) (IsIssuedCert rsa ecdsa key made value)
+
+abbrev pub IsAuthorityRefusal : {X : Type 0} → (X → Check) → (X → Check) → (X → List ℕ → List ℕ) → InForce X → ToSign
+    → List ℕ → CheckError → Type 0
+IsAuthorityRefusal rsa ecdsa sha1 c made value =
+    IsCertRefusal (rsa c.issuer.provider) (ecdsa c.issuer.provider) c.issuer.cert.tbs.key made value
+    (IsNoAuthority rsa ecdsa sha1 c)
+
+-- ---- what nothing is above
+
+-- a trust anchor of these terms at the moment
+pub record IsAnchorOf {X : Type 0} (terms : Terms) (by : Checkers) (at : DateTime) (v : Authority X) : Type 0 where
+  pub root : IsRootWith terms by at v.cert v.resources
+  pub period : v.period ≡ v.cert.tbs.validity
+  pub given : v.terms ≡ terms
+  pub depth : v.depth ≡ 0
+  pub asked : v.asked ≡ Some Refused
+
+abbrev pub IsNoAnchorOf : Terms → Checkers → DateTime → List ℕ → ValidationError → Type 0
+IsNoAnchorOf terms by at =
+    IsUnfound SpellsCert (IsWholeFault SpellsCert IsCertFault) (IsRefusedRoot terms by at)
+
+abbrev pub IsAnchorRefusal : Terms → Checkers → DateTime → ToSign → List ℕ → CheckError → Type 0
+IsAnchorRefusal terms by at made value =
+    IsCertRefusal by.rsa by.ecdsa terms.key made value (IsNoAnchorOf terms by at)
+
+-- ---- lists
+
+-- the octets couldn't be read, or are a list that doesn't count at the moment, with the error of that
+abbrev pub IsNoList : Verified → DateTime → List ℕ → ValidationError → Type 0
+IsNoList issuer at = IsUnfound crl.spells (IsWholeFault crl.spells crl.fault) (IsRefusedList Refused issuer at)
+
+abbrev pub IsListRefusal : Verified → DateTime → ListToSign → List ℕ → CheckError → Type 0
+IsListRefusal issuer at made value =
+    IsCheckRefusal (IsSigningRefusal issuer.by.rsa issuer.by.ecdsa issuer.cert.tbs.key made.octets value)
+    (IsIssuedList issuer.by.rsa issuer.by.ecdsa issuer.cert.tbs.key made value) (IsNoList issuer at)

@@ -1,0 +1,28 @@
+//! What is asked of each signed object by its certificate alone (RFC 6487 4, RFC 6488 3).
+
+ghost use Rattle.rpki_valid.specs.Verified.{checkers_by};
+ghost use Rattle.rpki_checked.specs.Objects.{ChecksAlone};
+
+use rpki::crypto::Provider;
+use rpki::repository::error::ValidationError;
+use rpki_objects::SignedObject;
+use rpki_valid::verify_object_signature;
+
+/// Tests that the certificate has the profile of an end entity, names checked too, and that its key has signed the
+/// content.
+pub(crate) fn verify_alone<P: Provider>(
+    object: &SignedObject,
+    provider: &P,
+) -> Result<(), ValidationError>
+    ensures { ChecksAlone (checkers_by P.rsa_of P.ecdsa_of P.sha1_of provider.now) (P.sha256_of provider.now) object.now
+        result }
+{
+    match object.cert().tbs().inspect_ee(true) {
+        Ok(()) => {}
+        Err(e) => return Err(e),
+    }
+    match verify_object_signature(object, provider) {
+        Ok(()) => Ok(()),
+        Err(e) => Err(e),
+    }
+}
