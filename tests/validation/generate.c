@@ -141,6 +141,9 @@ static struct buf prefix(uint32_t address, int length) {
 
 static uint64_t serials = 1000;
 
+/* whether certificates are of RFC 8360, whose resources are those that their issuer has of them */
+static int trimmed;
+
 /* a certificate; issuer NULL: of itself. kind: 0 authority, 1 end entity. ip: the blocks, or empty: all */
 static struct buf certificate(const struct key *subject, const char *cn, const struct key *issuer,
                               const char *issuer_cn, int is_authority, struct buf sia, const char *aia, const char *crl,
@@ -158,9 +161,11 @@ static struct buf certificate(const struct key *subject, const char *cn, const s
         exts = cat(2, exts, extension("2b06010505070101", 0, seq(access("2b06010505073002", aia))));
     }
     if (is_authority != 2) exts = cat(2, exts, extension("2b0601050507010b", 0, seq(sia)));
-    exts = cat(2, exts, extension("551d20", 1, hexed("300c300a06082b06010505070e02")));
-    if (ip.size) exts = cat(2, exts, extension("2b06010505070107", 1, ip));
-    if (as.size) exts = cat(2, exts, extension("2b06010505070108", 1, as));
+    exts =
+        cat(2, exts,
+            extension("551d20", 1, hexed(trimmed ? "300c300a06082b06010505070e03" : "300c300a06082b06010505070e02")));
+    if (ip.size) exts = cat(2, exts, extension(trimmed ? "2b0601050507011c" : "2b06010505070107", 1, ip));
+    if (as.size) exts = cat(2, exts, extension(trimmed ? "2b0601050507011d" : "2b06010505070108", 1, as));
     tbs = seq(cat(9, hexed("a003020102"), integer(serials++), sha256rsa(), name(issuer_cn), period(), name(cn),
                   copy(subject->spki), raw("", 0), tlv(0xa3, seq(exts))));
     out = sign(issuer->key, tbs);
@@ -277,7 +282,7 @@ static EVP_PKEY *crossed(EVP_PKEY *one, EVP_PKEY *other) {
 int main(int count, char **words) {
     int n, width, roas, prefixes;
     FILE *kept;
-    int crossings = getenv("CROSS") ? atoi(getenv("CROSS")) : 0;
+    int crossings = getenv("CROSS") ? atoi(getenv("CROSS")) : 0, again = getenv("AGAIN") ? atoi(getenv("AGAIN")) : 0;
     struct key pool[POOL], *keys;
     struct buf *entries, inherit, none = {NULL, 0};
     uint64_t number = getenv("NUMBER") ? (uint64_t)atoi(getenv("NUMBER")) : 7;
@@ -430,16 +435,55 @@ int main(int count, char **words) {
             listed = cat(2, listed, entry(file, x));
             free(x.at);
         }
+        /* the first authority certifies itself, so many times, each without another one of so many blocks */
+        for (int j = 0; i == 1 && j < again; j++) {
+            struct key same = keys[i];
+            struct buf blocks = prefix(0x0a000000u, 9), x;
+            for (int k = 0; k < again; k++) {
+                if (k != j) blocks = cat(2, blocks, prefix(0x0a800100u + ((uint32_t)k << 9), 24));
+            }
+            snprintf(file, sizeof file, "again%d.cer", j);
+            trimmed = 1;
+            x = certificate(&same, cn, &keys[i], cn, 1,
+                            cat(2, access("2b06010505073005", sia1),
+                                access("2b060105050730"
+                                       "0a",
+                                       sia2)),
+                            aia, crl, seq(seq(cat(2, hexed("04020001"), seq(blocks)))), none);
+            trimmed = 0;
+            keep(dir, file, x);
+            listed = cat(2, listed, entry(file, x));
+            free(x.at);
+        }
+        /* and the last one, with resources of its own choice */
+        if (i == 1 && getenv("STOLEN")) {
+            char vcn[32], v1[128], v2[128];
+            struct buf x;
+            snprintf(vcn, sizeof vcn, "ca%d", n - 1);
+            snprintf(gdir, sizeof gdir, "d%d", n - 1);
+            base_of(gbase, sizeof gbase, gdir);
+            snprintf(v1, sizeof v1, "%s/%s/", gbase, gdir);
+            snprintf(v2, sizeof v2, "%s/%s/m.mft", gbase, gdir);
+            x = certificate(&keys[n - 1], vcn, &keys[i], cn, 1,
+                            cat(2, access("2b06010505073005", v1),
+                                access("2b060105050730"
+                                       "0a",
+                                       v2)),
+                            aia, crl, seq(seq(cat(2, hexed("04020001"), seq(prefix(0x0bff0000u, 24))))), none);
+            keep(dir, "stolen.cer", x);
+            listed = cat(2, listed, entry("stolen.cer", x));
+            free(x.at);
+        }
         listed = cat(3, listed, entries[i].at ? entries[i] : raw("", 0), raw("", 0));
         if (getenv("LISTOF")) list_until = i == atoi(getenv("LISTOF")) ? getenv("LISTUNTIL") : FOREVER;
         list_octets = list(&keys[i], cn, i ? 3 : 0);
         keep(dir, "l.crl", list_octets);
         listed = cat(2, listed, entry("l.crl", list_octets));
         if (getenv("TWOCRL")) {
-            struct buf again = list(&keys[i], cn, 0);
-            keep(dir, "k.crl", again);
-            listed = cat(2, listed, entry("k.crl", again));
-            free(again.at);
+            struct buf other = list(&keys[i], cn, 0);
+            keep(dir, "k.crl", other);
+            listed = cat(2, listed, entry("k.crl", other));
+            free(other.at);
         }
         if (getenv("UNKNOWN")) {
             struct buf text = raw("abc", 3);
@@ -468,10 +512,12 @@ int main(int count, char **words) {
         free(list_octets.at);
         {
             struct key *ee = &pool[i % POOL];
-            char een[32];
+            char een[32], stray[160];
             struct buf cert, content;
             snprintf(een, sizeof een, "m%d", i);
-            cert = certificate(ee, een, &keys[i], cn, 0, access("2b0601050507300b", sia2), aia, crl, copy(inherit),
+            snprintf(stray, sizeof stray, "%s/%s/gone.cer", base, dir);
+            cert = certificate(ee, een, &keys[i], cn, 0, access("2b0601050507300b", sia2),
+                               getenv("STRAY") && i == atoi(getenv("STRAY")) ? stray : aia, crl, copy(inherit),
                                hexed("3004a0020500"));
             content = seq(cat(5, integer(number), text(0x18, manifest_from), text(0x18, manifest_until),
                               hexed("0609608648016503040201"), seq(listed)));

@@ -2,9 +2,11 @@
 import contextlib
 import os
 import pty
+import shutil
 import subprocess
 
 from counting import holds
+from exceptions import TWICE_AS_LONG, instructions
 from repositories import AT, payloads
 
 
@@ -22,6 +24,36 @@ def circles(program, maker):
     for count in (16, 64):
         folder = maker.repository(count, count, 1, CROSS=str(count))
         program.holds(f"{count} authorities certify each other", folder, payloads(range(1, count + 1), 1), 0)
+
+
+def again(program, maker):
+    """An authority that certifies itself many times, each time without another block (RFC 8360), costs what its files
+    do: named by its manifest or not, its point is looked at once."""
+    for name, variant in ("", {}), (", whose manifest names another", {"STRAY": "1"}):
+        counts = []
+        for count in (12, 24):
+            folder = maker.repository(2, 2, 1, AGAIN=str(count), **variant)
+            program.holds(f"an authority certifies itself {count} times{name}", folder, payloads([1, 2], 1), 0)
+            faults = program.run(folder)[2]
+            holds(f"an authority certifies itself {count} times{name}: all are valid", "again" not in faults, faults)
+            if shutil.which("valgrind"):
+                counts.append(instructions(*program.words(folder)))
+        if counts:
+            holds(f"twice as many certificates of itself{name}", counts[1] <= TWICE_AS_LONG * counts[0], counts)
+
+
+def stolen(program, maker):
+    """An authority that certifies another's key, fewer steps down and without its resources, takes nothing of one whose
+    manifest names its certificate; of one whose manifest doesn't, it is the first that is met."""
+    for count in (2, 3):
+        folder = maker.repository(count, 1, 1, STOLEN="1")
+        program.holds(f"a key is certified by another, {count} steps down", folder, payloads(range(1, count + 1), 1), 0)
+        faults = program.run(folder)[2]
+        holds(f"a key is certified by another, {count} steps down: all is valid", "d1/stolen" not in faults, faults)
+    folder = maker.repository(3, 1, 1, STOLEN="1", STRAY="3")
+    program.holds("a key is certified by another, whose manifest names another", folder, payloads([1, 2], 1), 0)
+    folder = maker.repository(3, 1, 1, STRAY="2")
+    program.holds("a manifest names another certificate", folder, payloads(range(1, 4), 1), 0)
 
 
 def progress(program, maker):
