@@ -9,11 +9,13 @@ use rpki::crypto::{
     RpkiSignatureAlgorithm, SignatureAlgorithm,
 };
 use rpki::der::{
-    Captured, Constructed, Primitive, PrimitiveContent, Sequence, Set, Shared, Tag, Unsigned,
+    Captured, Constructed, Each, Primitive, PrimitiveContent, Sequence, Set, Shared, Tag, Unsigned,
     Wrapped,
 };
 use rpki::oid;
-use rpki::repository::x509::{Name, Serial, SignedData, Time, Validity, encode_extension};
+use rpki::repository::x509::{
+    CertExtension, Name, NameOctets, Serial, SignedData, Time, Validity, encode_extension,
+};
 use rpki::uri::{Https, Rsync};
 use rpki_digests::Digests;
 use std::alloc::Global;
@@ -53,6 +55,7 @@ fn tell_composed(
         "triple" => writers::tell(alloc, report, &(borrowed, ().encode(), borrowed)),
         "some" => writers::tell(alloc, report, &Some(borrowed)),
         "none" => writers::tell(alloc, report, &None::<Primitive<()>>),
+        "each" => writers::tell(alloc, report, &Each::new(&[borrowed, borrowed, borrowed])),
         _ => Err(Failure::Usage),
     }
 }
@@ -104,6 +107,14 @@ fn tell_read(alloc: Global, report: Report, encoder: &str, octets: Vec<u8>) -> R
         "name" => {
             let name = Name::take_from(keep, &mut cursor)?;
             writers::tell(alloc, report, &name.encode_ref())
+        }
+        "name_octets" => {
+            let name = NameOctets::take_from(keep, &mut cursor)?;
+            writers::tell(alloc, report, &name.encode_ref())
+        }
+        "extension_read" => {
+            let extension = CertExtension::take_from(keep, &mut cursor)?;
+            writers::tell(alloc, report, &extension.encode_ref())
         }
         "signed" => {
             let signed = SignedData::<RpkiSignatureAlgorithm>::take_from(keep, &mut cursor)?;
@@ -165,15 +176,25 @@ pub fn tell(alloc: Global, report: Report, encoder: &str, octets: Vec<u8>) -> Re
         "null" | "boolean" | "identifier" | "octets" | "uri" | "unsigned" => {
             tell_leaf(alloc, report, encoder, &octets)
         }
-        "captured" | "sequence" | "set" | "wrapped" | "pair" | "triple" | "some" | "none" => {
-            tell_composed(alloc, report, encoder, octets)
-        }
+        "captured"
+        | "sequence"
+        | "set"
+        | "wrapped"
+        | "pair"
+        | "triple"
+        | "some"
+        | "none"
+        | "each" => tell_composed(alloc, report, encoder, octets),
         "key" | "borrowed_key" | "subject" | "key_identifier" => {
             tell_key(alloc, report, encoder, octets)
         }
-        "bits" | "borrowed_bits" | "name" | "signed" | "extension" => {
-            tell_read(alloc, report, encoder, octets)
-        }
+        "bits"
+        | "borrowed_bits"
+        | "name"
+        | "name_octets"
+        | "signed"
+        | "extension"
+        | "extension_read" => tell_read(alloc, report, encoder, octets),
         "rsync_string" | "rsync_name" | "https_string" | "https_name" => {
             tell_uri(alloc, report, encoder, octets)
         }

@@ -2,7 +2,7 @@
 
 use rpki::der::{DecodeError, InvalidInteger};
 use rpki::uri;
-use rpki::util::base_64::{Base64Error, XmlDecodeError};
+use rpki::util::base64::{Base64Error, XmlDecodeError};
 use std::alloc::{AllocError, AllocFailed};
 use std::io;
 

@@ -4,7 +4,7 @@ use crate::made::{Made, Outcome};
 use crate::refusal::{Failure, Refusal};
 use crate::report::Report;
 use rpki::uri::Scheme;
-use rpki::util::base_64::{Serde, Slurm, Xml};
+use rpki::util::base64::{Serde, Slurm, Xml};
 use std::alloc::Global;
 
 /// Makes one call that encodes the octets, or decodes them as they are.

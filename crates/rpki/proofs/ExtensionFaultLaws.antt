@@ -1,14 +1,13 @@
 -- The errors of extensions, from what the readers of their parts return.
 use Rattle.std.proofs.Common.{◌≡◌, ◌⊎◌, ℕ, true, false, Option, Some, None, Ok, List, inl, inr, refl, subst}
 use Rattle.rpki_der.specs.declared.error.DecodeError.{DecodeError}
-use Rattle.rpki_der.specs.declared.error.DecodeError.TheVariants.{Truncated, BadTag, BadLength, Unexpected, Content}
 use Rattle.rpki_der.specs.declared.error.DecodeError.TheVariants.{Trailing, OutOfMemory}
 use Rattle.rpki_der.specs.Prelude.{oid, boolean, octet_string, sequence, Accepts, Refusal, ReadsWhere}
 use Rattle.rpki_der.specs.Prelude.{SpellsNothing}
 use Rattle.rpki_der.specs.Prelude.{UnlessMemory, Finds, SpellsContents, SpellsLeaf, HasTag}
 use Rattle.rpki_der.specs.Prelude.{IsContentsFault, IsLeafFault, IsOuterFault, IsOidOf, IsBoolean}
 use Rattle.rpki_der.specs.Prelude.{OptionalFault, IsEndFault, AtPart, Later, SpellsValue}
-use Rattle.rpki_der.proofs.ReadingLaws.{Refusal-or-memory-where}
+use Rattle.rpki_der.proofs.ReadingLaws.{Refusal-or-memory-where, only-memory}
 use Rattle.rpki_der.proofs.LeavesLaws.{leaf-no-memory, contents-no-memory}
 use Rattle.rpki_der.proofs.ComposedLaws.{outer-refused, inner-refused}
 use Rattle.rpki_der.proofs.FirstFaultLaws.{first-no-memory, optional-no-memory, end-no-memory}
@@ -86,15 +85,6 @@ pub behind-parts : (s r : List ℕ) (e : DecodeError) → Refusal SpellsExtensio
     → (e ≡ OutOfMemory) ⊎ (e ≡ Trailing) → Refusal SpellsExtension captured_extension.fault s s e
 behind-parts s r e h (inl z) = rw z (record { unchanged = refl; refuses = tt; kind = inr h.kind })
 behind-parts s r e h (inr z) = rw z (record { unchanged = refl; refuses = h.refuses; kind = h.kind })
-
-only-memory : (e : DecodeError) {P : Type 0} → UnlessMemory e P → (P → ⊥) → e ≡ OutOfMemory
-only-memory Truncated h n = absurd (n h)
-only-memory BadTag h n = absurd (n h)
-only-memory BadLength h n = absurd (n h)
-only-memory Unexpected h n = absurd (n h)
-only-memory (Content x) h n = absurd (n h)
-only-memory Trailing h n = absurd (n h)
-only-memory OutOfMemory h n = refl
 
 -- it is there, and isn't captured
 pub unkept : {s q r : List ℕ} {x : ExtensionParts} (K : List ℕ → DecodeError → Type 0) (e : DecodeError)

@@ -1,10 +1,10 @@
 -- Where the parts of an extension are.
-use Rattle.std.proofs.Common.{◌≡◌, ℕ, ◌-◌, ◌+◌, ◌≤◌, true, false, List, [], ◌++◌, length, take, drop, refl, sym}
+use Rattle.std.proofs.Common.{◌≡◌, ℕ, ◌-◌, ◌+◌, true, false, List, [], ◌++◌, length, take, drop, refl, sym}
 use Rattle.std.proofs.Common.{ap, subst, ◌∙◌, arith, append_assoc, append-nil, length-append}
 use Rattle.std.proofs.lemmas.List.{drop_at, take_all, length-drop}
 use Rattle.rpki_der.specs.Prelude.{oid, octet_string, sequence, Spells, SpellsContents}
 use Rattle.rpki_der.specs.Standing.{StandsBefore}
-use Rattle.rpki_der.proofs.KeepLaws.{contents-stand, inner-stands, no-longer}
+use Rattle.rpki_der.proofs.KeepLaws.{contents-stand, inner-stands}
 use Rattle.rpki.specs.ExtensionValue.{ExtensionParts, SpellsExtension}
 use Rattle.rpki.specs.ExtensionPlace.{IsBehindIdentifier}
 
@@ -31,9 +31,6 @@ module _ (s c r i m : List ℕ) (a : Spells (SpellsContents sequence true) s c r
     (h : Spells (SpellsContents oid false) c i m) where
   others-stand : StandsBefore s m r
   others-stand = contents-stand sequence true s c r h.front m a h.parts
-
-  pub others-fit : length m + length r ≤ length s
-  others-fit = no-longer s m r others-stand
 
   pub behind-identifier : (n : ℕ) → n ≡ length s - (length m + length r)
       → IsBehindIdentifier s r i (take (length s - n) (drop n s))

@@ -13,10 +13,9 @@ use Rattle.std.proofs.lemmas.Grind.{get_or-set_at}
 use Rattle.std.proofs.Math.ListN.{set}
 use Rattle.std.proofs.lemmas.Grind.{flat_map-append}
 use Rattle.rpki_der.specs.declared.error.DecodeError.{DecodeError}
-use Rattle.rpki_der.specs.declared.error.DecodeError.TheVariants.{Truncated, BadTag, BadLength, Unexpected, Content}
-use Rattle.rpki_der.specs.declared.error.DecodeError.TheVariants.{Trailing, OutOfMemory}
-use Rattle.rpki_der.specs.Prelude.{TagName, sequence, Spells, Accepts, Refuses, Refusal, UnlessMemory, SpellsContents}
+use Rattle.rpki_der.specs.Prelude.{TagName, sequence, Spells, Accepts, Refuses, Refusal, SpellsContents}
 use Rattle.rpki_der.specs.Prelude.{SpellsLeaf, IsContentsFault, IsLeafFault, IsOuterFault}
+use Rattle.rpki_der.proofs.ReadingLaws.{unless-memory}
 use Rattle.rpki_der.proofs.LeavesLaws.{leaf-value, leaf-no-memory, contents-no-memory}
 use Rattle.rpki_der.proofs.ComposedLaws.{all-read, nothing-whole, spelled-whole}
 use Rattle.rpki.specs.Oids.{common_name}
@@ -31,17 +30,6 @@ use Rattle.rpki.specs.declared.repository.x509.name.rule.NameRule.TheVariants.{M
 use Rattle.rpki.specs.declared.repository.x509.name.rule.NameRule.TheVariants.{OtherAttribute}
 use Rattle.rpki.proofs.NameLaws.{attribute-identified}
 
--- ---- errors of readers that allocate nothing
-
-pub surely : (e : DecodeError) {P : Type 0} → e ≢ OutOfMemory → UnlessMemory e P → P
-surely Truncated ne h = h
-surely BadTag ne h = h
-surely BadLength ne h = h
-surely Unexpected ne h = h
-surely (Content x) ne h = h
-surely Trailing ne h = h
-surely OutOfMemory ne h = absurd (ne refl)
-
 -- whether the whole is in the grammar, from what a reader of a beginning returned
 pub whole-read : {V : Type 0} (G : V → List ℕ → Type 0) (s r : List ℕ) (v : V) (b : Bool) → Accepts G s v r
     → IsTrue b ↔ (r ≡ []) → IsTrue b ↔ ((w : V) × G w s)
@@ -51,7 +39,7 @@ whole-read {V} G s r v b a h =
 pub whole-unread : {V : Type 0} (t : TagName) (f : Bool) (C : V → List ℕ → Type 0) (s r : List ℕ) (e : DecodeError)
     → Refusal (SpellsLeaf t f C) (IsLeafFault t f C) s r e → IsTrue false ↔ ((w : V) × SpellsLeaf t f C w s)
 whole-unread {V} t f C s r e h =
-    let none : Refuses (SpellsLeaf t f C) s = surely e (leaf-no-memory t f C s e h.kind) h.refuses in
+    let none : Refuses (SpellsLeaf t f C) s = unless-memory e (leaf-no-memory t f C s e h.kind) h.refuses in
     (λ z. absurd (let w = z in cc), λ g. absurd (nothing-whole (SpellsLeaf t f C) s none g.0 g.1))
 
 -- ---- how many attributes have an identifier
@@ -320,7 +308,7 @@ through-all {V} G join T S x y c m nowhere t vs h before f =
 pub no-attribute : (m r : List ℕ) (e : DecodeError)
     → Refusal (SpellsLeaf sequence true IsIdentifierThen) (IsOuterFault sequence true) m r e
     → (v : Attribute) (q : List ℕ) → Spells SpellsAttribute m v q → ⊥
-no-attribute m r e h v q g = surely e h.kind.other h.refuses v q (attribute-identified m v q g)
+no-attribute m r e h v q g = unless-memory e h.kind.other h.refuses v q (attribute-identified m v q g)
 
 pub this-attribute : (m r : List ℕ) (a : Attribute) → Accepts (SpellsLeaf sequence true IsIdentifierThen) m a r
     → (v : Attribute) (q : List ℕ) → Spells SpellsAttribute m v q → (q ≡ r) × (v ≡ a)
@@ -333,7 +321,7 @@ pub no-contents : {V : Type 0} (t : TagName) (C : V → List ℕ → Type 0) (m 
     → Spells (SpellsLeaf t true C) m v q → ⊥
 no-contents t C m r e h v q g =
     let l = leaf-value t true C m v q g in
-    surely e (contents-no-memory t true m e h.kind) h.refuses l.0 q l.1
+    unless-memory e (contents-no-memory t true m e h.kind) h.refuses l.0 q l.1
 
 pub these-contents : {V : Type 0} (t : TagName) (C : V → List ℕ → Type 0) (m r c : List ℕ)
     → Accepts (SpellsContents t true) m c r → (v : V) (q : List ℕ) → Spells (SpellsLeaf t true C) m v q

@@ -1,23 +1,9 @@
 -- Where a reader of one value may return that allocation failed.
 use Rattle.std.proofs.Common.{ℕ, List, [], ◌++◌, refl, sym, ap, ◌∙◌}
 use Rattle.std.proofs.lemmas.List.{append-nil}
-use Rattle.rpki_der.specs.declared.error.DecodeError.{DecodeError}
-use Rattle.rpki_der.specs.declared.error.DecodeError.TheVariants.{Truncated, BadTag, BadLength, Unexpected, Content}
-use Rattle.rpki_der.specs.declared.error.DecodeError.TheVariants.{Trailing, OutOfMemory}
-use Rattle.rpki_der.specs.Prelude.{Accepts, IsValue, SpellsValue, HasEither, OrMemoryWhere}
+use Rattle.rpki_der.specs.Prelude.{Accepts, IsValue, SpellsValue, HasEither}
 use Rattle.rpki_der.proofs.WalkLaws.{capture-memory}
 use Rattle.rpki.proofs.SignedLaws.{value-first}
-
--- where allocation fails, said in other words
-pub or-memory-from : (P Q : List ℕ → Type 0) (K : List ℕ → DecodeError → Type 0) (s : List ℕ) (e : DecodeError)
-    → (P s → Q s) → OrMemoryWhere P K s e → OrMemoryWhere Q K s e
-or-memory-from P Q K s Truncated f h = h
-or-memory-from P Q K s BadTag f h = h
-or-memory-from P Q K s BadLength f h = h
-or-memory-from P Q K s Unexpected f h = h
-or-memory-from P Q K s (Content x) f h = h
-or-memory-from P Q K s Trailing f h = h
-or-memory-from P Q K s OutOfMemory f h = f h
 
 -- ---- one value is a value of some form
 

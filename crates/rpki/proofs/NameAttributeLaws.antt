@@ -2,8 +2,7 @@
 use Rattle.std.proofs.Common.{◌≡◌, ◌≢◌, ◌+◌, ◌<◌, ℕ, Bool, true, false, List, [], ◌∷◌, ◌++◌, length, refl, sym, ap}
 use Rattle.std.proofs.Common.{subst, ◌∙◌, arith, append-nil, length-append, Some, None}
 use Rattle.rpki_der.specs.declared.error.DecodeError.{DecodeError}
-use Rattle.rpki_der.specs.declared.error.DecodeError.TheVariants.{Truncated, BadTag, BadLength, Unexpected, Content}
-use Rattle.rpki_der.specs.declared.error.DecodeError.TheVariants.{Trailing, OutOfMemory}
+use Rattle.rpki_der.specs.declared.error.DecodeError.TheVariants.{OutOfMemory}
 use Rattle.rpki_der.specs.Prelude.{TagName, sequence, set, oid, Spells, Accepts, Refuses, Refusal, SpellsContents}
 use Rattle.rpki_der.specs.Prelude.{SpellsLeaf, IsContentsFault, IsLeafFault, IsOidOf, IsValue, Members, Empty, spell}
 use Rattle.rpki_der.specs.Prelude.{HaveHeaders, count, SpellsWanted, IsAnyTag, IsWantedFault}
@@ -38,13 +37,7 @@ value-contents p one = go one.members one.legal one.spelled one.counted
         (t, true, spell ms, record { tag = h.0.0; fits = h.0.1; octets = is ∙ alone rest _ e })
 
 wanted-no-memory : (s : List ℕ) (e : DecodeError) → IsWantedFault IsAnyTag s e → e ≡ OutOfMemory → ⊥
-wanted-no-memory s Truncated h z = cc
-wanted-no-memory s BadTag h z = cc
-wanted-no-memory s BadLength h z = cc
-wanted-no-memory s Unexpected h z = cc
-wanted-no-memory s (Content x) h z = h
-wanted-no-memory s Trailing h z = h
-wanted-no-memory s OutOfMemory h z = h
+wanted-no-memory s e h z = subst (IsWantedFault IsAnyTag s) z h
 
 wanted-whole : (p : List ℕ) (t : TagName) (f : Bool) (c : List ℕ) → SpellsContents t f c p
     → Spells (SpellsWanted IsAnyTag) p (t, f, c) []

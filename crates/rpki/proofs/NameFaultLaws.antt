@@ -6,7 +6,7 @@ use Rattle.rpki_der.specs.Prelude.{oid, sequence, set, Accepts, Refusal, Reads, 
 use Rattle.rpki_der.specs.Prelude.{SpellsKept, IsCapturedFault, RepeatedFault}
 use Rattle.rpki_der.specs.Prelude.{AfterMember, IsLeafFault, SpellsAnyValue, IsNestedFault, IsEndFault, only}
 use Rattle.rpki_der.proofs.LeavesLaws.{leaf-no-memory}
-use Rattle.rpki_der.proofs.ReadingLaws.{UnlessMemory-weaker}
+use Rattle.rpki_der.proofs.ReadingLaws.{UnlessMemory-weaker, or-memory-from}
 use Rattle.rpki_der.proofs.CaptureLaws.{reads-as}
 use Rattle.rpki_der.proofs.FirstFaultLaws.{first-no-memory, end-no-memory, repeated-no-memory, inside-no-memory}
 use Rattle.rpki_der.proofs.WalkLaws.{nested-no-memory}
@@ -14,7 +14,6 @@ use Rattle.rpki.specs.Name.{SpellsSome, SpellsRelative, IsName, SpellsNameOctets
 use Rattle.rpki.specs.NameValue.{HasNameValue}
 use Rattle.rpki.specs.NameFault.{attribute_parts, attribute, attributes, relative, relatives, IsWalkedNameFault}
 use Rattle.rpki.specs.NameFault.{IsNameFault, not_empty, any_value}
-use Rattle.rpki.proofs.MemoryLaws.{or-memory-from}
 use Rattle.rpki.proofs.NameLaws.{Passed, AnyName, leaf-any, octets-any, name-of, name-value, name-found}
 use Rattle.rpki.proofs.NameLaws.Passed.{Here, Next}
 

@@ -12,6 +12,7 @@ pub mod KeyIdentifier
 pub mod SubjectName
 pub mod ErrorTexts
 pub mod Provider
+pub mod Checkers
 pub mod Signature
 pub mod SignatureNames
 pub mod Digest

@@ -19,7 +19,7 @@ pub use Rattle.rpki.specs.Name.{SpellsSome}
 pub use Rattle.rpki.specs.NameFault.{IsNameFault, IsWalkedNameFault, name}
 pub use Rattle.rpki.specs.NameRule.{BreaksRouterRule, BreaksRpkiRule, router_text, rpki_text}
 pub use Rattle.rpki.specs.Oids.{ec_public_key, rsa_encryption, secp256r1, sha256_with_rsa_encryption}
-pub use Rattle.rpki.specs.Provider.{Check, Verifies}
+pub use Rattle.rpki.specs.Provider.{Check, Checkers, Verifies}
 pub use Rattle.rpki.specs.PublicKey.{IsKeyContents, IsRsaKey, KeyParts, SpellsKey, key_contents}
 pub use Rattle.rpki.specs.PublicKey.{key_octets, key_of}
 pub use Rattle.rpki.specs.Signature.{SignatureParts}

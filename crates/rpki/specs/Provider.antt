@@ -10,18 +10,23 @@ use Rattle.rpki.specs.Signature.{SignatureParts}
 abbrev pub Check : Type 1
 Check = List ℕ → List ℕ → List ℕ → Type 0
 
+-- what a provider checks and digests with
+pub record Checkers : Type 1 where
+  pub rsa : Check
+  pub ecdsa : Check
+  pub sha1 : List ℕ → List ℕ
+  pub sha256 : List ℕ → List ℕ
+
 -- the check of a format of keys
-abbrev pub check_of : Check → Check → PublicKeyFormat → Check
-check_of rsa ecdsa Rsa = rsa
-check_of rsa ecdsa EcdsaP256 = ecdsa
+abbrev pub check_of : Checkers → PublicKeyFormat → Check
+check_of by Rsa = by.rsa
+check_of by EcdsaP256 = by.ecdsa
 
 -- The key's format is the required one, and the signature verifies by that format's check.
-abbrev pub Verifies : Check → Check → PublicKeyFormat → PublicKeyFormat → List ℕ → List ℕ → List ℕ → Type 0
-Verifies rsa ecdsa asked format bits message value =
-    (format ≡ asked) × check_of rsa ecdsa format bits message value
+abbrev pub Verifies : Checkers → PublicKeyFormat → PublicKeyFormat → List ℕ → List ℕ → List ℕ → Type 0
+Verifies by asked format bits message value = (format ≡ asked) × check_of by format bits message value
 
 -- The signature of the message is by this key: its algorithm has keys of the key's format, and verifies.
-abbrev pub VerifiesBy : {A : Type 0} → Check → Check → (A → PublicKeyFormat) → KeyParts → List ℕ → SignatureParts A
-    → Type 0
-VerifiesBy rsa ecdsa format key message signature =
-    Verifies rsa ecdsa (format signature.algorithm) key.format key.bits.octets message signature.value
+abbrev pub VerifiesBy : {A : Type 0} → Checkers → (A → PublicKeyFormat) → KeyParts → List ℕ → SignatureParts A → Type 0
+VerifiesBy by format key message signature =
+    Verifies by (format signature.algorithm) key.format key.bits.octets message signature.value

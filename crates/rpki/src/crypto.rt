@@ -11,7 +11,7 @@ pub mod signature;
 pub use digest::{DigestAlgorithm, sha1_digest};
 pub use keys::{
     KeyIdentifier, KeyIdentifierSliceError, ParseKeyIdentifierError, PublicKey, PublicKeyCn,
-    PublicKeyFormat, PublicKeyFormatEncoder, PublicKeyView, RsaPublicKey,
+    PublicKeyEncoder, PublicKeyFormat, PublicKeyFormatEncoder, PublicKeyView, RsaPublicKey,
     SignatureVerificationError,
 };
 pub use signature::{
@@ -42,7 +42,7 @@ impl SigningAlgorithm {
 /// A provider of digests and of checks of signatures. The layer itself computes neither.
 ///
 /// Each answer is a function of the provider's value and the arguments: a check says yes exactly where a relation of
-/// these holds.
+/// these holds. A clause names all four functions by one word, `checkers_of P.Provider provider.now`.
 pub trait Provider {
     ghost use Rattle.rpki.specs.Provider.{Check};
 

@@ -2,14 +2,13 @@
 use Rattle.std.proofs.Common.{◌≡◌, ◌≢◌, ◌∙◌, ℕ, true, List, [], ◌++◌, refl, sym, ap, subst}
 use Rattle.std.proofs.Common.{◌⊎◌, inl, inr}
 use Rattle.rpki_der.specs.declared.error.DecodeError.{DecodeError}
-use Rattle.rpki_der.specs.declared.error.DecodeError.TheVariants.{Truncated, BadTag, BadLength, Unexpected, Content}
-use Rattle.rpki_der.specs.declared.error.DecodeError.TheVariants.{Trailing, OutOfMemory}
+use Rattle.rpki_der.specs.declared.error.DecodeError.TheVariants.{OutOfMemory}
 use Rattle.rpki_der.specs.TagName.{sequence}
 use Rattle.rpki_der.specs.Header.{tlv}
-use Rattle.rpki_der.specs.Reading.{Spells, Accepts, Refuses, Refusal, UnlessMemory, Finds}
+use Rattle.rpki_der.specs.Reading.{Spells, Accepts, Refuses, Refusal, Finds}
 use Rattle.rpki_der.specs.Standing.{StandsBefore}
 use Rattle.rpki_der.specs.Values.{SpellsContents, IsContentsFault}
-use Rattle.rpki_der.proofs.InsideLaws.{unless-memory}
+use Rattle.rpki_der.proofs.ReadingLaws.{unless-memory, unless-other, at-memory}
 use Rattle.rpki_der.proofs.LeavesLaws.{contents-no-memory}
 use Rattle.rpki_cert.specs.declared.read.cert_part.CertPart.{CertPart}
 use Rattle.rpki_cert.specs.declared.read.cert_error.CertError.{CertError}
@@ -21,15 +20,6 @@ use Rattle.rpki_cert.specs.Kept.{IsTbsAt, IsCertOf}
 use Rattle.rpki_x509.specs.Frame.{frame}
 use Rattle.rpki_cert.specs.View.{FirstWrong, HasOne, AreContentsOf, IsTbsIn}
 use Rattle.rpki_cert.specs.View.FirstWrong.{AtPart}
-
-unless-other : (e : DecodeError) {P : Type 0} → (e ≢ OutOfMemory → P) → UnlessMemory e P
-unless-other Truncated h = h (λ z. cc)
-unless-other BadTag h = h (λ z. cc)
-unless-other BadLength h = h (λ z. cc)
-unless-other Unexpected h = h (λ z. cc)
-unless-other (Content x) h = h (λ z. cc)
-unless-other Trailing h = h (λ z. cc)
-unless-other OutOfMemory h = tt
 
 -- ---- the SEQUENCE around all
 
@@ -75,7 +65,7 @@ module _ {V : Type 0} (G : V → List ℕ → Type 0) (F : List ℕ → CertErro
       → Refusal G Fault s s e
   unkept-front s r v e h out = record {
     unchanged = refl;
-    refuses = subst (λ (d : DecodeError). UnlessMemory d (Refuses G s)) (sym out) tt;
+    refuses = at-memory e (Refuses G s) out;
     kind = inr (out, (v, r, h));
   }
 

@@ -65,12 +65,6 @@ module _ {V : Type 0} (critical : Bool) (G : V → List ℕ → Type 0) (found :
       → IsFoundWrong critical G AnyFault found (Decoding e)
   given-wrong x e is none other = (no-value x is none, (x, is.0, is.1, record { other = other; kind = tt }))
 
-  -- it is not as critical as it has to be
-  pub other-critical : (x : ExtensionParts) × (found ≡ Some x) × (x.critical ≡ critical → ⊥) → SaysNone critical G found
-  other-critical (x, one, other) None h = none-of x (sym one ∙ h)
-  other-critical (x, one, other) (Some v) (y, two, same, k) =
-      other (ap (λ (z : ExtensionParts). z.critical) (one-of x y (sym one ∙ two)) ∙ same)
-
 -- ---- an error that isn't allocation failure, or is
 
 pub unless-from : (e : ValidationError) {P : Type 0} → P → UnlessNoMemory e P

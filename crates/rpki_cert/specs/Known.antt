@@ -3,11 +3,9 @@ use Rattle.std.specs.Prelude.{◌≡◌, ◌⊎◌, ℕ, Bool, true, false, not,
 use Rattle.std.specs.Prelude.{Result, MatchResult, bytes_eq, codes}
 use Rattle.rpki.specs.ExtensionValue.{ExtensionParts}
 use Rattle.rpki_der.specs.ErrorText.{text_of}
-use Rattle.rpki_der.specs.Reading.{UnlessMemory, TakesNoMemory}
+use Rattle.rpki_der.specs.Reading.{UnlessMemory, is_out, TakesNoMemory}
 use Rattle.rpki.specs.ErrorContent.{content_of}
 use Rattle.rpki_der.specs.declared.error.DecodeError.{DecodeError}
-use Rattle.rpki_der.specs.declared.error.DecodeError.TheVariants.{Truncated, BadTag, BadLength, Unexpected, Content}
-use Rattle.rpki_der.specs.declared.error.DecodeError.TheVariants.{Trailing, OutOfMemory}
 use Rattle.rpki.specs.declared.repository.error.InspectionError.{InspectionError}
 use Rattle.rpki.specs.declared.repository.error.ValidationError.{ValidationError}
 use Rattle.rpki.specs.declared.repository.error.ValidationError.TheVariants.{Decoding, Inspection, Verification}
@@ -96,15 +94,6 @@ UnlessNoMemory (Inspection e) P = P
 UnlessNoMemory (Verification e) P = P
 
 -- the error is an allocation failure
-abbrev pub is_out : DecodeError → Bool
-is_out Truncated = false
-is_out BadTag = false
-is_out BadLength = false
-is_out Unexpected = false
-is_out (Content e) = false
-is_out Trailing = false
-is_out OutOfMemory = true
-
 abbrev pub is_memory : ValidationError → Bool
 is_memory (Decoding e) = is_out e
 is_memory (Inspection e) = false

@@ -3,8 +3,9 @@ use Rattle.std.specs.Prelude.{◌≡◌, ◌+◌, ◌↔◌, ℕ, List, Some}
 use Rattle.jiff.specs.Types.{DateTime}
 use Rattle.rpki_der.specs.Prelude.{IsWholeFault}
 use Rattle.rpki_time.specs.Validity.{HoldsAt}
+use Rattle.rpki.specs.Provider.{Checkers}
+use Rattle.rpki.specs.Checkers.{Models, checkers_of}
 use Rattle.rpki.specs.declared.repository.error.ValidationError.{ValidationError}
-use Rattle.rpki.specs.Provider.{Check}
 use Rattle.rpki.specs.PublicKey.{KeyParts}
 use Rattle.rpki_cert.specs.Cert.{SpellsCert}
 use Rattle.rpki_cert.specs.CertFault.{IsCertFault}
@@ -16,7 +17,7 @@ use Rattle.rpki_valid.specs.declared.staleness.Staleness.TheVariants.{Refused}
 use Rattle.rpki_valid.specs.CrlIssued.{InForce, HasListedPath, CountsAt, IsRefusedList}
 use Rattle.rpki_valid.specs.ResourceSet.{AreWithin}
 use Rattle.rpki_valid.specs.Revocation.{least_asked}
-use Rattle.rpki_valid.specs.Verified.{Authority, Verified, Terms, Checkers, verified_by, IsVerifiedBy, IsRootWith}
+use Rattle.rpki_valid.specs.Verified.{Authority, Verified, Terms, verified_by, IsVerifiedBy, IsRootWith}
 use Rattle.rpki_valid.specs.Verified.{IsRefusedAuthority, IsRefusedRoot}
 use Rattle.rpki_checked.specs.declared.error.CheckError.{CheckError}
 use Rattle.rpki_checked.specs.Checked.{IsUnfound, IsCheckRefusal}
@@ -25,10 +26,10 @@ use Rattle.rpki_checked.specs.Checked.{IsUnfound, IsCheckRefusal}
 
 -- The authority is verified by the list at its moment, and has a path up to the trust anchor, within the resources of
 -- the one above; it is verified as long as the list counts and its own period lasts, on the terms of the path.
-pub record IsAuthorityBelow {X : Type 0} (rsa ecdsa : X → Check) (sha1 : X → List ℕ → List ℕ) (c : InForce X)
+pub record IsAuthorityBelow {X : Type 0} (models : Models X) (c : InForce X)
     (v : Authority X) : Type 0 where
-  pub verified : IsVerifiedBy Ca (Some c.list) (verified_by rsa ecdsa sha1 c.issuer) c.at v.cert v.resources
-  pub path : HasListedPath rsa ecdsa sha1 Ca c v.cert v.resources
+  pub verified : IsVerifiedBy Ca (Some c.list) (verified_by models c.issuer) c.at v.cert v.resources
+  pub path : HasListedPath models Ca c v.cert v.resources
   pub within : AreWithin v.resources c.issuer.resources
   pub period : (m : DateTime) → HoldsAt v.period m ↔ (CountsAt c m × HoldsAt v.cert.tbs.validity m)
   pub terms : v.terms ≡ c.issuer.terms
@@ -37,23 +38,21 @@ pub record IsAuthorityBelow {X : Type 0} (rsa ecdsa : X → Check) (sha1 : X →
   pub provider : v.provider ≡ c.issuer.provider
 
 -- the octets couldn't be read, or are a certificate of no such authority, with the error of that
-abbrev pub IsNoAuthority : {X : Type 0} → (X → Check) → (X → Check) → (X → List ℕ → List ℕ) → InForce X → List ℕ
-    → ValidationError → Type 0
-IsNoAuthority rsa ecdsa sha1 c =
+abbrev pub IsNoAuthority : {X : Type 0} → Models X → InForce X → List ℕ → ValidationError → Type 0
+IsNoAuthority models c =
     IsUnfound SpellsCert (IsWholeFault SpellsCert IsCertFault)
-    (IsRefusedAuthority (Some c.list) (verified_by rsa ecdsa sha1 c.issuer) c.at)
+    (IsRefusedAuthority (Some c.list) (verified_by models c.issuer) c.at)
 
 -- the second step refuses it; or what it makes is none that is asked for
-abbrev pub IsCertRefusal : Check → Check → KeyParts → ToSign → List ℕ → (List ℕ → ValidationError → Type 0)
-    → CheckError → Type 0
-IsCertRefusal rsa ecdsa key made value =
-    IsCheckRefusal (IsSigningRefusal rsa ecdsa key made.octets value) (IsIssuedCert rsa ecdsa key made value)
+abbrev pub IsCertRefusal : Checkers → KeyParts → ToSign → List ℕ → (List ℕ → ValidationError → Type 0) → CheckError
+    → Type 0
+IsCertRefusal by key made value =
+    IsCheckRefusal (IsSigningRefusal by key made.octets value) (IsIssuedCert by key made value)
 
-abbrev pub IsAuthorityRefusal : {X : Type 0} → (X → Check) → (X → Check) → (X → List ℕ → List ℕ) → InForce X → ToSign
-    → List ℕ → CheckError → Type 0
-IsAuthorityRefusal rsa ecdsa sha1 c made value =
-    IsCertRefusal (rsa c.issuer.provider) (ecdsa c.issuer.provider) c.issuer.cert.tbs.key made value
-    (IsNoAuthority rsa ecdsa sha1 c)
+abbrev pub IsAuthorityRefusal : {X : Type 0} → Models X → InForce X → ToSign → List ℕ → CheckError → Type 0
+IsAuthorityRefusal models c made value =
+    IsCertRefusal (checkers_of models c.issuer.provider) c.issuer.cert.tbs.key made value
+    (IsNoAuthority models c)
 
 -- ---- what nothing is above
 
@@ -70,8 +69,7 @@ IsNoAnchorOf terms by at =
     IsUnfound SpellsCert (IsWholeFault SpellsCert IsCertFault) (IsRefusedRoot terms by at)
 
 abbrev pub IsAnchorRefusal : Terms → Checkers → DateTime → ToSign → List ℕ → CheckError → Type 0
-IsAnchorRefusal terms by at made value =
-    IsCertRefusal by.rsa by.ecdsa terms.key made value (IsNoAnchorOf terms by at)
+IsAnchorRefusal terms by at made value = IsCertRefusal by terms.key made value (IsNoAnchorOf terms by at)
 
 -- ---- lists
 
@@ -81,5 +79,5 @@ IsNoList issuer at = IsUnfound crl.spells (IsWholeFault crl.spells crl.fault) (I
 
 abbrev pub IsListRefusal : Verified → DateTime → ListToSign → List ℕ → CheckError → Type 0
 IsListRefusal issuer at made value =
-    IsCheckRefusal (IsSigningRefusal issuer.by.rsa issuer.by.ecdsa issuer.cert.tbs.key made.octets value)
-    (IsIssuedList issuer.by.rsa issuer.by.ecdsa issuer.cert.tbs.key made value) (IsNoList issuer at)
+    IsCheckRefusal (IsSigningRefusal issuer.by issuer.cert.tbs.key made.octets value)
+    (IsIssuedList issuer.by issuer.cert.tbs.key made value) (IsNoList issuer at)

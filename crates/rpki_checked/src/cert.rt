@@ -1,9 +1,10 @@
 //! Certificates of authorities, and of trust anchors (RFC 6487 4, 7.2, RFC 8630 2).
 
 ghost use Rattle.std.specs.Prelude.{◌≡◌, IfOk, IfErr};
+ghost use Rattle.rpki.specs.Checkers.{checkers_of};
 ghost use Rattle.rpki_cert.specs.Cert.{SpellsCert};
 ghost use Rattle.rpki_issue.specs.Signing.{IsIssuedCert};
-ghost use Rattle.rpki_valid.specs.Verified.{checkers_by, terms_in};
+ghost use Rattle.rpki_valid.specs.Verified.{terms_in};
 ghost use Rattle.rpki_checked.specs.Checked.{AreOnly};
 ghost use Rattle.rpki_checked.specs.Authorities.{IsAuthorityBelow, IsNoAuthority, IsAuthorityRefusal};
 ghost use Rattle.rpki_checked.specs.Authorities.{IsAnchorOf, IsNoAnchorOf, IsAnchorRefusal};
@@ -26,8 +27,8 @@ fn verify<'p, P: PreparingProvider>(
     octets: &Captured,
 ) -> Result<ResourceCert<'p, P>, ValidationError>
     ensures one { IfOk result (λ v. AreOnly SpellsCert octets.now v.cert) }
-    ensures valid { IfOk result (λ v. IsAuthorityBelow P.rsa_of P.ecdsa_of P.sha1_of issuer.now v) }
-    ensures err { IfErr result (λ e. IsNoAuthority P.rsa_of P.ecdsa_of P.sha1_of issuer.now octets.now e) }
+    ensures valid { IfOk result (λ v. IsAuthorityBelow P.Provider issuer.now v) }
+    ensures err { IfErr result (λ e. IsNoAuthority P.Provider issuer.now octets.now e) }
 {
     let cert = match read_cert(alloc, octets) {
         Ok(cert) => cert,
@@ -51,13 +52,12 @@ pub fn issue_authority<'p, P: PreparingProvider>(
     unsigned: UnsignedCert,
     signature: Bytes,
 ) -> Result<(Captured, ResourceCert<'p, P>), CheckError>
-    ensures made { IfOk result (λ r. IsIssuedCert (P.rsa_of issuer.now.issuer.provider)
-        (P.ecdsa_of issuer.now.issuer.provider) issuer.now.issuer.cert.tbs.key unsigned signature r.0) }
+    ensures made { IfOk result (λ r. IsIssuedCert (checkers_of P.Provider issuer.now.issuer.provider)
+        issuer.now.issuer.cert.tbs.key unsigned signature r.0) }
     // The octets are the certificate of the authority.
     ensures one { IfOk result (λ r. AreOnly SpellsCert r.0 r.1.cert) }
-    ensures valid { IfOk result (λ r. IsAuthorityBelow P.rsa_of P.ecdsa_of P.sha1_of issuer.now r.1) }
-    ensures err { IfErr result (λ e. IsAuthorityRefusal P.rsa_of P.ecdsa_of P.sha1_of issuer.now unsigned signature
-        e) }
+    ensures valid { IfOk result (λ r. IsAuthorityBelow P.Provider issuer.now r.1) }
+    ensures err { IfErr result (λ e. IsAuthorityRefusal P.Provider issuer.now unsigned signature e) }
 {
     let authority = issuer.issuer();
     let key = authority.cert().tbs().subject_public_key_info();
@@ -80,11 +80,10 @@ fn verify_top<'p, P: PreparingProvider>(
     octets: &Captured,
 ) -> Result<ResourceCert<'p, P>, ValidationError>
     ensures one { IfOk result (λ v. AreOnly SpellsCert octets.now v.cert) }
-    ensures valid { IfOk result (λ v. IsAnchorOf (terms_in terms.entry)
-        (checkers_by P.rsa_of P.ecdsa_of P.sha1_of provider.now) at v) }
+    ensures valid { IfOk result (λ v. IsAnchorOf (terms_in terms.entry) (checkers_of P.Provider provider.now) at v) }
     ensures provider { IfOk result (λ v. v.provider ≡ provider.now) }
-    ensures err { IfErr result (λ e. IsNoAnchorOf (terms_in terms.entry)
-        (checkers_by P.rsa_of P.ecdsa_of P.sha1_of provider.now) at octets.now e) }
+    ensures err { IfErr result (λ e. IsNoAnchorOf (terms_in terms.entry) (checkers_of P.Provider provider.now) at
+        octets.now e) }
 {
     let cert = match read_cert(alloc, octets) {
         Ok(cert) => cert,
@@ -110,15 +109,14 @@ pub fn issue_anchor<'p, P: PreparingProvider>(
     unsigned: UnsignedCert,
     signature: Bytes,
 ) -> Result<(Captured, ResourceCert<'p, P>), CheckError>
-    ensures made { IfOk result (λ r. IsIssuedCert (P.rsa_of provider.now) (P.ecdsa_of provider.now) terms.entry.key.now
-        unsigned signature r.0) }
+    ensures made { IfOk result (λ r. IsIssuedCert (checkers_of P.Provider provider.now) terms.entry.key.now unsigned
+        signature r.0) }
     // The octets are the certificate of the authority.
     ensures one { IfOk result (λ r. AreOnly SpellsCert r.0 r.1.cert) }
-    ensures valid { IfOk result (λ r. IsAnchorOf (terms_in terms.entry)
-        (checkers_by P.rsa_of P.ecdsa_of P.sha1_of provider.now) at r.1) }
+    ensures valid { IfOk result (λ r. IsAnchorOf (terms_in terms.entry) (checkers_of P.Provider provider.now) at r.1) }
     ensures provider { IfOk result (λ r. r.1.provider ≡ provider.now) }
-    ensures err { IfErr result (λ e. IsAnchorRefusal (terms_in terms.entry)
-        (checkers_by P.rsa_of P.ecdsa_of P.sha1_of provider.now) at unsigned signature e) }
+    ensures err { IfErr result (λ e. IsAnchorRefusal (terms_in terms.entry) (checkers_of P.Provider provider.now) at
+        unsigned signature e) }
 {
     let made = match unsigned.signed(alloc, provider, terms.key, signature) {
         Ok(made) => made,

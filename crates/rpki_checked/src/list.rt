@@ -1,6 +1,7 @@
 //! Revocation lists (RFC 5280 6.3.3, RFC 6487 5).
 
 ghost use Rattle.std.specs.Prelude.{IfOk, IfErr};
+ghost use Rattle.rpki.specs.Checkers.{checkers_of};
 ghost use Rattle.rpki_crl.specs.Crl.{crl};
 ghost use Rattle.rpki_issue.specs.SignedList.{IsIssuedList};
 ghost use Rattle.rpki_valid.specs.declared.staleness.Staleness.TheVariants.{Refused};
@@ -29,10 +30,8 @@ fn verify<P: PreparingProvider>(
     octets: &Captured,
 ) -> Result<Crl, ValidationError>
     ensures one { IfOk result (λ v. AreOnly crl.spells octets.now v) }
-    ensures valid { IfOk result (λ v. IsIssuedBy Refused (verified_by P.rsa_of P.ecdsa_of P.sha1_of authority.now) at
-        v) }
-    ensures err { IfErr result (λ e. IsNoList (verified_by P.rsa_of P.ecdsa_of P.sha1_of authority.now) at octets.now
-        e) }
+    ensures valid { IfOk result (λ v. IsIssuedBy Refused (verified_by P.Provider authority.now) at v) }
+    ensures err { IfErr result (λ e. IsNoList (verified_by P.Provider authority.now) at octets.now e) }
 {
     let list = match read_list(alloc, octets) {
         Ok(list) => list,
@@ -57,14 +56,12 @@ pub fn issue_list<P: PreparingProvider>(
     unsigned: UnsignedCrl,
     signature: Bytes,
 ) -> Result<(Captured, Crl), CheckError>
-    ensures made { IfOk result (λ r. IsIssuedList (P.rsa_of authority.now.provider) (P.ecdsa_of authority.now.provider)
+    ensures made { IfOk result (λ r. IsIssuedList (checkers_of P.Provider authority.now.provider)
         authority.now.cert.tbs.key unsigned signature r.0) }
     // The octets are the list.
     ensures one { IfOk result (λ r. AreOnly crl.spells r.0 r.1) }
-    ensures valid { IfOk result (λ r. IsIssuedBy Refused (verified_by P.rsa_of P.ecdsa_of P.sha1_of authority.now) at
-        r.1) }
-    ensures err { IfErr result (λ e. IsListRefusal (verified_by P.rsa_of P.ecdsa_of P.sha1_of authority.now) at unsigned
-        signature e) }
+    ensures valid { IfOk result (λ r. IsIssuedBy Refused (verified_by P.Provider authority.now) at r.1) }
+    ensures err { IfErr result (λ e. IsListRefusal (verified_by P.Provider authority.now) at unsigned signature e) }
 {
     let key = authority.cert().tbs().subject_public_key_info();
     let made = match unsigned.signed(alloc, authority.provider(), key, signature) {

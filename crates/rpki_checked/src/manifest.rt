@@ -1,7 +1,7 @@
 //! Manifests (RFC 9286).
 
+ghost use Rattle.rpki.specs.Checkers.{checkers_of};
 ghost use Rattle.std.specs.Prelude.{IfOk, IfErr};
-ghost use Rattle.rpki_valid.specs.Verified.{checkers_by};
 ghost use Rattle.rpki_checked.specs.Objects.{IsMadeObject, IsOwnManifest, ChecksOwnManifest, IsOwnManifestRefusal};
 ghost use Rattle.rpki_checked.specs.Objects.{IsAcceptedManifest, ChecksManifest, IsManifestRefusal};
 
@@ -23,8 +23,7 @@ fn check_own<P: Provider>(
     provider: &P,
     octets: &Captured,
 ) -> Result<(), ValidationError>
-    ensures { ChecksOwnManifest (checkers_by P.rsa_of P.ecdsa_of P.sha1_of provider.now) (P.sha256_of provider.now)
-        octets.now result }
+    ensures { ChecksOwnManifest (checkers_of P.Provider provider.now) octets.now result }
 {
     let manifest = match read_manifest(alloc, octets) {
         Ok(manifest) => manifest,
@@ -56,12 +55,11 @@ pub fn sign_manifest<P: Provider>(
     certificate: &Captured,
     signature: Bytes,
 ) -> Result<Captured, CheckError>
-    ensures made { IfOk result (λ c. IsMadeObject (checkers_by P.rsa_of P.ecdsa_of P.sha1_of provider.now)
-        unsigned.entry certificate.now signature c) }
-    ensures own { IfOk result (λ c. IsOwnManifest (checkers_by P.rsa_of P.ecdsa_of P.sha1_of provider.now)
-        (P.sha256_of provider.now) c) }
-    ensures err { IfErr result (IsOwnManifestRefusal (checkers_by P.rsa_of P.ecdsa_of P.sha1_of provider.now)
-        (P.sha256_of provider.now) unsigned.entry certificate.now signature) }
+    ensures made { IfOk result (λ c. IsMadeObject (checkers_of P.Provider provider.now) unsigned.entry certificate.now
+        signature c) }
+    ensures own { IfOk result (λ c. IsOwnManifest (checkers_of P.Provider provider.now) c) }
+    ensures err { IfErr result (IsOwnManifestRefusal (checkers_of P.Provider provider.now) unsigned.entry
+        certificate.now signature) }
 {
     let made = match unsigned.signed(alloc, provider, certificate, signature) {
         Ok(made) => made,
@@ -79,7 +77,7 @@ fn check<P: PreparingProvider>(
     issuer: &CurrentCrl<'_, '_, P>,
     octets: &Captured,
 ) -> Result<ResourceSet, ValidationError>
-    ensures { ChecksManifest P.rsa_of P.ecdsa_of P.sha1_of P.sha256_of issuer.now octets.now result }
+    ensures { ChecksManifest P.Provider issuer.now octets.now result }
 {
     let manifest = match read_manifest(alloc, octets) {
         Ok(manifest) => manifest,
@@ -104,12 +102,10 @@ pub fn issue_manifest<P: PreparingProvider>(
     certificate: &Captured,
     signature: Bytes,
 ) -> Result<Captured, CheckError>
-    ensures made { IfOk result (λ c. IsMadeObject
-        (checkers_by P.rsa_of P.ecdsa_of P.sha1_of issuer.now.issuer.provider) unsigned.entry certificate.now signature
-        c) }
-    ensures valid { IfOk result (λ c. IsAcceptedManifest P.rsa_of P.ecdsa_of P.sha1_of P.sha256_of issuer.now c) }
-    ensures err { IfErr result (IsManifestRefusal P.rsa_of P.ecdsa_of P.sha1_of P.sha256_of issuer.now unsigned.entry
-        certificate.now signature) }
+    ensures made { IfOk result (λ c. IsMadeObject (checkers_of P.Provider issuer.now.issuer.provider) unsigned.entry
+        certificate.now signature c) }
+    ensures valid { IfOk result (λ c. IsAcceptedManifest P.Provider issuer.now c) }
+    ensures err { IfErr result (IsManifestRefusal P.Provider issuer.now unsigned.entry certificate.now signature) }
 {
     let made = match unsigned.signed(alloc, issuer.issuer().provider(), certificate, signature) {
         Ok(made) => made,

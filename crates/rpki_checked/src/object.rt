@@ -1,6 +1,6 @@
 //! What is asked of each signed object by its certificate alone (RFC 6487 4, RFC 6488 3).
 
-ghost use Rattle.rpki_valid.specs.Verified.{checkers_by};
+ghost use Rattle.rpki.specs.Checkers.{checkers_of};
 ghost use Rattle.rpki_checked.specs.Objects.{ChecksAlone};
 
 use rpki::crypto::Provider;
@@ -14,8 +14,7 @@ pub(crate) fn verify_alone<P: Provider>(
     object: &SignedObject,
     provider: &P,
 ) -> Result<(), ValidationError>
-    ensures { ChecksAlone (checkers_by P.rsa_of P.ecdsa_of P.sha1_of provider.now) (P.sha256_of provider.now) object.now
-        result }
+    ensures { ChecksAlone (checkers_of P.Provider provider.now) object.now result }
 {
     match object.cert().tbs().inspect_ee(true) {
         Ok(()) => {}

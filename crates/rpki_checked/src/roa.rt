@@ -1,7 +1,7 @@
 //! Route origin attestations (RFC 9582).
 
+ghost use Rattle.rpki.specs.Checkers.{checkers_of};
 ghost use Rattle.std.specs.Prelude.{IfOk, IfErr};
-ghost use Rattle.rpki_valid.specs.Verified.{checkers_by};
 ghost use Rattle.rpki_checked.specs.Objects.{IsMadeObject, IsOwnOrigin, ChecksOwnOrigin, IsOwnOriginRefusal};
 ghost use Rattle.rpki_checked.specs.Objects.{IsAcceptedOrigin, ChecksOrigin, IsOriginRefusal};
 
@@ -23,8 +23,7 @@ fn check_own<P: Provider>(
     provider: &P,
     octets: &Captured,
 ) -> Result<(), ValidationError>
-    ensures { ChecksOwnOrigin (checkers_by P.rsa_of P.ecdsa_of P.sha1_of provider.now) (P.sha256_of provider.now)
-        octets.now result }
+    ensures { ChecksOwnOrigin (checkers_of P.Provider provider.now) octets.now result }
 {
     let roa = match read_roa(alloc, octets) {
         Ok(roa) => roa,
@@ -55,12 +54,11 @@ pub fn sign_roa<P: Provider>(
     certificate: &Captured,
     signature: Bytes,
 ) -> Result<Captured, CheckError>
-    ensures made { IfOk result (λ c. IsMadeObject (checkers_by P.rsa_of P.ecdsa_of P.sha1_of provider.now)
-        unsigned.entry certificate.now signature c) }
-    ensures own { IfOk result (λ c. IsOwnOrigin (checkers_by P.rsa_of P.ecdsa_of P.sha1_of provider.now)
-        (P.sha256_of provider.now) c) }
-    ensures err { IfErr result (IsOwnOriginRefusal (checkers_by P.rsa_of P.ecdsa_of P.sha1_of provider.now)
-        (P.sha256_of provider.now) unsigned.entry certificate.now signature) }
+    ensures made { IfOk result (λ c. IsMadeObject (checkers_of P.Provider provider.now) unsigned.entry certificate.now
+        signature c) }
+    ensures own { IfOk result (λ c. IsOwnOrigin (checkers_of P.Provider provider.now) c) }
+    ensures err { IfErr result (IsOwnOriginRefusal (checkers_of P.Provider provider.now) unsigned.entry certificate.now
+        signature) }
 {
     let made = match unsigned.signed(alloc, provider, certificate, signature) {
         Ok(made) => made,
@@ -78,7 +76,7 @@ fn check<P: PreparingProvider>(
     issuer: &CurrentCrl<'_, '_, P>,
     octets: &Captured,
 ) -> Result<ResourceSet, ValidationError>
-    ensures { ChecksOrigin P.rsa_of P.ecdsa_of P.sha1_of P.sha256_of issuer.now octets.now result }
+    ensures { ChecksOrigin P.Provider issuer.now octets.now result }
 {
     let roa = match read_roa(alloc, octets) {
         Ok(roa) => roa,
@@ -103,12 +101,10 @@ pub fn issue_roa<P: PreparingProvider>(
     certificate: &Captured,
     signature: Bytes,
 ) -> Result<Captured, CheckError>
-    ensures made { IfOk result (λ c. IsMadeObject
-        (checkers_by P.rsa_of P.ecdsa_of P.sha1_of issuer.now.issuer.provider) unsigned.entry certificate.now signature
-        c) }
-    ensures valid { IfOk result (λ c. IsAcceptedOrigin P.rsa_of P.ecdsa_of P.sha1_of P.sha256_of issuer.now c) }
-    ensures err { IfErr result (IsOriginRefusal P.rsa_of P.ecdsa_of P.sha1_of P.sha256_of issuer.now unsigned.entry
-        certificate.now signature) }
+    ensures made { IfOk result (λ c. IsMadeObject (checkers_of P.Provider issuer.now.issuer.provider) unsigned.entry
+        certificate.now signature c) }
+    ensures valid { IfOk result (λ c. IsAcceptedOrigin P.Provider issuer.now c) }
+    ensures err { IfErr result (IsOriginRefusal P.Provider issuer.now unsigned.entry certificate.now signature) }
 {
     let made = match unsigned.signed(alloc, issuer.issuer().provider(), certificate, signature) {
         Ok(made) => made,

@@ -2,10 +2,9 @@
 use Rattle.std.proofs.Common.{◌≡◌, ◌≢◌, ◌∙◌, ◌++◌, ◌<◌, ℕ, true, false, List, [], ◌∷◌, length, Some, None}
 use Rattle.std.proofs.Common.{refl, sym, ap, subst, arith, length-append, append_assoc, append-nil}
 use Rattle.rpki_der.specs.declared.error.DecodeError.{DecodeError}
-use Rattle.rpki_der.specs.declared.error.DecodeError.TheVariants.{Truncated, BadTag, BadLength, Unexpected, Content}
-use Rattle.rpki_der.specs.declared.error.DecodeError.TheVariants.{Trailing, OutOfMemory}
+use Rattle.rpki_der.specs.declared.error.DecodeError.TheVariants.{OutOfMemory}
 use Rattle.rpki_der.specs.TagName.{ia5_string, bit_string, sequence}
-use Rattle.rpki_der.specs.Reading.{Accepts, Refuses, Refusal, SpellsNothing, UnlessMemory}
+use Rattle.rpki_der.specs.Reading.{Accepts, Refuses, Refusal, SpellsNothing}
 use Rattle.rpki_der.specs.Leaves.{IsBits}
 use Rattle.rpki_der.specs.FirstFault.{IsEndFault, RepeatedFault}
 use Rattle.rpki_der.specs.FirstFault.RepeatedFault.{AfterMember}
@@ -43,15 +42,6 @@ file-no-memory s =
 
 pub no-file : (s r : List ℕ) (e : DecodeError) → Refusal file.spells file.fault s r e → Refuses file.spells s
 no-file s r e h = unless-memory e (λ z. file-no-memory s (subst (file.fault s) z h.kind)) h.refuses
-
-pub unless : (e : DecodeError) {P : Type 0} → P → UnlessMemory e P
-unless Truncated h = h
-unless BadTag h = h
-unless BadLength h = h
-unless Unexpected h = h
-unless (Content x) h = h
-unless Trailing h = h
-unless OutOfMemory h = tt
 
 -- ---- a file takes some octets
 

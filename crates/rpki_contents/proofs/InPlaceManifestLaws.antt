@@ -1,10 +1,9 @@
 -- What is read of a manifest in place, and what is decoded.
 use Rattle.std.proofs.Common.{◌≡◌, ℕ, true, List, Result, Ok, Err, refl, sym, subst}
 use Rattle.rpki_der.specs.declared.error.DecodeError.{DecodeError}
-use Rattle.rpki_der.specs.declared.error.DecodeError.TheVariants.{Truncated, BadTag, BadLength, Unexpected, Content}
-use Rattle.rpki_der.specs.declared.error.DecodeError.TheVariants.{Trailing, OutOfMemory}
 use Rattle.rpki_der.specs.Prelude.{Format, SpellsContents, SpellsNothing, sequence, this_oid}
 use Rattle.rpki_der.specs.Prelude.{IsWholeFault, Decodes, Then}
+use Rattle.rpki_der.proofs.ReadingLaws.{only-memory}
 use Rattle.rpki_der.proofs.FrontLaws.{contents-alone}
 use Rattle.rpki_der.proofs.PartsLaws.{first-of}
 use Rattle.rpki_time.specs.Serial.{serial_number}
@@ -95,13 +94,7 @@ decoded : (s : List ℕ) (x : ManifestParts) (found : Result ManifestParts Decod
     → Decodes (λ v. v) manifest.spells (IsWholeFault manifest.spells manifest.fault) s found → manifest.spells x s
     → IsDecodedAs x found
 decoded s x (Ok y) h k = sym (h.1 x k)
-decoded s x (Err Truncated) h k = absurd (h.0 x k)
-decoded s x (Err BadTag) h k = absurd (h.0 x k)
-decoded s x (Err BadLength) h k = absurd (h.0 x k)
-decoded s x (Err Unexpected) h k = absurd (h.0 x k)
-decoded s x (Err (Content e)) h k = absurd (h.0 x k)
-decoded s x (Err Trailing) h k = absurd (h.0 x k)
-decoded s x (Err OutOfMemory) h k = refl
+decoded s x (Err e) h k = only-memory e h.0 (λ none. none x k)
 
 not-decoded : (s : List ℕ) (found : Result ManifestParts DecodeError)
     → Decodes (λ v. v) manifest.spells (IsWholeFault manifest.spells manifest.fault) s found

@@ -17,14 +17,14 @@ use Rattle.rpki_der.proofs.HeaderReadingLaws.{one-header}
 use Rattle.rpki_der.proofs.ValuesLaws.{value-header}
 use Rattle.rpki_der.proofs.HeaderFaultLaws.{beginnings, no-fault-at-header, one-fault-of-lists}
 
-abbrev head-of : TagName → Bool → ℕ → Header
+abbrev pub head-of : TagName → Bool → ℕ → Header
 head-of t f n = record { tag = t; constructed = f; length = n }
 
 -- what the kind says of the header in front, and of what follows it
-abbrev Says : (Header → Type 0) → Header → List ℕ → DecodeError → Type 0
+abbrev pub Says : (Header → Type 0) → Header → List ℕ → DecodeError → Type 0
 Says P h r e = ((e ≡ Truncated) × P h × (length r < h.length)) ⊎ ((e ≡ Unexpected) × (P h → ⊥))
 
-abbrev AtHeader : (Header → Type 0) → List ℕ → DecodeError → Type 0
+abbrev pub AtHeader : (Header → Type 0) → List ℕ → DecodeError → Type 0
 AtHeader P s e = (h : Header) × (r : List ℕ) × Spells SpellsHeader s h r × Says P h r e
 
 -- a cut value is a cut header, or begins with the value's header and lacks contents
@@ -87,10 +87,10 @@ meet P s d e p q =
 
 -- ---- values of one tag and form
 
-abbrev Named : TagName → Bool → Header → Type 0
+abbrev pub Named : TagName → Bool → Header → Type 0
 Named t f h = (h.tag ≡ t) × (h.constructed ≡ f)
 
-sort-out : (t : TagName) (f : Bool) (s : List ℕ) (e : DecodeError) → IsContentsFault t f s e
+pub sort-out : (t : TagName) (f : Bool) (s : List ℕ) (e : DecodeError) → IsContentsFault t f s e
     → IsHeaderFault s e ⊎ AtHeader (Named t f) s e
 sort-out t f s Truncated p =
     elim p [
@@ -159,10 +159,11 @@ no-fault-at-value t f s c r e p v =
           ]
     ]
 
-abbrev IsBad : TagName → Bool → List ℕ → DecodeError → Type 0
+abbrev pub IsBad : TagName → Bool → List ℕ → DecodeError → Type 0
 IsBad t f s e = (x : ContentError) × (e ≡ Content x) × ((c : List ℕ) × (r : List ℕ) × Spells (SpellsContents t f) s c r)
 
-leaf-parts : {V : Type 0} (t : TagName) (f : Bool) (C : V → List ℕ → Type 0) (s : List ℕ) (e : DecodeError)
+-- the fault of a leaf is that of a value, or one of its contents
+pub leaf-parts : {V : Type 0} (t : TagName) (f : Bool) (C : V → List ℕ → Type 0) (s : List ℕ) (e : DecodeError)
     → IsLeafFault t f C s e → IsContentsFault t f s e ⊎ IsBad t f s e
 leaf-parts t f C s Truncated p = inl p
 leaf-parts t f C s BadTag p = inl p

@@ -9,7 +9,7 @@ use Rattle.rpki_der.specs.declared.cursor.Constructed.{Constructed}
 use Rattle.rpki_der.specs.Cursor.{left}
 use Rattle.rpki_der.specs.Error.{error_number}
 use Rattle.rpki_der.specs.TagName.{TagName}
-use Rattle.rpki_der.specs.Reading.{Spells, Accepts, Refuses, Refusal, Reads, ReadsWhere, SpellsNothing, UnlessMemory}
+use Rattle.rpki_der.specs.Reading.{Accepts, Refuses, Refusal, Reads, ReadsWhere, SpellsNothing, UnlessMemory}
 use Rattle.rpki_der.specs.Reading.{OrMemoryWhere, IsWholeFault}
 use Rattle.rpki_der.specs.Values.{SpellsContents, SpellsLeaf, IsContentsFault, GivesOuterFault, IsOuterFault}
 use Rattle.rpki_der.specs.Composed.{NotInside, ReadsInside, ReadsAll}
@@ -61,12 +61,6 @@ module _ {V : Type 0} (G : V → List ℕ → Type 0) (K : Kind) (L : V → Kind
   pub where-missing : FirstFault G K L s e → Refuses G s → K s e
   where-missing (AtPart none k) h = k
   where-missing (Later v r a l) h = absurd (h v r a.spells)
-
-  pub where-found : FirstFault G K L s e → e ≢ OutOfMemory → (v : V) (r : List ℕ) → Spells G s v r → L v r e
-  where-found (AtPart none k) n v r h = absurd (unless-memory e n none v r h)
-  where-found (Later w q a l) n v r h =
-      let is = a.only v r h in
-      subst (λ (x : V). L x r e) (sym is.0) (subst (λ (x : List ℕ). L w x e) (sym is.1) l)
 
 -- ---- where allocation fails
 

@@ -7,15 +7,16 @@ use Rattle.rpki_der.specs.declared.cursor.Constructed.{Constructed}
 use Rattle.rpki_der.specs.Cursor.{left}
 use Rattle.rpki_der.specs.TagName.{TagName}
 use Rattle.rpki_der.specs.Reading.{Spells, Refusal, Reads, UnlessMemory, OrMemoryWhere}
-use Rattle.rpki_der.specs.Values.{SpellsContents, SpellsLeaf, IsContentsFault, GivesOuterFault, IsOuterFault}
+use Rattle.rpki_der.specs.Values.{SpellsContents, SpellsLeaf, IsContentsFault, GivesOuterFault}
 use Rattle.rpki_der.specs.Inside.{HasInside}
 use Rattle.rpki_der.specs.Composed.{Inside, NotInside, ReadsInside, ReadsAll, NotWhole, ReadsWhole}
 use Rattle.rpki_der.specs.Composed.NotWhole.{RefusedAll, Left}
 use Rattle.rpki_der.specs.Reading.{SpellsNothing, Decodes, IsWholeFault, NeverMemory}
 use Rattle.rpki_der.specs.Composed.NotInside.{Outside, Refused, More}
 use Rattle.rpki_der.proofs.ReadingLaws.{UnlessMemory-from}
+pub use Rattle.rpki_der.proofs.ReadingLaws.{unless-memory}
 use Rattle.rpki_der.proofs.LeavesLaws.{contents-no-memory}
-use Rattle.rpki_der.proofs.ComposedLaws.{outer-refused, inner-refused, inner-accepted, without-memory}
+use Rattle.rpki_der.proofs.ComposedLaws.{outer-refused, inner-refused, inner-accepted}
 use Rattle.rpki_der.proofs.ComposedLaws.{all-read, more-left, not-read}
 
 -- ---- where allocation fails
@@ -41,16 +42,6 @@ part-memory P Q L K c s Unexpected f m h = h
 part-memory P Q L K c s (Content x) f m h = h
 part-memory P Q L K c s Trailing f m h = h
 part-memory P Q L K c s OutOfMemory f m h = f m
-
--- an error that isn't allocation failure
-pub unless-memory : (e : DecodeError) {P : Type 0} → e ≢ OutOfMemory → UnlessMemory e P → P
-unless-memory Truncated n h = h
-unless-memory BadTag n h = h
-unless-memory BadLength n h = h
-unless-memory Unexpected n h = h
-unless-memory (Content x) n h = h
-unless-memory Trailing n h = h
-unless-memory OutOfMemory n h = absurd (n refl)
 
 -- ---- one value, over the reader of its contents
 
@@ -94,12 +85,6 @@ module _ {X V : Type 0} (view : X → V) (t : TagName) (f : Bool) (C : V → Lis
         λ z. never (left h.before) (subst (K (left h.before)) z (law h.before h.after (Err e) h.read).1)
     other s e (More x q d h some same) = trailing-other e same
 
-    pub read-inside-never : (s r : List ℕ) (x : Result X DecodeError) → ReadsInside t f Same reads s r x
-        → Reads view (SpellsLeaf t f C) (IsOuterFault t f) s r x
-    read-inside-never s r (Ok x) h = read-inside s r (Ok x) h
-    read-inside-never s r (Err e) h =
-        without-memory (SpellsLeaf t f C) (GivesOuterFault t f) s r e (other s e h.1) (read-inside s r (Err e) h)
-
 -- the same, where it allocates only for contents that have P
 module _ {X V : Type 0} (view : X → V) (t : TagName) (C : V → List ℕ → Type 0) (P : List ℕ → Type 0)
     (L : List ℕ → DecodeError → Type 0)
@@ -115,13 +100,6 @@ module _ {X V : Type 0} (view : X → V) (t : TagName) (C : V → List ℕ → T
       (λ p. (left h.before, q, h.value.spells, p)) (law h.before h.after (Err e) h.read).1 k
   memory s e (More x q d h some same) k =
       no-memory (HasInside t P) (GivesOuterFault t true) s e (trailing-other e same) k
-
-  pub read-inside-where : (s r : List ℕ) (x : Result X DecodeError) → ReadsInside t true Same reads s r x
-      → Reads view (SpellsLeaf t true C) (OrMemoryWhere (HasInside t P) (GivesOuterFault t true)) s r x
-  read-inside-where s r (Ok x) h = read-inside view t true C (OrMemoryWhere P L) reads law s r (Ok x) h
-  read-inside-where s r (Err e) h =
-      let k = read-inside view t true C (OrMemoryWhere P L) reads law s r (Err e) h in
-      record { unchanged = k.unchanged; refuses = k.refuses; kind = memory s e h.1 k.kind }
 
 -- ---- the reader of the contents
 

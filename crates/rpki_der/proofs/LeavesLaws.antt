@@ -210,16 +210,17 @@ dropped-accepted {V} t f C D s v r there back a = record {
       );
 }
 
-dropped-kind : {V : Type 0} (t : TagName) (f : Bool) (C : V → List ℕ → Type 0) (D : Unit {0} → List ℕ → Type 0)
+-- the error of a leaf of other contents, where each of these is one of those
+pub other-contents : {V W : Type 0} (t : TagName) (f : Bool) (C : V → List ℕ → Type 0) (D : W → List ℕ → Type 0)
     (s : List ℕ) (e : DecodeError)
-    → ((c : List ℕ) → D tt c → (w : V) × C w c) → IsLeafFault t f C s e → IsLeafFault t f D s e
-dropped-kind t f C D s Truncated back h = h
-dropped-kind t f C D s BadTag back h = h
-dropped-kind t f C D s BadLength back h = h
-dropped-kind t f C D s Unexpected back h = h
-dropped-kind t f C D s (Content x) back h = (h.0, h.1, h.2, λ v d. let k = back h.0 d in h.3 k.0 k.1)
-dropped-kind t f C D s Trailing back h = h
-dropped-kind t f C D s OutOfMemory back h = h
+    → ((w : W) (c : List ℕ) → D w c → (v : V) × C v c) → IsLeafFault t f C s e → IsLeafFault t f D s e
+other-contents t f C D s Truncated back h = h
+other-contents t f C D s BadTag back h = h
+other-contents t f C D s BadLength back h = h
+other-contents t f C D s Unexpected back h = h
+other-contents t f C D s (Content x) back h = (h.0, h.1, h.2, λ w d. let k = back w h.0 d in h.3 k.0 k.1)
+other-contents t f C D s Trailing back h = h
+other-contents t f C D s OutOfMemory back h = h
 
 pub dropped-refused : {V : Type 0} (t : TagName) (f : Bool) (C : V → List ℕ → Type 0) (D : Unit {0} → List ℕ → Type 0)
     (s r : List ℕ) (e : DecodeError)
@@ -236,5 +237,5 @@ dropped-refused {V} t f C D s r e back h = record {
         spelled = record
             { contents = l.spelled.contents; value = l.spelled.value; spelled = k.1 };
       })) h.refuses;
-  kind = dropped-kind t f C D s e back h.kind;
+  kind = other-contents t f C D s e (λ w c. back c) h.kind;
 }

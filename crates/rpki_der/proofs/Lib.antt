@@ -1,10 +1,11 @@
 -- Which lemma file answers which question.
 --
 -- Crates above rest on FormatLaws, FoldLaws, ReadingLaws, LeavesLaws, ComposedLaws, InsideLaws, TriedLaws,
--- FirstFaultLaws, PartsLaws, EachLaws, CaptureLaws, KeepLaws, EncodeLaws, WritingLaws and IntegerLaws: their names and
--- statements stay.
+-- FirstFaultLaws, FaultKindLaws, PartsLaws, EachLaws, CaptureLaws, KeepLaws, EncodeLaws, WritingLaws and IntegerLaws:
+-- their names and statements stay.
 --
 -- How readings are put together, whatever the grammar: ReadingLaws, StepLaws.
+-- Memory or not, where no kind of an error is wanted: `memory-or-not`, `unless-memory`, `only-memory` of ReadingLaws.
 -- A leaf over its contents; a value over the reader of its contents: LeavesLaws, ComposedLaws, InsideLaws.
 -- What a reader returns where a `?` ends it: TriedLaws.
 -- Readers by formats: FormatLaws; of a choice, and of values with a condition: ChoiceLaws. That a format has one value
@@ -21,7 +22,7 @@
 -- An error excludes the others: HeaderFaultLaws, FaultKindLaws, NestedFaultLaws, SomeFaultLaws.
 -- A walk: in the middle, at its end: WalkingLaws, WalkLaws, MembersLaws; without memory: NestedLaws.
 -- The index: IndexingLaws, IndexReadingLaws, IndexLaws, IndexOrderLaws.
--- A cursor; what can be kept of its octets: CursorLaws, KeepLaws.
+-- A cursor; what can be kept of its octets; what octets end with: CursorLaws, KeepLaws, EndLaws.
 -- Contents: numbers, identifiers, strings: IntegerLaws, UnsignedLaws, OidLaws, TextLaws.
 -- What is hashed of octets and numbers: HashLaws.
 -- The octets of headers, their bits and how many they are: OctetBitLaws, HeaderSizeLaws.
@@ -79,6 +80,7 @@ pub mod FormatLaws
 pub mod FoldLaws
 pub mod OneFormatLaws
 pub mod ChoiceLaws
+mod EndLaws
 mod HeaderSizeLaws
 mod SomeFaultLaws
 mod ShortestLaws

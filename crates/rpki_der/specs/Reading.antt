@@ -1,6 +1,6 @@
 -- What a reader does with the remaining octets, in the terms of a grammar: a relation between a value and
 -- the lists that spell it.
-use Rattle.std.specs.Prelude.{◌≡◌, ◌≢◌, ℕ, List, ◌∷◌, ◌++◌, Result, Ok, Err, Option, Some, None}
+use Rattle.std.specs.Prelude.{◌≡◌, ◌≢◌, ℕ, Bool, true, false, List, ◌∷◌, ◌++◌, Result, Ok, Err, Option, Some, None}
 use Rattle.rpki_der.specs.declared.error.DecodeError.{DecodeError}
 use Rattle.rpki_der.specs.declared.error.DecodeError.TheVariants.{Truncated, BadTag, BadLength, Unexpected, Content}
 use Rattle.rpki_der.specs.declared.error.DecodeError.TheVariants.{Trailing, OutOfMemory}
@@ -37,6 +37,16 @@ UnlessMemory Unexpected P = P
 UnlessMemory (Content e) P = P
 UnlessMemory Trailing P = P
 UnlessMemory OutOfMemory P = Unit {0}
+
+-- whether allocation failed
+abbrev pub is_out : DecodeError → Bool
+is_out Truncated = false
+is_out BadTag = false
+is_out BadLength = false
+is_out Unexpected = false
+is_out (Content e) = false
+is_out Trailing = false
+is_out OutOfMemory = true
 
 -- An error of a reader of the grammar G on s that leaves r: nothing changed, no beginning of s is in G, and K says
 -- which error it is.

@@ -8,6 +8,7 @@ ghost use Rattle.rpki_der.specs.Values.{SpellsContents, IsContentsFault};
 use crate::error::DecodeError;
 use crate::header::{HeaderAndRest, begins_with, header, short_header};
 use crate::keep::Keep;
+use crate::section::Section;
 use crate::tag::{Header, Steps, Tag};
 use bytes::Bytes;
 use std::alloc::AllocError;
@@ -196,8 +197,21 @@ impl<'a> Constructed<'a> {
         self.rest() == expected
     }
 
-    /// Keeps a part of the remaining octets: that which is before the rest of another cursor. An allocator
-    /// copies it, and [Shared](crate::Shared) shares it; requires that `keep` can keep parts of the rest.
+    /// Whether the part is in the remaining octets, right before the rest of another cursor, with which they end.
+    #[tactic(auto, unfolding(crate::specs::Cursor::left))]
+    pub fn stands_before(&self, part: &[u8], after: &Constructed<'_>) -> bool
+        ensures { IsTrue result ↔ StandsBefore (left self.now) part.now (left after.now) }
+    {
+        Section::is_end(self.rest, after.rest)
+            && Section::is_end(
+                self.rest.split_at(self.rest.len() - after.rest.len()).0,
+                part,
+            )
+    }
+
+    /// Keeps a part of the remaining octets: that which is before the rest of another cursor
+    /// ([Constructed::stands_before]). An allocator copies it, and [Shared](crate::Shared) shares it; requires that
+    /// `keep` can keep parts of the rest.
     ///
     /// Returns `AllocError` if allocation fails.
     #[tactic(auto, unfolding(crate::specs::Cursor::left))]

@@ -1,6 +1,7 @@
 //! Signed data that a key has signed.
 
 ghost use Rattle.std.specs.Prelude.{IfOk, IfErr};
+ghost use Rattle.rpki.specs.Checkers.{checkers_of};
 ghost use Rattle.rpki_examples.specs.Verified.{IsVerified, IsUnverified};
 
 use bytes::Bytes;
@@ -50,10 +51,10 @@ pub fn verified<P: Provider, Alg: SignatureAlgorithm + Drop>(
     key: &PublicKey,
     octets: Bytes,
 ) -> Result<SignedData<Alg>, Unverified>
-    ensures signed { IfOk result
-        (IsVerified Alg.spells Alg.format (P.rsa_of provider.now) (P.ecdsa_of provider.now) key.now octets) }
-    ensures refused { IfErr result (IsUnverified Alg.spells Alg.fault Alg.format (P.rsa_of provider.now)
-        (P.ecdsa_of provider.now) key.now octets) }
+    ensures signed { IfOk result (IsVerified Alg.spells Alg.format (checkers_of P.Provider provider.now) key.now
+        octets) }
+    ensures refused { IfErr result (IsUnverified Alg.spells Alg.fault Alg.format (checkers_of P.Provider provider.now)
+        key.now octets) }
 {
     let signed = SignedData::<Alg>::decode(alloc, octets)?;
     signed.verify_signature(provider, key)?;

@@ -1,16 +1,14 @@
 -- Octets are one object of a kind at most, and none where a reader says so.
-use Rattle.std.proofs.Common.{◌≡◌, ℕ, false, List, sym, ap, subst, ◌∙◌, inl, inr}
+use Rattle.std.proofs.Common.{◌≡◌, ℕ, List, sym, ap, subst, ◌∙◌, inl, inr}
 use Rattle.rpki_der.specs.declared.error.DecodeError.{DecodeError}
 use Rattle.rpki_der.specs.declared.error.DecodeError.TheVariants as der
-use Rattle.rpki_der.specs.Reading.{SpellsNothing}
-use Rattle.rpki_cert.specs.Cert.{CertParts, SpellsCert}
+use Rattle.rpki_cert.specs.Cert.{CertParts}
 use Rattle.rpki_contents.specs.Aspa.{AspaParts}
 use Rattle.rpki_contents.specs.Manifest.{ManifestParts}
 use Rattle.rpki_contents.specs.Roa.{AttestationParts}
-use Rattle.rpki_crl.specs.Crl.{CrlParts, crl}
+use Rattle.rpki_crl.specs.Crl.{CrlParts}
 use Rattle.rpki_objects.specs.SignedObject.{ObjectParts, ObjectFields, object_fields_of}
-use Rattle.rpki_objects.specs.Strictness.{none_strict}
-use Rattle.rpki_objects.specs.TypedObject.{TypedParts, manifest_object, origin_object, aspa_object}
+use Rattle.rpki_objects.specs.TypedObject.{TypedParts}
 use Rattle.rpki_fields.specs.declared.object_type.ObjectType.{ObjectType}
 use Rattle.rpki_fields.specs.declared.object_type.ObjectType.TheVariants as K
 use Rattle.rpki_fields.specs.declared.object.Object.{Object}
@@ -18,7 +16,7 @@ use Rattle.rpki_fields.specs.declared.object.Object.TheVariants.{Certificate, Cr
 use Rattle.rpki_fields.specs.declared.object.Object.TheVariants.{Aspa, SignedObject, OtherCertificate}
 use Rattle.rpki_fields.specs.declared.object.Object.TheVariants.{Checklist, TrustAnchorKey, Ghostbusters}
 use Rattle.rpki_fields.specs.OtherCert.{AlgorithmParts, AlgorithmFields, OtherCertParts, CertFields, cert_fields_of}
-use Rattle.rpki_fields.specs.Object.{SpellsFields, IsOf, IsNone, IsCertificate, IsNoCertificate, NoOtherCert}
+use Rattle.rpki_fields.specs.Object.{SpellsFields, IsOf, IsNone, IsCertificate, IsNoCertificate}
 use Rattle.rpki_fields.specs.Object.IsNoCertificate.{Neither, Lacking}
 use Rattle.rpki_fields.specs.Object.{IsNoObjectWith, IsObjectWith, SpellsOnly}
 use Rattle.rpki_fields.specs.Object.IsNoObjectWith.{NoObject, OtherContent}
@@ -26,7 +24,7 @@ use Rattle.rpki_fields.specs.Record.{AreAnchorKeys, AreNoAnchorKeys, IsAnchorKey
 use Rattle.rpki_fields.specs.Record.{IsCard, IsCardFault, IsCardObject, IsNoCard}
 use Rattle.rpki_fields.specs.Record.{IsChecklist, IsChecklistFault, IsChecklistObject, IsNoChecklist}
 use Rattle.rpki_records.specs.Identifiers.{anchor_keys_type, card_type, checklist_type}
-use Rattle.rpki_fields.proofs.MemoryLaws.{unless-taken}
+use Rattle.rpki_der.proofs.ReadingLaws.{unless-memory}
 use Rattle.rpki_fields.proofs.RecordLaws.{no-anchor-keys, no-card, no-checklist, no-content}
 
 -- the object of these fields
@@ -55,8 +53,7 @@ none-with : (P : ObjectParts → Type 0) (F : ObjectParts → DecodeError → Ty
     → ((o : ObjectParts) (e : DecodeError) → (e ≡ der.OutOfMemory → ⊥) → F o e → P o → ⊥)
     → (named : ObjectParts → Object) (octets : List ℕ) (e : DecodeError) (x : Object) → (e ≡ der.OutOfMemory → ⊥)
     → IsNoObjectWith F octets e → IsObjectWith P named octets x → ⊥
-none-with P F none named octets e x z (NoObject n) g =
-    unless-taken e (SpellsNothing SpellsFields octets) z n.0 _ g.1.0
+none-with P F none named octets e x z (NoObject n) g = unless-memory e z n.0 _ g.1.0
 none-with P F none named octets e x z (OtherContent o s f) g =
     none g.0 e z (subst (λ (w : ObjectParts). F w e) (one-object octets o g.0 s g.1) f) g.2
 
@@ -100,9 +97,8 @@ one-certificate octets x y (inr g) (inr h) =
 -- none is there where a reader of those of the RPKI finds none, and one of others finds none
 no-certificate : (octets : List ℕ) (e : DecodeError) (x : Object) → (e ≡ der.OutOfMemory → ⊥)
     → IsNoCertificate octets e → IsCertificate octets x → ⊥
-no-certificate octets e x z (Neither n k) (inl g) = unless-taken e (SpellsNothing SpellsCert octets) z n.0 g.0 g.1.0
-no-certificate octets e x z (Neither n k) (inr g) =
-    unless-taken e (NoOtherCert octets) z k g.1 g.2.0.0 g.2.1
+no-certificate octets e x z (Neither n k) (inl g) = unless-memory e z n.0 g.0 g.1.0
+no-certificate octets e x z (Neither n k) (inr g) = unless-memory e z k g.1 g.2.0.0 g.2.1
 no-certificate octets e x z (Lacking y n) g = z y
 
 pub one-of : (kind : ObjectType) (octets : List ℕ) (x y : Object) → IsOf kind octets x → IsOf kind octets y → x ≡ y
@@ -122,12 +118,11 @@ one-of K.SignedObject octets x y g h =
 pub none-of : (kind : ObjectType) (octets : List ℕ) (e : DecodeError) (x : Object) → (e ≡ der.OutOfMemory → ⊥)
     → IsNone kind octets e → IsOf kind octets x → ⊥
 none-of K.Certificate octets e x z n g = no-certificate octets e x z n g
-none-of K.Crl octets e x z n g = unless-taken e (SpellsNothing crl.spells octets) z n.0 g.0 g.1.0
-none-of K.Manifest octets e x z n g = unless-taken e (SpellsNothing (manifest_object false).spells octets) z n.0 g.0
+none-of K.Crl octets e x z n g = unless-memory e z n.0 g.0 g.1.0
+none-of K.Manifest octets e x z n g = unless-memory e z n.0 g.0
     g.1.0
-none-of K.Roa octets e x z n g =
-    unless-taken e (SpellsNothing (origin_object none_strict).spells octets) z n.0 g.0 g.1.0
-none-of K.Aspa octets e x z n g = unless-taken e (SpellsNothing (aspa_object false).spells octets) z n.0 g.0 g.1.0
+none-of K.Roa octets e x z n g = unless-memory e z n.0 g.0 g.1.0
+none-of K.Aspa octets e x z n g = unless-memory e z n.0 g.0 g.1.0
 none-of K.Checklist octets e x z n g =
     none-with IsChecklistObject IsChecklistFault (no-content checklist_type IsChecklist IsNoChecklist no-checklist)
     (λ o. Checklist o) octets e x z n g
@@ -137,4 +132,4 @@ none-of K.TrustAnchorKey octets e x z n g =
 none-of K.Ghostbusters octets e x z n g =
     none-with IsCardObject IsCardFault (no-content card_type IsCard IsNoCard no-card) (λ o. Ghostbusters o) octets e x
     z n g
-none-of K.SignedObject octets e x z n g = unless-taken e (SpellsNothing SpellsFields octets) z n.0 _ g.1.0
+none-of K.SignedObject octets e x z n g = unless-memory e z n.0 _ g.1.0

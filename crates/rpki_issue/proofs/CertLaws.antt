@@ -12,7 +12,7 @@ use Rattle.rpki.specs.SignedData.{signature_octets, written_contents}
 use Rattle.rpki_x509.proofs.WrittenLaws.{back-few, inside-few}
 use Rattle.rpki_cert.specs.Cert.{TbsParts, SpellsTbs, cert_parts, SpellsCert}
 use Rattle.rpki_cert.proofs.TbsValueLaws.{tbs-value}
-use Rattle.rpki.specs.Provider.{Check}
+use Rattle.rpki.specs.Provider.{Checkers}
 use Rattle.rpki.specs.PublicKey.{KeyParts}
 use Rattle.rpki_issue.specs.declared.error.IssueError.{IssueError}
 use Rattle.rpki_issue.specs.Signing.{written_algorithm, signed_parts, signed_whole, IsShortWhole, AreSigned, ToSign}
@@ -70,14 +70,14 @@ kept-tbs s o v r same accepts (t, spelled, algorithm) =
     (subst (λ (w : TbsParts). SpellsTbs w o) e spelled, ap (λ (w : TbsParts). w.algorithm) (sym e) ∙ algorithm)
 
 -- what is signed is the certificate that was to be signed
-pub issued : (rsa ecdsa : Check) (key : KeyParts) (made : ToSign) (value : List ℕ) (r : Result (List ℕ) IssueError)
+pub issued : (by : Checkers) (key : KeyParts) (made : ToSign) (value : List ℕ) (r : Result (List ℕ) IssueError)
     → SpellsTbs made.tbs made.octets × (made.tbs.algorithm ≡ true)
-    → IfOk r (λ w. AreSigned rsa ecdsa key made.octets value w) → IfOk r (λ w. IsIssuedCert rsa ecdsa key made value w)
-issued rsa ecdsa key made value (Ok w) known h =
+    → IfOk r (λ w. AreSigned by key made.octets value w) → IfOk r (λ w. IsIssuedCert by key made value w)
+issued by key made value (Ok w) known h =
     let parts = cert_parts (signed_parts made.octets value) made.tbs in
     record {
       signed = h;
       read_back = subst (λ (o : List ℕ). SpellsCert parts o) (sym h.written)
           (cert-read made.tbs made.octets value known.0 known.1 h.short);
     }
-issued rsa ecdsa key made value (Err e) known h = h
+issued by key made value (Err e) known h = h

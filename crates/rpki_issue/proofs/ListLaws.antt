@@ -1,7 +1,7 @@
 -- A revocation list that is signed is read as the list that was to be signed.
 use Rattle.std.proofs.Common.{◌≡◌, ◌<◌, ◌^◌, ℕ, List, [], ◌∷◌, length, sym, subst, Result, Ok, Err, IfOk}
 use Rattle.rpki_der.specs.Listed.{EachHas}
-use Rattle.rpki.specs.Provider.{Check}
+use Rattle.rpki.specs.Provider.{Checkers}
 use Rattle.rpki.specs.PublicKey.{KeyParts}
 use Rattle.rpki_crl.specs.declared.crl_entry.CrlEntry.{CrlEntry}
 use Rattle.rpki_crl.specs.Crl.{entry_of, entries_in, ListParts, crl, crl_parts}
@@ -24,10 +24,10 @@ pub entries-known : (xs : List CrlEntry) → EachHas IsKnown xs → EachHas IsEn
 entries-known [] h = h
 entries-known (x ∷ xs) h = (h.0, entries-known xs h.1)
 
-pub issued-list : (rsa ecdsa : Check) (key : KeyParts) (made : ListToSign) (value : List ℕ)
+pub issued-list : (by : Checkers) (key : KeyParts) (made : ListToSign) (value : List ℕ)
     (r : Result (List ℕ) IssueError) → (made.octets ≡ list_octets made.list) × IsListReadBack made.list
-    → IfOk r (λ w. AreSigned rsa ecdsa key made.octets value w) → IfOk r (λ w. IsIssuedList rsa ecdsa key made value w)
-issued-list rsa ecdsa key made value (Ok w) known h =
+    → IfOk r (λ w. AreSigned by key made.octets value w) → IfOk r (λ w. IsIssuedList by key made value w)
+issued-list by key made value (Ok w) known h =
     let short = subst (λ (o : List ℕ). IsShortWhole o value) known.0 h.short in
     let read = subst
     (λ (o : List ℕ). crl.spells (crl_parts (signed_parts o value) (normal_list made.list)) (signed_whole o value))
@@ -38,7 +38,7 @@ issued-list rsa ecdsa key made value (Ok w) known h =
           (λ (o : List ℕ). crl.spells (crl_parts (signed_parts made.octets value) (normal_list made.list)) o)
           (sym h.written) read;
     }
-issued-list rsa ecdsa key made value (Err e) known h = h
+issued-list by key made value (Err e) known h = h
 
 pub all-read : (x : ListParts) → IsShortList x → AreListKnown x → IsListReadBack x
 all-read x short known =

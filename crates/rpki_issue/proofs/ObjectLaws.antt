@@ -1,11 +1,11 @@
 -- A signed object that is written is read as the object that was to be signed.
 use Rattle.std.proofs.Common.{◌≡◌, ℕ, List, refl, sym, subst, ap, ◌∙◌}
 use Rattle.rpki_der.specs.declared.error.DecodeError.{DecodeError}
-use Rattle.rpki_der.specs.declared.error.DecodeError.TheVariants.{Truncated, BadTag, BadLength, Unexpected, Content}
-use Rattle.rpki_der.specs.declared.error.DecodeError.TheVariants.{Trailing, OutOfMemory}
+use Rattle.rpki_der.specs.declared.error.DecodeError.TheVariants.{OutOfMemory}
 use Rattle.rpki_der.specs.Prelude.{UnlessMemory, SpellsNothing}
+use Rattle.rpki_der.proofs.ReadingLaws.{unless-memory}
 use Rattle.rpki_cert.specs.Cert.{CertParts, SpellsCert}
-use Rattle.rpki.specs.Provider.{Check}
+use Rattle.rpki.specs.Provider.{Checkers}
 use Rattle.rpki.specs.PublicKey.{KeyParts}
 use Rattle.rpki_attributes.specs.SignedAttributes.{AttributeValues}
 use Rattle.rpki_objects.specs.SignedObject.{signed_object, object_fields_of}
@@ -28,49 +28,44 @@ only-cert s o c same h = record {
 
 pub no-cert : (s o : List ℕ) (e : DecodeError) → s ≡ o → (e ≡ OutOfMemory → ⊥)
     → UnlessMemory e (SpellsNothing SpellsCert s) → (x : CertParts) → SpellsCert x o → ⊥
-no-cert s o Truncated same other h x there = h x (subst (λ (w : List ℕ). SpellsCert x w) (sym same) there)
-no-cert s o BadTag same other h x there = h x (subst (λ (w : List ℕ). SpellsCert x w) (sym same) there)
-no-cert s o BadLength same other h x there = h x (subst (λ (w : List ℕ). SpellsCert x w) (sym same) there)
-no-cert s o Unexpected same other h x there = h x (subst (λ (w : List ℕ). SpellsCert x w) (sym same) there)
-no-cert s o (Content e) same other h x there = h x (subst (λ (w : List ℕ). SpellsCert x w) (sym same) there)
-no-cert s o Trailing same other h x there = h x (subst (λ (w : List ℕ). SpellsCert x w) (sym same) there)
-no-cert s o OutOfMemory same other h x there = other refl
+no-cert s o e same other h x there =
+    unless-memory e other h x (subst (λ (w : List ℕ). SpellsCert x w) (sym same) there)
 
 -- ---- a signature, of equals
 
-pub moved : (rsa ecdsa : Check) (k key : KeyParts) (m message v value : List ℕ) → k ≡ key → m ≡ message → v ≡ value
-    → IsSignatureBy rsa ecdsa k m v → IsSignatureBy rsa ecdsa key message value
-moved rsa ecdsa k key m message v value p q r h =
-    subst (λ (w : List ℕ). IsSignatureBy rsa ecdsa key message w) r
-    (subst (λ (w : List ℕ). IsSignatureBy rsa ecdsa key w v) q
-    (subst (λ (x : KeyParts). IsSignatureBy rsa ecdsa x m v) p h))
+pub moved : (by : Checkers) (k key : KeyParts) (m message v value : List ℕ) → k ≡ key → m ≡ message → v ≡ value
+    → IsSignatureBy by k m v → IsSignatureBy by key message value
+moved by k key m message v value p q r h =
+    subst (λ (w : List ℕ). IsSignatureBy by key message w) r
+    (subst (λ (w : List ℕ). IsSignatureBy by key w v) q
+    (subst (λ (x : KeyParts). IsSignatureBy by x m v) p h))
 
 -- ---- the object
 
-module _ (rsa ecdsa : Check) (sha1 : List ℕ → List ℕ) (made : ObjectToSign) (certificate value : List ℕ)
+module _ (by : Checkers) (made : ObjectToSign) (certificate value : List ℕ)
     (cert : CertParts) (one : IsOnlyCert certificate cert) where
   pub built-same : (a : AttributeValues) (content signer signature : List ℕ) → a ≡ made.attributes
-      → content ≡ made.content → signer ≡ sha1 cert.tbs.key.bits.octets → signature ≡ value
+      → content ≡ made.content → signer ≡ by.sha1 cert.tbs.key.bits.octets → signature ≡ value
       → record {
         attributes = a;
         content = content;
         certificate = certificate;
         signer = signer;
         signature = signature;
-      } ≡ built sha1 made certificate cert value
+      } ≡ built by made certificate cert value
   built-same a content signer signature p q r s = rw (p, q, r, s) refl
 
-  pub signature-refused : (IsSignatureBy rsa ecdsa cert.tbs.key made.message value → ⊥) → (x : CertParts)
-      → SpellsCert x certificate → IsSignatureBy rsa ecdsa x.tbs.key made.message value → ⊥
+  pub signature-refused : (IsSignatureBy by cert.tbs.key made.message value → ⊥) → (x : CertParts)
+      → SpellsCert x certificate → IsSignatureBy by x.tbs.key made.message value → ⊥
   signature-refused other x there h =
-      other (subst (λ (t : CertParts). IsSignatureBy rsa ecdsa t.tbs.key made.message value) (one.only x there) h)
+      other (subst (λ (t : CertParts). IsSignatureBy by t.tbs.key made.message value) (one.only x there) h)
 
-  module _ (b : BuiltObject) (same : b ≡ built sha1 made certificate cert value) where
-    pub object-issued : (whole : List ℕ) → IsSignatureBy rsa ecdsa cert.tbs.key made.message value
+  module _ (b : BuiltObject) (same : b ≡ built by made certificate cert value) where
+    pub object-issued : (whole : List ℕ) → IsSignatureBy by cert.tbs.key made.message value
         → whole ≡ object_octets b → IsObjectReadBack b → AreTimed made.attributes
-        → IsIssuedObject rsa ecdsa sha1 made certificate value whole
+        → IsIssuedObject by made certificate value whole
     object-issued whole verified written back timed =
-        let x = built sha1 made certificate cert value in
+        let x = built by made certificate cert value in
         let is : whole ≡ object_octets x = written ∙ ap object_octets same in
         let reads : IsObjectReadBack x = subst (λ (o : BuiltObject). IsObjectReadBack o) same back in
         record {
@@ -84,14 +79,14 @@ module _ (rsa ecdsa : Check) (sha1 : List ℕ → List ℕ) (made : ObjectToSign
         }
 
     pub build-refused : (w : IssueError) → IsBuildRefused b w
-        → IsObjectRefused rsa ecdsa sha1 made certificate value w
+        → IsObjectRefused by made certificate value w
     build-refused Uri h = h
     build-refused Period h = h
     build-refused Doubled h = h
     build-refused Resources h = h
     build-refused TooLong h = λ x there can.
         h (subst (λ (o : BuiltObject). CanWriteObject o) (sym same)
-        (subst (λ (t : CertParts). CanWriteObject (built sha1 made certificate t value)) (one.only x there) can))
+        (subst (λ (t : CertParts). CanWriteObject (built by made certificate t value)) (one.only x there) can))
     build-refused (Rule r) h = h
     build-refused ContentType h = h
     build-refused Certificate h = absurd h

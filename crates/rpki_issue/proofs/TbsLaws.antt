@@ -1,19 +1,17 @@
 -- What is signed of a certificate is read back.
-use Rattle.std.proofs.Common.{◌≡◌, ◌<◌, ◌^◌, ℕ, true, false, List, [], ◌∷◌, ◌++◌, length, refl, sym, arith, lit<}
-use Rattle.rpki_der.specs.Prelude.{sequence, integer, tlv, IsOnly, sequence_legal, IsTag}
+use Rattle.std.proofs.Common.{◌<◌, ◌^◌, ℕ, true, false, List, ◌++◌, length, refl, arith, lit<}
+use Rattle.rpki_der.specs.Prelude.{sequence, integer, tlv, IsOnly, sequence_legal}
 use Rattle.rpki_der.proofs.EncodeLaws.{leaf-legal, tlv_at_most}
-use Rattle.rpki_time.specs.Time.{IsTimeYear}
 use Rattle.rpki_time.specs.Serial.{serial_octets}
-use Rattle.rpki_time.specs.TimeValue.{time_octets}
-use Rattle.rpki_time.specs.Validity.{Period, cut_period, AreTimeYears}
-use Rattle.rpki_time.specs.PeriodValue.{period_octets, IsPeriod, SpellsPeriod}
+use Rattle.rpki_time.specs.Validity.{AreTimeYears}
+use Rattle.rpki_time.specs.PeriodValue.{period_octets}
+use Rattle.rpki_time.proofs.PeriodReadingLaws.{period-spelled}
 use Rattle.rpki_time.proofs.SerialReadingLaws.{serial-spelled}
-use Rattle.rpki_time.proofs.TimeValueLaws.{time_spelled}
 use Rattle.rpki.specs.Oids.{sha256_with_rsa_encryption}
 use Rattle.rpki.specs.AlgorithmOctets.{algorithm_octets}
 use Rattle.rpki.specs.AlgorithmOctetsLaws.{algorithm-spelled}
 use Rattle.rpki.specs.Prelude.{SpellsNameOctets}
-use Rattle.rpki.specs.PublicKey.{KeyParts, key_octets, key_contents, IsShortKey, SpellsKey}
+use Rattle.rpki.specs.PublicKey.{key_octets, key_contents, IsShortKey, SpellsKey}
 use Rattle.rpki.specs.ExtensionValue.{ExtensionParts}
 use Rattle.rpki_x509.specs.TagLaws.{zero_legal, integer-legal}
 use Rattle.rpki_x509.proofs.WrittenLaws.{front-few, back-few, inside-few}
@@ -22,7 +20,7 @@ use Rattle.rpki_cert.specs.Cert.{AreFields}
 use Rattle.rpki_cert.specs.Cert.{extensions_tag, version_tag, two, two_value, fields_of}
 use Rattle.rpki_issue.specs.TagLaws.{three_legal}
 use Rattle.rpki_issue.specs.Tbs.{Issued, version_octets, extensions_octets, keyed_octets, named_octets, tbs_contents}
-use Rattle.rpki_issue.specs.Tbs.{tbs_octets, IsShortTbs, normal_tbs, IsTbsReadBack}
+use Rattle.rpki_issue.specs.Tbs.{tbs_octets, IsShortTbs, normal_tbs}
 
 version-few : length (tlv integer false two) < 2 ^ 32
 version-few = omega (arith, tlv_at_most integer false two)
@@ -31,19 +29,6 @@ version-spelled : SpellsVersion tt version_octets
 version-spelled =
     leaf-legal version_tag true two_value.spells tt (tlv integer false two) zero_legal version-few
     (leaf-legal integer false (IsOnly two) tt two integer-legal (lit< tt) refl)
-
-period-spelled : (p : Period) → AreTimeYears p → length (period_octets p) < 2 ^ 32
-    → SpellsPeriod (cut_period p) (period_octets p)
-period-spelled p years short =
-    leaf-legal sequence true IsPeriod (cut_period p) (time_octets p.not_before ++ time_octets p.not_after)
-    sequence_legal (inside-few sequence true (time_octets p.not_before ++ time_octets p.not_after) short)
-    (record {
-      start = time_octets p.not_before;
-      end = time_octets p.not_after;
-      parts = refl;
-      not_before = time_spelled p.not_before years.not_before;
-      not_after = time_spelled p.not_after years.not_after;
-    })
 
 -- ---- a length announces each part
 
@@ -59,9 +44,6 @@ module _ (x : Issued) (e : List ℕ) (short : IsShortTbs x e) where
 
   validity-short : length (period_octets x.validity ++ keyed_octets x e) < 2 ^ 32
   validity-short = back-few x.issuer (period_octets x.validity ++ keyed_octets x e) named-short
-
-  pub period-short : length (period_octets x.validity) < 2 ^ 32
-  period-short = front-few (period_octets x.validity) (keyed_octets x e) validity-short
 
   pub subject-short : length (key_octets x.key ++ extensions_octets e) < 2 ^ 32
   subject-short =
@@ -117,7 +99,7 @@ module _ (x : Issued) (e : List ℕ) (short : IsShortTbs x e) where
                   first = period_octets x.validity;
                   second = keyed_octets x e;
                   parts = refl;
-                  one = period-spelled x.validity years period-short;
+                  one = period-spelled x.validity years;
                   two = record {
                     first = x.subject;
                     second = key_octets x.key ++ extensions_octets e;

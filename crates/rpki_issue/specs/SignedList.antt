@@ -7,7 +7,7 @@ use Rattle.rpki_time.specs.TimeValue.{time_octets}
 use Rattle.rpki.specs.Oids.{sha256_with_rsa_encryption}
 use Rattle.rpki.specs.AlgorithmOctets.{algorithm_octets}
 use Rattle.rpki.specs.Prelude.{SpellsNameOctets}
-use Rattle.rpki.specs.Provider.{Check}
+use Rattle.rpki.specs.Provider.{Checkers}
 use Rattle.rpki.specs.PublicKey.{KeyParts}
 use Rattle.rpki_crl.specs.Crl.{Entry, ListParts, extensions, crl, crl_parts, listed}
 use Rattle.rpki_crl.specs.EncodedCrl.{version_2, AreEntries, extensions_octets, list_octets, normal_list, IsShortList}
@@ -85,6 +85,6 @@ IsListPlanRefused x BadSignature = ⊥
 IsListPlanRefused x OutOfMemory = Unit {0}
 
 -- the list of this signature, as it is written, is read as the normal form of the list that was to be signed
-pub record IsIssuedList (rsa ecdsa : Check) (key : KeyParts) (made : ListToSign) (value whole : List ℕ) : Type 0 where
-  pub signed : AreSigned rsa ecdsa key made.octets value whole
+pub record IsIssuedList (by : Checkers) (key : KeyParts) (made : ListToSign) (value whole : List ℕ) : Type 0 where
+  pub signed : AreSigned by key made.octets value whole
   pub read_back : crl.spells (crl_parts (signed_parts made.octets value) (normal_list made.list)) whole

@@ -1,7 +1,7 @@
 -- Signed objects that are to be signed, and that are signed (RFC 5652, RFC 6488).
 use Rattle.std.specs.Prelude.{◌≡◌, ℕ, Bool, List, None, Some}
 use Rattle.jiff.specs.Types.{DateTime}
-use Rattle.rpki.specs.Provider.{Check}
+use Rattle.rpki.specs.Provider.{Checkers}
 use Rattle.rpki_attributes.specs.SignedAttributes.{AttributeValues}
 use Rattle.rpki_attributes.specs.EncodedAttributes.{message_octets, CanWriteType, CanWriteAttributes, IsTimed}
 use Rattle.rpki_cert.specs.Cert.{CertParts, SpellsCert}
@@ -56,41 +56,40 @@ IsTypeRefused id BadSignature = ⊥
 IsTypeRefused id OutOfMemory = Unit {0}
 
 -- the object, by the key of this certificate
-abbrev pub built : (List ℕ → List ℕ) → ObjectToSign → List ℕ → CertParts → List ℕ → BuiltObject
-built sha1 made certificate cert value = record {
+abbrev pub built : Checkers → ObjectToSign → List ℕ → CertParts → List ℕ → BuiltObject
+built by made certificate cert value = record {
   attributes = made.attributes;
   content = made.content;
   certificate = certificate;
-  signer = sha1 cert.tbs.key.bits.octets;
+  signer = by.sha1 cert.tbs.key.bits.octets;
   signature = value;
 }
 
 -- The certificate is one, by whose key the signature is; the object is written with both, and read as this at each
 -- strictness.
-pub record IsIssuedObject (rsa ecdsa : Check) (sha1 : List ℕ → List ℕ) (made : ObjectToSign)
-    (certificate value whole : List ℕ) : Type 0 where
+pub record IsIssuedObject (by : Checkers) (made : ObjectToSign) (certificate value whole : List ℕ) : Type 0 where
   pub cert : CertParts
   pub spelled : SpellsCert cert certificate
-  pub verified : IsSignatureBy rsa ecdsa cert.tbs.key made.message value
-  pub written : whole ≡ object_octets (built sha1 made certificate cert value)
+  pub verified : IsSignatureBy by cert.tbs.key made.message value
+  pub written : whole ≡ object_octets (built by made certificate cert value)
   pub read_back : (strict : Bool)
-      → (signed_object strict).spells (object_fields_of (normal_object cert (built sha1 made certificate cert value)))
+      → (signed_object strict).spells (object_fields_of (normal_object cert (built by made certificate cert value)))
       whole
 
 -- they aren't: the certificate is none, the signature is not by its key, or the object can't be written
-abbrev pub IsObjectRefused : Check → Check → (List ℕ → List ℕ) → ObjectToSign → List ℕ → List ℕ → IssueError → Type 0
-IsObjectRefused rsa ecdsa sha1 made certificate value Uri = ⊥
-IsObjectRefused rsa ecdsa sha1 made certificate value Period = ⊥
-IsObjectRefused rsa ecdsa sha1 made certificate value Doubled = ⊥
-IsObjectRefused rsa ecdsa sha1 made certificate value Resources = ⊥
-IsObjectRefused rsa ecdsa sha1 made certificate value TooLong =
-    (x : CertParts) → SpellsCert x certificate → CanWriteObject (built sha1 made certificate x value) → ⊥
-IsObjectRefused rsa ecdsa sha1 made certificate value (Rule r) = ⊥
-IsObjectRefused rsa ecdsa sha1 made certificate value ContentType = ⊥
-IsObjectRefused rsa ecdsa sha1 made certificate value Certificate = (x : CertParts) → SpellsCert x certificate → ⊥
-IsObjectRefused rsa ecdsa sha1 made certificate value BadSignature =
-    (x : CertParts) → SpellsCert x certificate → IsSignatureBy rsa ecdsa x.tbs.key made.message value → ⊥
-IsObjectRefused rsa ecdsa sha1 made certificate value OutOfMemory = Unit {0}
+abbrev pub IsObjectRefused : Checkers → ObjectToSign → List ℕ → List ℕ → IssueError → Type 0
+IsObjectRefused by made certificate value Uri = ⊥
+IsObjectRefused by made certificate value Period = ⊥
+IsObjectRefused by made certificate value Doubled = ⊥
+IsObjectRefused by made certificate value Resources = ⊥
+IsObjectRefused by made certificate value TooLong =
+    (x : CertParts) → SpellsCert x certificate → CanWriteObject (built by made certificate x value) → ⊥
+IsObjectRefused by made certificate value (Rule r) = ⊥
+IsObjectRefused by made certificate value ContentType = ⊥
+IsObjectRefused by made certificate value Certificate = (x : CertParts) → SpellsCert x certificate → ⊥
+IsObjectRefused by made certificate value BadSignature =
+    (x : CertParts) → SpellsCert x certificate → IsSignatureBy by x.tbs.key made.message value → ⊥
+IsObjectRefused by made certificate value OutOfMemory = Unit {0}
 
 -- octets are no certificate
 abbrev pub IsCertRefused : List ℕ → IssueError → Type 0

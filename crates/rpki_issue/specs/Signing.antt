@@ -3,7 +3,7 @@ use Rattle.std.specs.Prelude.{◌≡◌, ℕ, Bool, true, List}
 use Rattle.rpki.specs.declared.crypto.keys.PublicKeyFormat.TheVariants.{Rsa}
 use Rattle.rpki.specs.Oids.{sha256_with_rsa_encryption}
 use Rattle.rpki.specs.AlgorithmOctets.{algorithm_octets}
-use Rattle.rpki.specs.Provider.{Check, VerifiesBy}
+use Rattle.rpki.specs.Provider.{Checkers, VerifiesBy}
 use Rattle.rpki.specs.PublicKey.{KeyParts}
 use Rattle.rpki.specs.Signature.{signature_of}
 use Rattle.rpki.specs.SignedData.{SignedParts, parts_of, written_signed, IsShortSigned}
@@ -39,28 +39,27 @@ abbrev pub IsShortWhole : List ℕ → List ℕ → Type 0
 IsShortWhole octets value = IsShortSigned written_algorithm (signed_parts octets value)
 
 -- the signature of the octets is by this key, as these checks say
-abbrev pub IsSignatureBy : Check → Check → KeyParts → List ℕ → List ℕ → Type 0
-IsSignatureBy rsa ecdsa key octets value =
-    VerifiesBy rsa ecdsa (λ (a : Bool). Rsa) key octets (signature_of true value)
+abbrev pub IsSignatureBy : Checkers → KeyParts → List ℕ → List ℕ → Type 0
+IsSignatureBy by key octets value = VerifiesBy by (λ (a : Bool). Rsa) key octets (signature_of true value)
 
 -- the octets are signed: a signature by the key, and both as they are written
-pub record AreSigned (rsa ecdsa : Check) (key : KeyParts) (octets value whole : List ℕ) : Type 0 where
-  pub verified : IsSignatureBy rsa ecdsa key octets value
+pub record AreSigned (by : Checkers) (key : KeyParts) (octets value whole : List ℕ) : Type 0 where
+  pub verified : IsSignatureBy by key octets value
   pub short : IsShortWhole octets value
   pub written : whole ≡ signed_whole octets value
 
 -- they aren't: the signature is another's, or no length announces all
-abbrev pub IsSigningRefusal : Check → Check → KeyParts → List ℕ → List ℕ → IssueError → Type 0
-IsSigningRefusal rsa ecdsa key octets value Uri = ⊥
-IsSigningRefusal rsa ecdsa key octets value Period = ⊥
-IsSigningRefusal rsa ecdsa key octets value Doubled = ⊥
-IsSigningRefusal rsa ecdsa key octets value Resources = ⊥
-IsSigningRefusal rsa ecdsa key octets value TooLong = IsShortWhole octets value → ⊥
-IsSigningRefusal rsa ecdsa key octets value (Rule r) = ⊥
-IsSigningRefusal rsa ecdsa key octets value ContentType = ⊥
-IsSigningRefusal rsa ecdsa key octets value Certificate = ⊥
-IsSigningRefusal rsa ecdsa key octets value BadSignature = IsSignatureBy rsa ecdsa key octets value → ⊥
-IsSigningRefusal rsa ecdsa key octets value OutOfMemory = Unit {0}
+abbrev pub IsSigningRefusal : Checkers → KeyParts → List ℕ → List ℕ → IssueError → Type 0
+IsSigningRefusal by key octets value Uri = ⊥
+IsSigningRefusal by key octets value Period = ⊥
+IsSigningRefusal by key octets value Doubled = ⊥
+IsSigningRefusal by key octets value Resources = ⊥
+IsSigningRefusal by key octets value TooLong = IsShortWhole octets value → ⊥
+IsSigningRefusal by key octets value (Rule r) = ⊥
+IsSigningRefusal by key octets value ContentType = ⊥
+IsSigningRefusal by key octets value Certificate = ⊥
+IsSigningRefusal by key octets value BadSignature = IsSignatureBy by key octets value → ⊥
+IsSigningRefusal by key octets value OutOfMemory = Unit {0}
 
 -- ---- certificates
 
@@ -111,6 +110,6 @@ IsPlanRefusal x e BadSignature = ⊥
 IsPlanRefusal x e OutOfMemory = Unit {0}
 
 -- the certificate of this signature, as it is written, is read as the certificate that was to be signed
-pub record IsIssuedCert (rsa ecdsa : Check) (key : KeyParts) (made : ToSign) (value whole : List ℕ) : Type 0 where
-  pub signed : AreSigned rsa ecdsa key made.octets value whole
+pub record IsIssuedCert (by : Checkers) (key : KeyParts) (made : ToSign) (value whole : List ℕ) : Type 0 where
+  pub signed : AreSigned by key made.octets value whole
   pub read_back : SpellsCert (cert_parts (signed_parts made.octets value) made.tbs) whole

@@ -1,6 +1,7 @@
 //! Both steps at once, by a signer: it holds the keys, and what it returns is verified.
 
 ghost use Rattle.std.specs.Prelude.{IfOk, IfErr};
+ghost use Rattle.rpki.specs.Checkers.{checkers_of};
 ghost use Rattle.rpki_issue.specs.Signers.{IsSignedCert, IsSignedList, IsSignedObject, IsSignerRefusal};
 ghost use Rattle.rpki_issue.specs.Signers.{IsObjectSignerRefusal};
 
@@ -44,9 +45,8 @@ impl UnsignedCert {
         key: &PublicKey,
         signer: &mut S,
     ) -> Result<Captured, SigningError<S::Error>>
-        ensures ok { IfOk result (λ c. IsSignedCert (P.rsa_of provider.now) (P.ecdsa_of provider.now) key.now self c) }
-        ensures err { IfErr result (λ e. IsSignerRefusal (P.rsa_of provider.now) (P.ecdsa_of provider.now) key.now
-            self.octets e) }
+        ensures ok { IfOk result (λ c. IsSignedCert (checkers_of P.Provider provider.now) key.now self c) }
+        ensures err { IfErr result (λ e. IsSignerRefusal (checkers_of P.Provider provider.now) key.now self.octets e) }
     {
         match signer.sign(self.message()) {
             Ok(signature) => match self.signed(alloc, provider, key, signature) {
@@ -69,9 +69,8 @@ impl UnsignedCrl {
         key: &PublicKey,
         signer: &mut S,
     ) -> Result<Captured, SigningError<S::Error>>
-        ensures ok { IfOk result (λ c. IsSignedList (P.rsa_of provider.now) (P.ecdsa_of provider.now) key.now self c) }
-        ensures err { IfErr result (λ e. IsSignerRefusal (P.rsa_of provider.now) (P.ecdsa_of provider.now) key.now
-            self.octets e) }
+        ensures ok { IfOk result (λ c. IsSignedList (checkers_of P.Provider provider.now) key.now self c) }
+        ensures err { IfErr result (λ e. IsSignerRefusal (checkers_of P.Provider provider.now) key.now self.octets e) }
     {
         match signer.sign(self.message()) {
             Ok(signature) => match self.signed(alloc, provider, key, signature) {
@@ -94,10 +93,10 @@ impl<'a> UnsignedObject<'a> {
         certificate: &Captured,
         signer: &mut S,
     ) -> Result<Captured, SigningError<S::Error>>
-        ensures ok { IfOk result (λ c. IsSignedObject (P.rsa_of provider.now) (P.ecdsa_of provider.now)
-            (P.sha1_of provider.now) self.entry certificate.now c) }
-        ensures err { IfErr result (λ e. IsObjectSignerRefusal (P.rsa_of provider.now) (P.ecdsa_of provider.now)
-            (P.sha1_of provider.now) self.entry certificate.now e) }
+        ensures ok { IfOk result (λ c. IsSignedObject (checkers_of P.Provider provider.now) self.entry certificate.now
+            c) }
+        ensures err { IfErr result (λ e. IsObjectSignerRefusal (checkers_of P.Provider provider.now) self.entry
+            certificate.now e) }
     {
         match signer.sign(self.message()) {
             Ok(signature) => match self.signed(alloc, provider, certificate, signature) {

@@ -2,6 +2,7 @@
 
 ghost use Rattle.std.specs.Prelude.{IfOk, IfErr};
 ghost use Rattle.rpki_der.specs.Prelude.{AreValues};
+ghost use Rattle.rpki.specs.Checkers.{checkers_of};
 ghost use Rattle.rpki_issue.specs.Signing.{AreSigned, IsSigningRefusal};
 
 use crate::error::IssueError;
@@ -23,10 +24,9 @@ pub(crate) fn sign<P: Provider>(
     signature: Bytes,
 ) -> Result<Captured, IssueError>
     requires { AreValues 1 octets }
-    ensures ok { IfOk result (λ c. AreSigned (P.rsa_of provider.now) (P.ecdsa_of provider.now) key.now octets signature
-        c) }
-    ensures err { IfErr result (λ e. IsSigningRefusal (P.rsa_of provider.now) (P.ecdsa_of provider.now) key.now octets
-        signature e) }
+    ensures ok { IfOk result (λ c. AreSigned (checkers_of P.Provider provider.now) key.now octets signature c) }
+    ensures err { IfErr result (λ e. IsSigningRefusal (checkers_of P.Provider provider.now) key.now octets signature
+        e) }
 {
     let signature = Signature::new(RpkiSignatureAlgorithm::default(), signature);
     let data = SignedData::<RpkiSignatureAlgorithm>::new(octets, signature);

@@ -1,6 +1,7 @@
 //! A certificate in two steps: what is to be signed, and then its signature (RFC 5280 4.1, RFC 6487 4).
 
 ghost use Rattle.std.specs.Prelude.{◌≡◌, true, IfOk, IfErr};
+ghost use Rattle.rpki.specs.Checkers.{checkers_of};
 ghost use Rattle.rpki_cert.specs.Cert.{TbsParts, SpellsTbs};
 ghost use Rattle.rpki_issue.specs.Tbs.{issued_of};
 ghost use Rattle.rpki_issue.specs.Signing.{IsProfileRefusal, IsReadAs, IsToSign, IsPlanRefusal};
@@ -120,10 +121,9 @@ impl UnsignedCert {
         signature: Bytes,
     ) -> Result<Captured, IssueError>
         // The octets are read as the certificate that was to be signed.
-        ensures ok { IfOk result (λ c. IsIssuedCert (P.rsa_of provider.now) (P.ecdsa_of provider.now) key.now self
-            signature c) }
-        ensures err { IfErr result (λ e. IsSigningRefusal (P.rsa_of provider.now) (P.ecdsa_of provider.now) key.now
-            self.octets signature e) }
+        ensures ok { IfOk result (λ c. IsIssuedCert (checkers_of P.Provider provider.now) key.now self signature c) }
+        ensures err { IfErr result (λ e. IsSigningRefusal (checkers_of P.Provider provider.now) key.now self.octets
+            signature e) }
     {
         sign(alloc, self.octets, provider, key, signature)
     }

@@ -1,6 +1,7 @@
 //! A revocation list in two steps: what is to be signed, and then its signature (RFC 5280 5.1, RFC 6487 5).
 
 ghost use Rattle.std.specs.Prelude.{◌≡◌, ◌↔◌, IsTrue, IfOk, IfErr};
+ghost use Rattle.rpki.specs.Checkers.{checkers_of};
 ghost use Rattle.rpki_crl.specs.Crl.{list_of};
 ghost use Rattle.rpki_issue.specs.Signing.{IsSigningRefusal};
 ghost use Rattle.rpki_issue.specs.SignedList.{IsListOrdered, IsListToSign, IsListPlanRefused, IsIssuedList};
@@ -93,10 +94,9 @@ impl UnsignedCrl {
         signature: Bytes,
     ) -> Result<Captured, IssueError>
         // The octets are read as the list that was to be signed.
-        ensures ok { IfOk result (λ c. IsIssuedList (P.rsa_of provider.now) (P.ecdsa_of provider.now) key.now self
-            signature c) }
-        ensures err { IfErr result (λ e. IsSigningRefusal (P.rsa_of provider.now) (P.ecdsa_of provider.now) key.now
-            self.octets signature e) }
+        ensures ok { IfOk result (λ c. IsIssuedList (checkers_of P.Provider provider.now) key.now self signature c) }
+        ensures err { IfErr result (λ e. IsSigningRefusal (checkers_of P.Provider provider.now) key.now self.octets
+            signature e) }
     {
         sign(alloc, self.octets, provider, key, signature)
     }

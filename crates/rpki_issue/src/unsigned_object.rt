@@ -2,6 +2,7 @@
 
 ghost use Rattle.std.specs.Prelude.{◌≡◌, IfOk, IfErr};
 ghost use Rattle.rpki_attributes.specs.SignedAttributes.{values_known};
+ghost use Rattle.rpki.specs.Checkers.{checkers_of};
 ghost use Rattle.rpki_objects.specs.EncodedObject.{built_of, object_octets, IsObjectReadBack};
 ghost use Rattle.rpki_issue.specs.SignedObjects.{said_of, IsMessageOf, IsObjectToSign, IsTypeRefused, IsIssuedObject};
 ghost use Rattle.rpki_issue.specs.SignedObjects.{IsObjectRefused, IsCertRefused, IsOnlyCert, IsBuildRefused};
@@ -150,10 +151,10 @@ impl<'a> UnsignedObject<'a> {
         signature: Bytes,
     ) -> Result<Captured, IssueError>
         // The octets are read as the object.
-        ensures ok { IfOk result (λ c. IsIssuedObject (P.rsa_of provider.now) (P.ecdsa_of provider.now)
-            (P.sha1_of provider.now) self.entry certificate.now signature c) }
-        ensures err { IfErr result (λ e. IsObjectRefused (P.rsa_of provider.now) (P.ecdsa_of provider.now)
-            (P.sha1_of provider.now) self.entry certificate.now signature e) }
+        ensures ok { IfOk result (λ c. IsIssuedObject (checkers_of P.Provider provider.now) self.entry certificate.now
+            signature c) }
+        ensures err { IfErr result (λ e. IsObjectRefused (checkers_of P.Provider provider.now) self.entry
+            certificate.now signature e) }
     {
         let cert = match read_certificate(alloc, certificate) {
             Ok(cert) => cert,

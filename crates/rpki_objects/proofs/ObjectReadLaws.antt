@@ -3,13 +3,11 @@ use Rattle.std.proofs.Common.{◌≡◌, ℕ, Bool, true, false, List, [], ◌�
 use Rattle.std.proofs.Common.{subst}
 use Rattle.std.proofs.Common.{inl, sym, ap, Result, Ok, Err}
 use Rattle.rpki_der.specs.declared.error.DecodeError.{DecodeError}
-use Rattle.rpki_der.specs.declared.error.DecodeError.TheVariants.{Truncated, BadTag, BadLength, Unexpected, Content}
-use Rattle.rpki_der.specs.declared.error.DecodeError.TheVariants.{Trailing, OutOfMemory}
 use Rattle.rpki_der.specs.Prelude.{sequence, set, oid, integer, octet_string, tlv, then, only, any_oid, kept, this_oid}
 use Rattle.rpki_der.specs.Prelude.{this_number, IsNumber, IsUnsigned, IsOidOf, IsOnly, sequence_legal, set_legal}
-use Rattle.rpki_der.specs.Prelude.{octet_string_legal, UnlessMemory, TakesWhole}
+use Rattle.rpki_der.specs.Prelude.{octet_string_legal, TakesWhole}
 use Rattle.rpki_der.proofs.EncodeLaws.{leaf-legal, tlv-legal}
-use Rattle.rpki_der.proofs.ReadingLaws.{UnlessMemory-weaker}
+use Rattle.rpki_der.proofs.ReadingLaws.{only-memory}
 use Rattle.rpki_time.specs.Serial.{serial_contents, contents_within}
 use Rattle.rpki_time.proofs.WritingLaws.{serial_contents-are}
 use Rattle.rpki.specs.Oids.{rsa_encryption}
@@ -146,15 +144,6 @@ object-back x h = λ strict cert spelled timed. object-read x h strict timed cer
 
 -- ---- decoded again
 
-only-memory : (e : DecodeError) → UnlessMemory e ⊥ → e ≡ OutOfMemory
-only-memory Truncated h = absurd h
-only-memory BadTag h = absurd h
-only-memory BadLength h = absurd h
-only-memory Unexpected h = absurd h
-only-memory (Content e) h = absurd h
-only-memory Trailing h = absurd h
-only-memory OutOfMemory h = refl
-
 -- an object, by its fields
 object-with : ObjectFields → ObjectParts
 object-with f = record {
@@ -177,4 +166,4 @@ decoded-back x strict octets (Ok o) d = λ cert h spelled timed is.
 decoded-back x strict octets (Err e) d = λ cert h spelled timed is.
     let whole = object_fields_of (normal_object cert x) in
     let read = subst ((signed_object strict).spells whole) (sym is) (object-back x h strict cert spelled timed) in
-    only-memory e (UnlessMemory-weaker e (λ none. none whole read) d.0)
+    only-memory e d.0 (λ none. none whole read)

@@ -1,9 +1,7 @@
 -- Leaves: where contents are decided as a relation says, the function finds what readers by that relation do.
 use Rattle.std.proofs.Common.{◌≡◌, ℕ, zero, suc, subst, Bool, false, List, [], ◌∷◌, ◌++◌, length, refl, sym, ap, ◌∙◌}
-use Rattle.std.proofs.Common.{arith, Result, Ok, Err, Option, Some, None}
+use Rattle.std.proofs.Common.{arith, Result, Ok, Err, Option, Some, None, inl, inr}
 use Rattle.rpki_der.specs.declared.error.DecodeError.{DecodeError}
-use Rattle.rpki_der.specs.declared.error.DecodeError.TheVariants.{Truncated, BadTag, BadLength, Unexpected, Content}
-use Rattle.rpki_der.specs.declared.error.DecodeError.TheVariants.{Trailing, OutOfMemory}
 use Rattle.rpki_der.specs.Error.{error_number}
 use Rattle.rpki_der.specs.TagName.{TagName}
 use Rattle.rpki_der.specs.Header.{header_octets}
@@ -11,9 +9,10 @@ use Rattle.rpki_der.specs.Reading.{Spells}
 use Rattle.rpki_der.specs.Values.{SpellsContents, IsLeafFault, ReadsLeaf}
 use Rattle.rpki_der.proofs.StepLaws.{IsBytes}
 use Rattle.rpki_der.proofs.LeafValueLaws.{leaf-shorter}
+use Rattle.rpki_der.proofs.FaultKindLaws.{head-of, leaf-parts}
 use Rattle.rpki_parse.specs.Words.{Moves, parsed}
 use Rattle.rpki_parse.specs.Leaf.{leaf_at}
-use Rattle.rpki_parse.proofs.ValueLaws.{head-of, value-read, value-failed}
+use Rattle.rpki_parse.proofs.ValueLaws.{value-read, value-failed}
 
 -- contents are decided as the relation says
 pub record Decides {V : Type 0} (C : V → List ℕ → Type 0) (d : List ℕ → Option V) : Type 0 where
@@ -45,15 +44,14 @@ none-of C c (Some v) k none = absurd (none v (k v refl))
 leaf-failed : {V : Type 0} (t : TagName) (C : V → List ℕ → Type 0) (d : List ℕ → Option V) (s : List ℕ)
     (e : DecodeError) → Decides C d → IsBytes s → IsLeafFault t false C s e → leaf_at t d s ≡ Err (error_number e)
 unfolding leaf_at
-leaf-failed t C d s Truncated ds bytes h = rw (value-failed t false s Truncated bytes h) refl
-leaf-failed t C d s BadTag ds bytes h = rw (value-failed t false s BadTag bytes h) refl
-leaf-failed t C d s BadLength ds bytes h = rw (value-failed t false s BadLength bytes h) refl
-leaf-failed t C d s Unexpected ds bytes h = rw (value-failed t false s Unexpected bytes h) refl
-leaf-failed t C d s (Content x) ds bytes (c, r, sp, none) =
-    let octets = contents-bytes t false s c r bytes sp in
-    rw (value-read t false s c r sp, none-of C c (d c) (λ v e. ds.sound v c octets e) none) refl
-leaf-failed t C d s Trailing ds bytes h = absurd h
-leaf-failed t C d s OutOfMemory ds bytes h = absurd h
+leaf-failed t C d s e ds bytes h =
+    elim (leaf-parts t false C s e h) [
+      | inl wrong ↦ rw (value-failed t false s e bytes wrong) refl
+      | inr (x, is, there) ↦
+          let (c, r, sp, none) = subst (IsLeafFault t false C s) is h in
+          let octets = contents-bytes t false s c r bytes sp in
+          rw (value-read t false s c r sp, none-of C c (d c) (λ v e. ds.sound v c octets e) none, is) refl
+    ]
 
 pub leaf_law : {X V : Type 0} (view : X → V) (t : TagName) (C : V → List ℕ → Type 0) (d : List ℕ → Option V)
     (s r : List ℕ) (x : Result X DecodeError)

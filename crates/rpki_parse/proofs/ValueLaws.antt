@@ -1,90 +1,28 @@
 -- A value, a tag in front and the end of the rest: the functions find what the relations of rpki_der say.
-use Rattle.std.proofs.Common.{◌≡◌, ◌≢◌, ℕ, ◌⊎◌, ◌<◌, ◌≤◌, Bool, true, false}
+use Rattle.std.proofs.Common.{◌≡◌, ◌≢◌, ℕ, ◌≤◌, Bool, true, false}
 use Rattle.std.proofs.Common.{List, [], ◌∷◌, ◌++◌, length, refl, sym, ap, ◌∙◌}
 use Rattle.std.proofs.Common.{inl, inr, arith, Result, Ok, Err, length-append, ◌&&◌, IsTrue}
 use Rattle.std.specs.Prelude.{◌↔◌, MatchResult}
-use Rattle.std.proofs.lemmas.List.{append-nil}
 use Rattle.std.proofs.lemmas.Bool.{false≢true, false_from_ne_true, eq-eqb, eqb-true, le-ltb, lt-ltb}
 use Rattle.std.proofs.Math.Seq.{take-append_seam, drop-append_seam}
 use Rattle.rpki_der.specs.declared.error.DecodeError.{DecodeError}
-use Rattle.rpki_der.specs.declared.error.DecodeError.TheVariants.{Truncated, BadTag, BadLength, Unexpected, Content}
-use Rattle.rpki_der.specs.declared.error.DecodeError.TheVariants.{Trailing, OutOfMemory}
+use Rattle.rpki_der.specs.declared.error.DecodeError.TheVariants.{Trailing}
 use Rattle.rpki_der.specs.declared.tag.Class.{Class}
 use Rattle.rpki_der.specs.declared.tag.Header.{Header}
 use Rattle.rpki_der.specs.Error.{error_number}
 use Rattle.rpki_der.specs.TagName.{TagName}
-use Rattle.rpki_der.specs.Header.{IsHeader, header_octets, identifier_octets, class_number}
+use Rattle.rpki_der.specs.Header.{identifier_octets, class_number}
 use Rattle.rpki_der.specs.HeaderReading.{header_at, class_at, identifier_at}
-use Rattle.rpki_der.specs.Reading.{Spells, Reads, IsCut}
-use Rattle.rpki_der.specs.Values.{SpellsHeader, SpellsContents, IsHeaderFault, IsContentsFault, HasTag}
+use Rattle.rpki_der.specs.Reading.{Spells, Reads}
+use Rattle.rpki_der.specs.Values.{SpellsContents, IsContentsFault, HasTag}
 use Rattle.rpki_der.proofs.StepLaws.{IsBytes}
 use Rattle.rpki_der.proofs.IdentifierLaws.{class-again, identifier-takes}
 use Rattle.rpki_der.proofs.HeaderReadingLaws.{read-from, fault-is, identifier-from}
 use Rattle.rpki_der.proofs.ValuesLaws.{value-header}
-use Rattle.rpki_der.proofs.HeaderFaultLaws.{beginnings}
+use Rattle.rpki_der.proofs.FaultKindLaws.{head-of, Named, sort-out}
 use Rattle.rpki_der.proofs.LeafValueLaws.{contents-shorter}
 use Rattle.rpki_parse.specs.Words.{Moves, parsed, kinds}
 use Rattle.rpki_parse.specs.Value.{value_at, has_header, same_bool, is_tag, tagged, tag_of_result, ended}
-
-abbrev pub head-of : TagName → Bool → ℕ → Header
-head-of t f n = record { tag = t; constructed = f; length = n }
-
--- what the kind says of the header in front, and of what follows it
-abbrev Says : (Header → Type 0) → Header → List ℕ → DecodeError → Type 0
-Says P h r e = ((e ≡ Truncated) × P h × (length r < h.length)) ⊎ ((e ≡ Unexpected) × (P h → ⊥))
-
-abbrev AtHeader : (Header → Type 0) → List ℕ → DecodeError → Type 0
-AtHeader P s e = (h : Header) × (r : List ℕ) × Spells SpellsHeader s h r × Says P h r e
-
--- a cut value is a cut header, or begins with the value's header and lacks contents
-cut-parts : (t : TagName) (f : Bool) (s c : List ℕ) (b : ℕ) (more : List ℕ) → SpellsContents t f c (s ++ b ∷ more)
-    → IsCut SpellsHeader s ⊎ ((r : List ℕ) × Spells SpellsHeader s (head-of t f (length c)) r × (length r < length c))
-cut-parts t f s c b more g =
-    let h = head-of t f (length c) in
-    let legal : IsHeader h = record { tag = g.tag; length = g.fits } in
-    let whole : s ++ b ∷ more ≡ header_octets h ++ c = g.octets in
-    let sizes : length (s ++ b ∷ more) ≡ length (header_octets h ++ c) = ap length whole in
-    let left = length-append s (b ∷ more) in
-    let right = length-append (header_octets h) c in
-    elim (beginnings s (b ∷ more) (header_octets h) c whole) [
-      | inl (x ∷ xs, is) ↦ inl (h, x, xs, record { legal = legal; octets = sym is })
-      | inl ([], is) ↦
-          let same : s ≡ header_octets h = sym (append-nil s) ∙ sym is in
-          let long : length s ≡ length (header_octets h) = ap length same in
-          inr (
-            [],
-            record { front = s; parts = sym (append-nil s); spelled = record { legal = legal; octets = same } },
-            omega arith,
-          )
-      | inr (x, is) ↦
-          let long : length s ≡ length (header_octets h ++ x) = ap length is in
-          let following = length-append (header_octets h) x in
-          inr (
-            x,
-            record { front = header_octets h; parts = is; spelled = record { legal = legal; octets = refl } },
-            omega arith,
-          )
-    ]
-
-abbrev Named : TagName → Bool → Header → Type 0
-Named t f h = (h.tag ≡ t) × (h.constructed ≡ f)
-
-sort-out : (t : TagName) (f : Bool) (s : List ℕ) (e : DecodeError) → IsContentsFault t f s e
-    → IsHeaderFault s e ⊎ AtHeader (Named t f) s e
-sort-out t f s Truncated p =
-    elim p [
-      | inl cut ↦ inl cut
-      | inr (c, b, more, g) ↦ elim (cut-parts t f s c b more g) [
-        | inl cut ↦ inl cut
-        | inr (r, sp, short) ↦ inr (head-of t f (length c), r, sp, inl (refl, (refl, refl), short))
-      ]
-    ]
-sort-out t f s BadTag p = inl p
-sort-out t f s BadLength p = inl p
-sort-out t f s Unexpected (h, r, sp, ne) = inr (h, r, sp, inr (refl, ne))
-sort-out t f s (Content x) p = absurd p
-sort-out t f s Trailing p = absurd p
-sort-out t f s OutOfMemory p = absurd p
 
 -- ---- the test of a header
 

@@ -53,11 +53,6 @@ module _ {X : Type 0} (all rest following : List X) (first : X) (P : X → Type 
       on : One (first ∷ following) P → One following P
       on o = by o.0 o.2 (cons-cases first following o.0 o.1)
 
-  -- the first is one
-  pub is-first : IsLeft all rest P → rest ≡ first ∷ following → P first → One all P
-  is-first left is p =
-      left.1 (subst (λ r. One r P) (sym is) (first, head-in first following, p))
-
 -- none remains
 pub none-left : {X : Type 0} (all rest : List X) (P : X → Type 0) → IsLeft all rest P → rest ≡ [] → One all P → ⊥
 none-left all rest P left is o =

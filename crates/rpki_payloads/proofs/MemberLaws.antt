@@ -2,10 +2,6 @@
 use Rattle.std.proofs.Common.{◌≡◌, ℕ, List, [], ◌∷◌, length, map, ap, refl, subst, sym}
 use Rattle.std.specs.Prelude.{Some, String, option_and_then, suc}
 use Rattle.std.specs.declared.alloc.Global.{Global}
-use Rattle.rpki_der.specs.Prelude.{UnlessMemory}
-use Rattle.rpki_der.specs.declared.error.DecodeError.{DecodeError}
-use Rattle.rpki_der.specs.declared.error.DecodeError.TheVariants.{Truncated, BadTag, BadLength, Unexpected, Content}
-use Rattle.rpki_der.specs.declared.error.DecodeError.TheVariants.{Trailing, OutOfMemory}
 use Rattle.serde_json.specs.Data.{Data}
 use Rattle.serde_json.specs.Find.{as_array, get}
 use Rattle.serde_json.specs.View.{items_view, members_view, view}
@@ -35,13 +31,3 @@ listed {X} name R d values seen xs same there each = (
   sym there,
   each-map view R values xs (subst (λ (vs : List Value). AreEach (λ v. R (view v)) vs xs) same each),
 )
-
--- a fact for each error but allocation failure
-pub unless-memory : (e : DecodeError) {P : Type 0} → (e ≡ OutOfMemory → ⊥) → UnlessMemory e P → P
-unless-memory Truncated other h = h
-unless-memory BadTag other h = h
-unless-memory BadLength other h = h
-unless-memory Unexpected other h = h
-unless-memory (Content e) other h = h
-unless-memory Trailing other h = h
-unless-memory OutOfMemory other h = absurd (other refl)

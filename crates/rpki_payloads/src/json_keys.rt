@@ -7,7 +7,7 @@ ghost use Rattle.rpki_payloads.specs.Json.{json_range};
 
 use crate::json_form::push_name;
 use crate::router_key::RouterKey;
-use rpki_text::util::base_64::Slurm;
+use rpki_text::util::base64::Slurm;
 use std::alloc::{AllocError, Global};
 
 /// The member with an AS number, at the beginning of an object.

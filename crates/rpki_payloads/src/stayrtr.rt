@@ -15,7 +15,7 @@ use crate::router_key::RouterKey;
 use crate::timed::TimedVrp;
 use crate::vap::Vap;
 use rpki::repository::x509::Time;
-use rpki_text::util::base_64::Serde;
+use rpki_text::util::base64::Serde;
 use std::alloc::{AllocError, Global};
 
 /// The beginning of an object, after a comma: its first member, an AS number.

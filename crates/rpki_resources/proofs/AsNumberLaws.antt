@@ -2,13 +2,13 @@
 use Rattle.std.proofs.Common.{◌≡◌, ◌≤◌, ◌<◌, ◌^◌, ℕ, List, false, arith}
 use Rattle.rpki_der.specs.declared.error.DecodeError.{DecodeError}
 use Rattle.rpki_der.specs.declared.error.ContentError.{ContentError}
-use Rattle.rpki_der.specs.declared.error.DecodeError.TheVariants.{Truncated, BadTag, BadLength, Unexpected, Content}
-use Rattle.rpki_der.specs.declared.error.DecodeError.TheVariants.{Trailing, OutOfMemory}
+use Rattle.rpki_der.specs.declared.error.DecodeError.TheVariants.{Content}
 use Rattle.rpki_der.specs.TagName.{integer}
 use Rattle.rpki_der.specs.Reading.{Spells, Accepts, Refusal}
 use Rattle.rpki_der.specs.Values.{SpellsLeaf, IsLeafFault}
 use Rattle.rpki_der.specs.Integer.{IsUnsignedBelow}
 use Rattle.rpki_der.proofs.ReadingLaws.{UnlessMemory-weaker}
+use Rattle.rpki_der.proofs.LeavesLaws.{other-contents}
 use Rattle.rpki_resources.specs.AsNumber.{as_number}
 
 abbrev Large : ℕ → List ℕ → Type 0
@@ -44,22 +44,14 @@ number-accepted s r n small a = record {
   only = λ m q h. a.only m q (as-large s m q h);
 }
 
-kind : (s : List ℕ) (e : DecodeError) → IsLeafFault integer false (IsUnsignedBelow (2 ^ 64)) s e → as_number.fault s e
-kind s Truncated h = h
-kind s BadTag h = h
-kind s BadLength h = h
-kind s Unexpected h = h
-kind s (Content x) h = (h.0, h.1, h.2, λ n k. h.3 n (larger n h.0 k))
-kind s Trailing h = h
-kind s OutOfMemory h = h
-
 pub number-refused : (s q r : List ℕ) (e : DecodeError) → r ≡ s
     → Refusal Large (IsLeafFault integer false (IsUnsignedBelow (2 ^ 64))) s q e
     → Refusal as_number.spells as_number.fault s r e
 number-refused s q r e same h = record {
   unchanged = same;
   refuses = UnlessMemory-weaker e (λ none n p k. none n p (as-large s n p k)) h.refuses;
-  kind = kind s e h.kind;
+  kind = other-contents integer false (IsUnsignedBelow (2 ^ 64)) (IsUnsignedBelow (2 ^ 32)) s e
+      (λ n c k. (n, larger n c k)) h.kind;
 }
 
 pub number-too-large : (s q r : List ℕ) (n : ℕ) (x : ContentError) → 2 ^ 32 ≤ n → r ≡ s → Accepts Large s n q

@@ -1,6 +1,6 @@
 -- Sets of numbers, as lists of blocks.
 use Rattle.std.proofs.Common.{◌≡◌, ◌≤◌, ◌<◌, ◌⊎◌, ◌↔◌, ℕ, zero, suc, List, [], ◌∷◌, inl, inr, refl, sym, ap, ◌∙◌, subst}
-use Rattle.std.proofs.Common.{length, arith}
+use Rattle.std.proofs.Common.{length, arith, ◌++◌}
 use Rattle.rpki_resources.specs.declared.block.Block.{Block}
 use Rattle.rpki_resources.specs.Blocks.{IsAmong, IsSubset, IsPast, AreCanonical}
 
@@ -124,6 +124,54 @@ outer-passed p w xs ys ws bs a b ex ey same cx cy h =
     let is : IsSubset p w ↔ IsSubset (b ∷ bs) ws =
     through (opened p w xs ys ws bs a b ex ey same) (drop-outer a b ws bs h cb) in
     (ca.2, subst (λ (zs : List Block). IsSubset p w ↔ IsSubset zs ws) (sym ex) is)
+
+-- a block ends before those after it
+before : (a b : Block) (front rest : List Block) → AreCanonical (a ∷ (front ++ b ∷ rest)) → a.high < b.high
+before a b [] rest c =
+    let gap : suc a.high < b.low = c.1 in
+    let full : b.low ≤ b.high = c.2.0 in
+    omega arith
+before a b (x ∷ front) rest c =
+    let further : x.high < b.high = before x b front rest c.2 in
+    let gap : suc a.high < x.low = c.1 in
+    let full : x.low ≤ x.high = c.2.0 in
+    omega arith
+
+-- where a block ends below a number, numbers from that one on aren't among it or those in front
+pub passed-many : (front : List Block) (b : Block) (rest : List Block) (number : ℕ) → AreCanonical (front ++ b ∷ rest)
+    → b.high < number → AreCanonical rest × ((n : ℕ) → number ≤ n → IsAmong n (front ++ b ∷ rest) ↔ IsAmong n rest)
+passed-many [] b rest number c h = (
+  c.2,
+  λ n from. (λ m. elim m [ inl i ↦ absurd (omega arith) | inr r ↦ r ], λ m. inr m),
+)
+passed-many (a ∷ front) b rest number c h =
+    let later = passed-many front b rest number c.2 h in
+    let ends : a.high < b.high = before a b front rest c in (
+      later.0,
+      λ n from. (
+        λ m. elim m [ inl i ↦ absurd (omega arith) | inr r ↦ (later.1 n from).0 r ],
+        λ m. inr ((later.1 n from).1 m),
+      ),
+    )
+
+-- the same of a list that is halved
+pub halves-passed : (bs front back others : List Block) (b : Block) (number : ℕ) → bs ≡ front ++ back
+    → back ≡ b ∷ others → AreCanonical bs → b.high < number
+    → AreCanonical others × ((n : ℕ) → number ≤ n → IsAmong n bs ↔ IsAmong n others)
+halves-passed bs front back others b number is first c h =
+    let e : bs ≡ front ++ b ∷ others = is ∙ ap (λ (l : List Block). front ++ l) first in
+    let passed = passed-many front b others number (subst AreCanonical e c) h in
+    (passed.0, subst (λ (l : List Block). (n : ℕ) → number ≤ n → IsAmong n l ↔ IsAmong n others) (sym e) passed.1)
+
+-- blocks in which the numbers from the first inner one on are the same say the same
+pub outers-passed : (p w xs ws zs bs : List Block) (b : Block) → xs ≡ b ∷ bs → IsSubset p w ↔ IsSubset xs ws
+    → AreCanonical xs → ((n : ℕ) → b.low ≤ n → IsAmong n ws ↔ IsAmong n zs) → IsSubset p w ↔ IsSubset xs zs
+outers-passed p w xs ws zs bs b ex same cx is = through same (
+  λ f n m. (is n (from n m)).0 (f n m),
+  λ f n m. (is n (from n m)).1 (f n m),
+) where
+  from : (n : ℕ) → IsAmong n xs → b.low ≤ n
+  from n m = among-from n b bs (subst AreCanonical ex cx) (subst (IsAmong n) ex m)
 
 pub inner-passed : (p w xs ys ws bs : List Block) (a b : Block) → xs ≡ b ∷ bs → ys ≡ a ∷ ws
     → IsSubset p w ↔ IsSubset xs ys

@@ -1,6 +1,7 @@
 //! Sets of numbers.
 
-ghost use Rattle.std.specs.Prelude.{◌≡◌, ◌≢◌, ◌≤◌, ◌↔◌, List, [], ◌∷◌, IsTrue, IfSome, IfNone, IfOk, IfErr};
+ghost use Rattle.std.specs.Prelude.{◌≡◌, ◌≢◌, ◌≤◌, ◌↔◌, ℕ, List, [], ◌∷◌, length, IsTrue, IfSome};
+ghost use Rattle.std.specs.Prelude.{IfNone, IfOk, IfErr};
 ghost use Rattle.rpki_resources.specs.declared.block.Block.{Block};
 ghost use Rattle.rpki_resources.specs.Blocks.{IsAmong, IsSubset, AreCanonical, AreNumbersOf, AreShared, AreUnited};
 ghost use Rattle.rpki_resources.specs.Blocks.{AreLacking};
@@ -40,7 +41,35 @@ pub type IpBlocks = Blocks;
 /// A set of AS numbers (RFC 3779 3.2.3.3).
 pub type AsBlocks = Blocks;
 
-/// Whether each number of some blocks is in others. It goes over both once.
+/// The blocks from the first that doesn't end below the number, of which it looks at the first, and at the logarithm of
+/// their count.
+fn from_number(blocks: &[Block], number: u128) -> &[Block]
+    requires { AreCanonical blocks.now }
+    ensures canonical { AreCanonical result.now }
+    ensures few { length result.now ≤ length blocks.now }
+    ensures same { (n : ℕ) → number ≤ n → IsAmong n blocks.now ↔ IsAmong n result.now }
+{
+    match blocks.split_first() {
+        Some((first, _)) if first.high < number => {}
+        _ => return blocks,
+    }
+    let mut rest = blocks;
+    let mut few = blocks.len();
+    'halves: while few > 0 {
+        let half = few / 2;
+        few = match rest.split_at(half).1.split_first() {
+            Some((block, others)) if block.high < number => {
+                rest = others;
+                few - half - 1
+            }
+            _ => half,
+        };
+    }
+    rest
+}
+
+/// Whether each number of some blocks is in others. It takes a step for each of the former, and another for each time
+/// that the others are searched on, by halves.
 fn is_part(part: &[Block], whole: &[Block]) -> bool
     requires part { AreCanonical part.now }
     requires whole { AreCanonical whole.now }
@@ -52,7 +81,7 @@ fn is_part(part: &[Block], whole: &[Block]) -> bool
         match outers.split_first() {
             Some((outer, others)) => {
                 if outer.high < inner.low {
-                    outers = others;
+                    outers = from_number(others, inner.low);
                 } else if inner.low < outer.low {
                     return false;
                 } else if outer.high < inner.high {
@@ -150,14 +179,15 @@ impl Blocks {
         is_among(number, self.as_slice())
     }
 
-    /// Whether each number of the other set is in this one. It goes over the blocks of both once.
+    /// Whether each number of the other set is in this one. It goes over the blocks of the other, and searches this one
+    /// by halves.
     pub fn encompasses(&self, other: &Blocks) -> bool
         ensures { IsTrue result ↔ IsSubset other.now self.now }
     {
         is_part(other.as_slice(), self.as_slice())
     }
 
-    /// Whether each number of the block is in the set.
+    /// Whether each number of the block is in the set, which is searched by halves.
     pub fn contains_block(&self, block: Block) -> bool
         requires { block.low ≤ block.high }
         ensures { IsTrue result ↔ IsSubset (block ∷ []) self.now }

@@ -6,7 +6,7 @@
 -- `join`, `parent`, `relative_to`: JoinLaws, JoinedLaws, ParentLaws, ParentEndLaws, BelowLaws.
 -- That `join` is undone: BackLaws, RelativeLaws, MeaningLaws.
 -- Equality and laws; https: EqualLaws, EqBytesLaws, ModuleLaws, LawLaws, HttpsPartLaws, HttpsLaws, HttpsParentEndLaws.
--- Digits: HexLaws, Base64Laws, WhiteSpaceLaws.
+-- Digits: HexLaws.
 
 pub mod SegmentLaws
 pub mod OrdinaryLaws
@@ -27,8 +27,6 @@ pub mod ModuleLaws
 pub mod EqBytesLaws
 pub mod HttpsPartLaws
 pub mod HexLaws
-pub mod Base64Laws
-pub mod WhiteSpaceLaws
 pub mod HttpsLaws
 pub mod HttpsParentEndLaws
 pub mod CaseLaws

@@ -9,6 +9,7 @@ use Rattle.std.proofs.lemmas.List.{take-append-drop, append_assoc, append-nil, l
 use Rattle.std.proofs.lemmas.List.{length-take-le, take-append-le, take_all}
 use Rattle.std.proofs.lemmas.List.Folds.{list_all-append}
 use Rattle.std.proofs.lemmas.Slice.Eq.{bytes_eq-Decides}
+use Rattle.std.proofs.lemmas.Bool.{false_from_ne_true}
 use Rattle.std.proofs.lemmas.Bool.Decides.{nat_tests}
 use Rattle.std.proofs.Math.Seq.{take-append_seam}
 use Rattle.rpki_text.specs.declared.uri.error.Error.TheVariants.{LongUri}
@@ -26,7 +27,7 @@ use Rattle.rpki_text.proofs.JoinLaws.{join-refuses-length, join-refuses-nothing}
 use Rattle.rpki_text.proofs.BelowLaws.{strip_prefix-is}
 use Rattle.rpki_text.proofs.ParentLaws.{path_text-some}
 use Rattle.rpki_text.proofs.BackLaws.{WayParts, way-parts, joined-relative}
-use Rattle.rpki_text.proofs.TextLaws.{length-lowercase, false-unless}
+use Rattle.rpki_text.proofs.TextLaws.{length-lowercase}
 
 -- ---- join
 
@@ -225,7 +226,7 @@ parent-transitive u v w h k =
 
 names-differ : (us vs : List (List ℕ)) → strip_prefix us vs ≡ None → pointwise bytes_eq us vs ≡ false
 names-differ us vs h =
-    false-unless _ (λ e. let same : us ≡ vs = (pointwise_decides bytes_eq-Decides us vs).0 e in
+    false_from_ne_true _ (λ e. let same : us ≡ vs = (pointwise_decides bytes_eq-Decides us vs).0 e in
     let some : strip_prefix us vs ≡ Some [] = ap (λ w. strip_prefix w vs) (same ∙ sym (append-nil vs)) ∙
     strip_prefix-append vs [] in cc)
 
@@ -237,7 +238,7 @@ names-test us vs [] d p s h e =
 names-test us vs (n ∷ ns) d p s h e =
     let some : 0 < length p = rw e (path_text-some n ns d h) in
     let size : length us ≡ length vs + length (n ∷ ns) = ap length s ∙ length-append vs (n ∷ ns) in
-    let other : pointwise bytes_eq us vs ≡ false = false-unless _
+    let other : pointwise bytes_eq us vs ≡ false = false_from_ne_true _
     (λ k. let same : length us ≡ length vs = ap length ((pointwise_decides bytes_eq-Decides us vs).0 k) in omega arith)
     in
     let filled : (length p == 0) ≡ false = grind (arith, nat_tests) in

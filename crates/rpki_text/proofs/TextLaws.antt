@@ -1,15 +1,12 @@
 -- Texts that are the same but for the case of letters in their front.
-use Rattle.std.proofs.Common.{◌≡◌, ℕ, ◌+◌, Bool, true, false, List, length, take, drop, bytes_eq, sym, refl, ap, ◌∙◌}
+use Rattle.std.proofs.Common.{◌≡◌, ℕ, ◌+◌, true, false, List, length, take, drop, bytes_eq, sym, refl, ap, ◌∙◌}
 use Rattle.std.proofs.Common.{arith}
 use Rattle.std.proofs.lemmas.List.{take-append-drop, length-append, length-map}
+use Rattle.std.proofs.lemmas.Bool.{false_from_ne_true}
 use Rattle.std.proofs.lemmas.Slice.Eq.{bytes_eq-Decides}
 use Rattle.std.specs.Cmp.{first_so, second_so}
 use Rattle.std.specs.Char.{to_ascii_lowercase}
 use Rattle.rpki_text.specs.UriText.{lowercase, same_text}
-
-pub false-unless : (b : Bool) → (b ≡ true → ⊥) → b ≡ false
-false-unless true h = absurd (h refl)
-false-unless false h = refl
 
 pub length-lowercase : (a : List ℕ) → length (lowercase a) ≡ length a
 length-lowercase a = length-map a to_ascii_lowercase
@@ -44,4 +41,4 @@ same_text-front n a b h = rw ((bytes_eq-Decides (lowercase (take n a)) (lowercas
 
 pub same_text-other : (n : ℕ) (a b : List ℕ) → (lowercase (take n a) ≡ lowercase (take n b) → ⊥)
     → same_text n a b ≡ false
-same_text-other n a b h = false-unless _ (λ e. h (same_text-parts n a b e).front)
+same_text-other n a b h = false_from_ne_true _ (λ e. h (same_text-parts n a b e).front)

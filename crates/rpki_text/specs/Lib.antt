@@ -12,7 +12,6 @@ pub mod GeneralName
 pub mod HexText
 pub mod ErrorText
 pub mod Laws
-pub mod Base64Text
 -- Lemmas, which the prover checks: ghost items of impls cite them.
 pub mod SegmentLaws
 pub mod SameUriLaws

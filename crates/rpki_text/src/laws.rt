@@ -6,10 +6,8 @@ ghost use Rattle.rpki_text.specs.Laws.{EqualHttpsParts, EqualHttpsParents};
 ghost use Rattle.std.specs.Prelude.{◌≡◌, ◌↔◌, IsTrue};
 ghost use Rattle.rpki_text.specs.declared.uri.scheme.Scheme.{Scheme as UriScheme};
 ghost use Rattle.rpki_text.specs.declared.uri.error.Error.{Error as UriError};
-ghost use Rattle.rpki_text.specs.declared.util.base_64.Base64Error.{Base64Error as NoBase64};
 
 use crate::uri::{Error, Scheme};
-use crate::util::base_64::Base64Error;
 
 /// A text stands for at most one rsync URI: the one that is read from it.
 pub fn rsync_texts_have_one_meaning()
@@ -46,9 +44,8 @@ pub fn equal_https_uris_have_equal_parents()
     ensures { EqualHttpsParents }
 {}
 
-/// Schemes, and errors of URIs and of base 64, are equal exactly where they are one.
+/// Schemes, and errors of URIs, are equal exactly where they are one.
 pub fn equal_schemes_and_errors_are_one()
     ensures scheme { (x y : UriScheme) → IsTrue (⟦<Scheme as PartialEq>⟧.eq x y) ↔ (x ≡ y) }
     ensures uri { (d e : UriError) → IsTrue (⟦<Error as PartialEq>⟧.eq d e) ↔ (d ≡ e) }
-    ensures base_64 { (d e : NoBase64) → IsTrue (⟦<Base64Error as PartialEq>⟧.eq d e) ↔ (d ≡ e) }
 {}

@@ -1,4 +1,4 @@
 //! Octets as text.
 
-pub mod base_64;
+pub mod base64;
 pub mod hex;

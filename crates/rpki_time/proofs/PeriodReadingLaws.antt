@@ -3,8 +3,7 @@ use Rattle.std.proofs.Common.{◌+◌, ◌≤◌, ◌<◌, ◌^◌, length, lit<
 use Rattle.std.proofs.Common.{refl, sym, ap, subst, ◌∙◌}
 use Rattle.jiff.specs.Types.{DateTime}
 use Rattle.rpki_der.specs.declared.error.DecodeError.{DecodeError}
-use Rattle.rpki_der.specs.declared.error.DecodeError.TheVariants.{Truncated, BadTag, BadLength, Unexpected, Content}
-use Rattle.rpki_der.specs.declared.error.DecodeError.TheVariants.{Trailing, OutOfMemory}
+use Rattle.rpki_der.specs.declared.error.DecodeError.TheVariants.{OutOfMemory}
 use Rattle.rpki_der.specs.Prelude.{sequence, tlv, sequence_legal, IsOuterFault, Spells, Accepts, TakesAll, then, only}
 use Rattle.rpki_der.proofs.ComposedLaws.{spelled-whole}
 use Rattle.rpki_der.specs.Prelude.{FirstFault, IsEndFault}
@@ -34,19 +33,10 @@ following c r t a p h =
     let e = a.only p.not_before h.end (start-of c p h) in
     record { start = e.0; end = subst (λ (x : List ℕ). Spells SpellsTime x p.not_after []) e.1 (end-of c p h) }
 
-time-no-memory : (s : List ℕ) (e : DecodeError) → IsTimeFault s e → e ≡ OutOfMemory → ⊥
-time-no-memory s Truncated h z = cc
-time-no-memory s BadTag h z = cc
-time-no-memory s BadLength h z = cc
-time-no-memory s Unexpected h z = cc
-time-no-memory s (Content x) h z = cc
-time-no-memory s Trailing h z = h
-time-no-memory s OutOfMemory h z = h
-
 times-no-memory : (c : List ℕ) → times.fault c OutOfMemory → ⊥
 times-no-memory c = first-no-memory SpellsTime IsTimeFault
-    (λ start. FirstFault SpellsTime IsTimeFault (λ end. IsEndFault)) c (λ h. time-no-memory c OutOfMemory h refl)
-    (λ t r. first-no-memory SpellsTime IsTimeFault (λ end. IsEndFault) r (λ h. time-no-memory r OutOfMemory h refl)
+    (λ start. FirstFault SpellsTime IsTimeFault (λ end. IsEndFault)) c (λ h. h)
+    (λ t r. first-no-memory SpellsTime IsTimeFault (λ end. IsEndFault) r (λ h. h)
     (λ u q. end-no-memory q))
 
 same-ends : (p q : Period) → p.not_before ≡ q.not_before → p.not_after ≡ q.not_after → p ≡ q
@@ -75,6 +65,14 @@ written p y = record {
   not_after = time_spelled p.not_after y.not_after;
 }
 
+pub period-spelled : (p : Period) → AreTimeYears p → SpellsPeriod (cut_period p) (period_octets p)
+period-spelled p y = record {
+  contents = time_octets p.not_before ++ time_octets p.not_after;
+  value = tlv-legal sequence true (time_octets p.not_before ++ time_octets p.not_after) sequence_legal
+      (times-fit p.not_before p.not_after);
+  spelled = written p y;
+}
+
 -- periods of the same contents are one
 pub one-period : (c : List ℕ) (p q : Period) → IsPeriod p c → IsPeriod q c → q ≡ p
 one-period c p q h k =
@@ -86,18 +84,10 @@ one-period c p q h k =
 pub period-there : (s rest : List ℕ) (p : Period) → AreTimeYears p → s ≡ period_octets p ++ rest
     → Accepts SpellsPeriod s (cut_period p) rest
 period-there s rest p y e =
-    let c = time_octets p.not_before ++ time_octets p.not_after in
-    let k : Spells SpellsPeriod s (cut_period p) rest = record {
-      front = period_octets p;
-      parts = e;
-      spelled = record {
-        contents = c;
-        value = tlv-legal sequence true c sequence_legal (times-fit p.not_before p.not_after);
-        spelled =
-            written p y;
-      };
-    } in
-    leaf-there sequence true IsPeriod s (cut_period p) rest k (λ w h. one-period c (cut_period p) w (written p y) h)
+    let k : Spells SpellsPeriod s (cut_period p) rest =
+    record { front = period_octets p; parts = e; spelled = period-spelled p y } in
+    leaf-there sequence true IsPeriod s (cut_period p) rest k
+    (λ w h. one-period k.spelled.contents (cut_period p) w k.spelled.spelled h)
 
 pub period-same : (p q : Period) → AreTimeYears p → AreTimeYears q
     → (period_octets p ≡ period_octets q) ↔ (cut_period p ≡ cut_period q)

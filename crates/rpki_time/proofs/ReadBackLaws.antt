@@ -3,10 +3,10 @@ use Rattle.std.proofs.Common.{◌+◌, ◌<◌, [], ◌∷◌, ◌≡◌, ℕ, �
 use Rattle.std.proofs.Common.{subst, arith, length-append}
 use Rattle.std.proofs.lemmas.List.{take_at, drop_at}
 use Rattle.rpki_der.specs.declared.error.DecodeError.{DecodeError}
-use Rattle.rpki_der.specs.declared.error.DecodeError.TheVariants.{Truncated, BadTag, BadLength, Unexpected, Content}
-use Rattle.rpki_der.specs.declared.error.DecodeError.TheVariants.{Trailing, OutOfMemory}
+use Rattle.rpki_der.specs.declared.error.DecodeError.TheVariants.{OutOfMemory}
 use Rattle.rpki_der.specs.declared.tag.Header.{Header}
 use Rattle.rpki_der.specs.Prelude.{TagName, lead, tlv}
+use Rattle.rpki_der.proofs.ReadingLaws.{unless-memory}
 use Rattle.rpki_der.proofs.HeaderWritingLaws.{identifier-low, length-short}
 use Rattle.rpki_der.specs.Prelude.{Spells, Accepts, Reads, SpellsHeader, SpellsContents, SpellsLeaf, SpellsWanted}
 use Rattle.rpki_der.proofs.HeaderReadingLaws.{one-header}
@@ -60,13 +60,8 @@ pub reads-back : {V : Type 0} (G : V → List ℕ → Type 0) (K : List ℕ → 
     (x : Result V DecodeError) (v : V) (q : List ℕ)
     → (K s OutOfMemory → ⊥) → Reads (λ w. w) G K s r x → Accepts G s v q → (x ≡ Ok v) × (r ≡ q)
 reads-back G K s r (Ok w) v q never h a = let e = a.only w r h.spells in (ap Ok e.0, e.1)
-reads-back G K s r (Err Truncated) v q never h a = absurd (h.refuses v q a.spells)
-reads-back G K s r (Err BadTag) v q never h a = absurd (h.refuses v q a.spells)
-reads-back G K s r (Err BadLength) v q never h a = absurd (h.refuses v q a.spells)
-reads-back G K s r (Err Unexpected) v q never h a = absurd (h.refuses v q a.spells)
-reads-back G K s r (Err (Content e)) v q never h a = absurd (h.refuses v q a.spells)
-reads-back G K s r (Err Trailing) v q never h a = absurd (h.refuses v q a.spells)
-reads-back G K s r (Err OutOfMemory) v q never h a = absurd (never h.kind)
+reads-back G K s r (Err e) v q never h a =
+    absurd (unless-memory e (λ z. never (subst (K s) z h.kind)) h.refuses v q a.spells)
 
 -- and what it read was there
 pub was-read : {V : Type 0} (G : V → List ℕ → Type 0) (K : List ℕ → DecodeError → Type 0) (s r : List ℕ)

@@ -9,6 +9,7 @@ use Rattle.rpki_der.specs.declared.error.DecodeError.TheVariants.{Trailing, OutO
 use Rattle.rpki_der.specs.Prelude.{text_of, IsTag, integer, tlv, number_of, IsUnsigned, IsMagnitude, Spells, Accepts}
 use Rattle.rpki_der.specs.Prelude.{Refusal, Reads, SpellsLeaf, IsLeafFault}
 use Rattle.rpki_der.proofs.ReadingLaws.{UnlessMemory-weaker}
+use Rattle.rpki_der.proofs.LeavesLaws.{other-contents}
 use Rattle.rpki_der.proofs.EncodeLaws.{tlv-legal, tlv-same}
 use Rattle.rpki_der.proofs.IntegerLaws.{one-number, contents-unique}
 use Rattle.rpki_time.specs.declared.serial.SerialSliceError.{SerialSliceError}
@@ -47,15 +48,6 @@ is-serial s n r small k = record {
   };
 }
 
-unsigned-fault : (s : List ℕ) (e : DecodeError) → IsUnsignedFault s e → IsLeafFault integer false IsSerialContents s e
-unsigned-fault s Truncated h = h
-unsigned-fault s BadTag h = h
-unsigned-fault s BadLength h = h
-unsigned-fault s Unexpected h = h
-unsigned-fault s (Content x) h = (h.0, h.1, h.2, λ n k. h.3 n k.0)
-unsigned-fault s Trailing h = h
-unsigned-fault s OutOfMemory h = h
-
 tells-nothing : (s q : List ℕ) (e : DecodeError) → Refusal SpellsUnsigned IsUnsignedFault s q e → TellsLong s e
 tells-nothing s q Truncated h = tt
 tells-nothing s q BadTag h = tt
@@ -71,7 +63,10 @@ pub unsigned-refused : (s q : List ℕ) (e : DecodeError) → Refusal SpellsUnsi
 unsigned-refused s q e h = record {
   unchanged = refl;
   refuses = UnlessMemory-weaker e (λ none n r k. none n r (is-unsigned s n r k)) h.refuses;
-  kind = (unsigned-fault s e h.kind, tells-nothing s q e h);
+  kind = (
+    other-contents integer false IsUnsigned IsSerialContents s e (λ n c k. (n, k.0)) h.kind,
+    tells-nothing s q e h,
+  );
 }
 
 -- its octets are not too long

@@ -47,13 +47,7 @@ primitive-fault s OutOfMemory h = h
 
 -- a reader of a time allocates nothing
 pub time-exactly : (s : List ℕ) (e : DecodeError) → IsTimeFault s e → e ≢ OutOfMemory
-time-exactly s Truncated h z = cc
-time-exactly s BadTag h z = cc
-time-exactly s BadLength h z = cc
-time-exactly s Unexpected h z = cc
-time-exactly s (Content x) h z = cc
-time-exactly s Trailing h z = h
-time-exactly s OutOfMemory h z = h
+time-exactly s e h z = subst (IsTimeFault s) z h
 
 -- there is no primitive value
 pub primitive-refused : (s q : List ℕ) (e : DecodeError)

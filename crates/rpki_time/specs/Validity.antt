@@ -1,6 +1,8 @@
 -- What contracts see of a validity period: its two times.
 use Rattle.std.specs.Prelude.{◌≡◌, ℤ, ◌≤ℤ◌}
 use Rattle.std.specs.Int.{int_min, int_max}
+use Rattle.std.specs.declared.cmp.Ordering.{Ordering}
+use Rattle.std.specs.Ordering.{int_cmp, ord_max, ord_min}
 use Rattle.jiff.specs.Types.{DateTime}
 use Rattle.jiff.specs.Words.{civil_nanos}
 use Rattle.rpki_time.specs.Time.{cut, IsTimeYear}
@@ -32,6 +34,17 @@ abbrev pub IsTrimmed : Period → Period → Period → Type 0
 IsTrimmed p q =
     Spans (int_max (civil_nanos p.not_before) (civil_nanos q.not_before))
     (int_min (civil_nanos p.not_after) (civil_nanos q.not_after))
+
+-- moments in their order
+abbrev pub moment_cmp : DateTime → DateTime → Ordering
+moment_cmp a b = int_cmp (civil_nanos a) (civil_nanos b)
+
+-- the period from the later start to the earlier end
+abbrev pub trimmed : Period → Period → Period
+trimmed p q = record {
+  not_before = ord_max moment_cmp p.not_before q.not_before;
+  not_after = ord_min moment_cmp p.not_after q.not_after;
+}
 
 -- both times are of the years that times have
 pub record AreTimeYears (p : Period) : Type 0 where

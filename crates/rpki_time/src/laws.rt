@@ -7,7 +7,7 @@ ghost use Rattle.jiff.specs.Types.{DateTime as Civil};
 ghost use Rattle.jiff.specs.Words.{civil_nanos};
 ghost use Rattle.rpki_der.specs.Prelude.{left, IsUnsigned};
 ghost use Rattle.rpki_time.specs.PeriodValue.{period_octets};
-ghost use Rattle.rpki_time.specs.Serial.{IsSerialContents, serial_contents, serial_octets};
+ghost use Rattle.rpki_time.specs.Serial.{IsSerialContents, SpellsSerial, serial_contents, serial_octets};
 ghost use Rattle.rpki_time.specs.Time.{IsTimeYear, cut, ReadsCut};
 ghost use Rattle.rpki_time.specs.TimeText.{IsUtcYear, is_utc_year, utc_text, generalized_text, ReadsAsUtc};
 ghost use Rattle.rpki_time.specs.TimeText.{ReadsAsGeneralized};
@@ -39,9 +39,10 @@ pub fn few_octets_are_written()
     ensures period { (p : Period) → length (period_octets p) ≤ 36 }
 {}
 
-/// What is written of a serial number is read as itself, and what follows remains; and what is read is written as the
-/// same octets.
+/// What is written of a serial number is that number, and is read as itself, and what follows remains; and what is read
+/// is written as the same octets.
 pub fn serials_read_back(cons: &mut Constructed<'_>) -> Result<Serial, DecodeError>
+    ensures spelled { (n : ℕ) → n < 2 ^ 159 → SpellsSerial n (serial_octets n) }
     ensures read { (n : ℕ) (rest : List ℕ) → n < 2 ^ 159 → left cons.old ≡ serial_octets n ++ rest
         → (result ≡ Ok n) × (left cons.new ≡ rest) }
     ensures written { IfOk result (λ n. left cons.old ≡ serial_octets n ++ left cons.new) }

@@ -5,7 +5,7 @@ ghost use Rattle.rpki_der.specs.Prelude.{tlv, utc_time, generalized_time, Writes
 ghost use Rattle.jiff.specs.Types.{DateTime as Civil};
 ghost use Rattle.rpki_time.specs.Time.{IsTimeYear, cut};
 ghost use Rattle.rpki_time.specs.TimeText.{utc_text, generalized_text, IsUtcYear};
-ghost use Rattle.rpki_time.specs.TimeValue.{utc_octets, generalized_octets, time_octets};
+ghost use Rattle.rpki_time.specs.TimeValue.{SpellsTime, utc_octets, generalized_octets, time_octets};
 
 use crate::time::Time;
 use rpki_der::{Primitive, PrimitiveContent, Tag, Values, write_whole};
@@ -150,6 +150,8 @@ impl Time {
     pub fn encode_utc_time(self) -> Primitive<UtcTime>
         ensures encoded { ⟦<Primitive<UtcTime> as Values>⟧.encoded result ≡ utc_octets self }
         ensures fits { ⟦<Primitive<UtcTime> as Values>⟧.is_short result × (length (utc_octets self) < 2 ^ 63) }
+        // In the years 1950 to 2049 they are this time without parts of a second.
+        ensures read_back { IsUtcYear self.date.year → SpellsTime (cut self) (utc_octets self) }
         // Two times of the years 1950 to 2049 have the same encoding exactly where they differ in parts of a second
         // alone.
         ensures same { (other : Civil) → IsUtcYear self.date.year → IsUtcYear other.date.year
@@ -164,6 +166,8 @@ impl Time {
         ensures encoded { ⟦<Primitive<GeneralizedTime> as Values>⟧.encoded result ≡ generalized_octets self }
         ensures fits { ⟦<Primitive<GeneralizedTime> as Values>⟧.is_short result
             × (length (generalized_octets self) < 2 ^ 63) }
+        // They are this time without parts of a second.
+        ensures read_back { SpellsTime (cut self) (generalized_octets self) }
         // Two times have the same encoding exactly where they differ in parts of a second alone.
         ensures same { (other : Civil) → IsTimeYear other.date.year
             → (generalized_octets self ≡ generalized_octets other) ↔ (cut self ≡ cut other) }
@@ -179,6 +183,8 @@ impl Time {
         ensures year { IsTimeYear self.date.year }
         ensures encoded { ⟦<VariedTime as Values>⟧.encoded result ≡ time_octets self }
         ensures fits { ⟦<VariedTime as Values>⟧.is_short result × (length (time_octets self) < 2 ^ 63) }
+        // They are this time without parts of a second.
+        ensures read_back { SpellsTime (cut self) (time_octets self) }
         // Two times have the same encoding exactly where they differ in parts of a second alone.
         ensures same { (other : Civil) → IsTimeYear other.date.year
             → (time_octets self ≡ time_octets other) ↔ (cut self ≡ cut other) }

@@ -6,8 +6,9 @@ ghost use Rattle.jiff.specs.Types.{DateTime as Civil};
 ghost use Rattle.jiff.specs.Words.{civil_nanos, signed_nanos};
 ghost use Rattle.rpki_time.specs.Time.{IsTimeNanos, seconds};
 ghost use Rattle.rpki_der.specs.Prelude.{left, Takes, TakesAll, TakesWholeInPlace, Reads};
-ghost use Rattle.rpki_time.specs.PeriodValue.{period_octets, period, times};
+ghost use Rattle.rpki_time.specs.PeriodValue.{SpellsPeriod, period_octets, period, times};
 ghost use Rattle.rpki_time.specs.Validity.{Period, AreTimeYears, HoldsAt, SpansBetween, IsTrimmed, cut_period};
+ghost use Rattle.rpki_time.specs.Validity.{trimmed};
 
 use crate::time::Time;
 use crate::time_encoder::VariedTime;
@@ -148,6 +149,7 @@ impl Validity {
 
     /// The period that holds at exactly the moments at which both do: from the later start to the earlier end.
     pub fn trim(self, other: Validity) -> Validity
+        ensures value { result ≡ trimmed self other }
         ensures ends { IsTrimmed self other result }
         ensures holds { (m : Civil) → HoldsAt result m ↔ (HoldsAt self m × HoldsAt other m) }
     {
@@ -209,6 +211,8 @@ impl Validity {
         ensures encoded { ⟦<Sequence<(VariedTime, VariedTime)> as Values>⟧.encoded result ≡ period_octets self }
         ensures fits { ⟦<Sequence<(VariedTime, VariedTime)> as Values>⟧.is_short result
             × (length (period_octets self) < 2 ^ 63) }
+        // They are a period: this one without parts of a second.
+        ensures read_back { SpellsPeriod (cut_period self) (period_octets self) }
         // Two periods have the same encoding exactly where they differ in parts of a second alone.
         ensures same { (other : Period) → AreTimeYears other
             → (period_octets self ≡ period_octets other) ↔ (cut_period self ≡ cut_period other) }

@@ -22,10 +22,10 @@ module _ (staleness : Staleness) (v : Verified) (at : DateTime) (x : CrlParts) w
 
   module _ (period : HoldsAt v.period at) where
     pub unsigned : (e : ValidationError)
-        → (IsSignedBy v.by.rsa v.by.ecdsa v.cert.tbs.key x.signed → ⊥) × HasReason unsigned_list_text e → Refused e
+        → (IsSignedBy v.by v.cert.tbs.key x.signed → ⊥) × HasReason unsigned_list_text e → Refused e
     unsigned e h = (λ k. h.0 k.list.signature, inr (period, inl h))
 
-    module _ (signature : IsSignedBy v.by.rsa v.by.ecdsa v.cert.tbs.key x.signed) where
+    module _ (signature : IsSignedBy v.by v.cert.tbs.key x.signed) where
       pub other-name : (e : ValidationError)
           → (x.list.issuer ≡ v.cert.tbs.subject → ⊥) × HasReason list_issuer_text e → Refused e
       other-name e h = (λ k. h.0 k.list.name, inr (period, inr (signature, inl h)))

@@ -1,8 +1,8 @@
 -- Whether a signed object is valid: what is asked, in sequence.
-use Rattle.std.proofs.Common.{◌≡◌, ℕ, List, Option, Result, Ok, Err, inl, inr}
+use Rattle.std.proofs.Common.{◌≡◌, Option, Result, Ok, Err, inl, inr}
 use Rattle.jiff.specs.Types.{DateTime}
 use Rattle.rpki.specs.declared.repository.error.ValidationError.{ValidationError}
-use Rattle.rpki.specs.Provider.{Check}
+use Rattle.rpki.specs.Provider.{Checkers}
 use Rattle.rpki_valid.specs.declared.resource.set.ResourceSet.{ResourceSet}
 use Rattle.rpki_cert.specs.declared.profile.Profile.TheVariants.{Ee}
 use Rattle.rpki_cert.specs.RuleError.{ChecksBy}
@@ -15,15 +15,15 @@ use Rattle.rpki_valid.specs.ObjectVerified.{SignsAttributes, IsSignedObject, IsU
 use Rattle.rpki_valid.specs.ObjectVerified.{IsInvalidObject, ChecksObject}
 use Rattle.rpki_valid.specs.ErrorTexts.{content_type_text, digest_text, signer_text, unsigned_object_text}
 
-module _ (rsa ecdsa : Check) (sha256 : List ℕ → List ℕ) (x : ObjectParts) where
+module _ (by : Checkers) (x : ObjectParts) where
   abbrev pub Unsigned : ValidationError → Type 0
-  Unsigned e = (IsSignedObject rsa ecdsa sha256 x → ⊥) × IsUnsignedObject rsa ecdsa sha256 x e
+  Unsigned e = (IsSignedObject by x → ⊥) × IsUnsignedObject by x e
 
   abbrev pub SameType : Type 0
   SameType = x.signer.attributes.values.content_type ≡ x.content.content_type
 
   abbrev pub SameDigest : Type 0
-  SameDigest = x.signer.attributes.values.message_digest ≡ sha256 x.content.content
+  SameDigest = x.signer.attributes.values.message_digest ≡ by.sha256 x.content.content
 
   pub other-type : (e : ValidationError) → (SameType → ⊥) × HasReason content_type_text e → Unsigned e
   other-type e h = (λ k. h.0 k.type, inl h)
@@ -39,22 +39,22 @@ module _ (rsa ecdsa : Check) (sha256 : List ℕ → List ℕ) (x : ObjectParts) 
       other-key e h = (λ k. h.0 k.identifier, inr (type, inr (digest, inl h)))
 
       pub asked-last : (r : Result (Unit {0}) ValidationError) → HasSubject x.signer.identifier x.cert.tbs
-          → ChecksBy (SignsAttributes rsa ecdsa x.cert.tbs.key x.signer) (HasReason unsigned_object_text) r
-          → ChecksBy (IsSignedObject rsa ecdsa sha256 x) (IsUnsignedObject rsa ecdsa sha256 x) r
+          → ChecksBy (SignsAttributes by x.cert.tbs.key x.signer) (HasReason unsigned_object_text) r
+          → ChecksBy (IsSignedObject by x) (IsUnsignedObject by x) r
       asked-last (Ok u) identifier h =
           record { type = type; digest = digest; identifier = identifier; signature = h }
       asked-last (Err e) identifier h =
           (λ k. h.0 k.signature, inr (type, inr (digest, inr (identifier, h.1))))
 
-module _ (list : Option CrlParts) (sha256 : List ℕ → List ℕ) (v : Verified) (at : DateTime) (x : ObjectParts) where
+module _ (list : Option CrlParts) (v : Verified) (at : DateTime) (x : ObjectParts) where
   -- the signer has not signed it
   pub not-signed : (e : ValidationError)
-      → (IsSignedObject v.by.rsa v.by.ecdsa sha256 x → ⊥) × IsUnsignedObject v.by.rsa v.by.ecdsa sha256 x e
-      → IsRefusedWith (IsValidObject list sha256 v at x) (IsInvalidObject list sha256 v at x) e
+      → (IsSignedObject v.by x → ⊥) × IsUnsignedObject v.by x e
+      → IsRefusedWith (IsValidObject list v at x) (IsInvalidObject list v at x) e
   not-signed e h = (unless-from e (λ r k. h.0 k.signed), inl h)
 
   -- it has: so the certificate decides
-  pub cert-decides : (r : Result ResourceSet ValidationError) → IsSignedObject v.by.rsa v.by.ecdsa sha256 x
-      → ChecksLink Ee list v at x.cert r → ChecksObject list sha256 v at x r
+  pub cert-decides : (r : Result ResourceSet ValidationError) → IsSignedObject v.by x
+      → ChecksLink Ee list v at x.cert r → ChecksObject list v at x r
   cert-decides (Ok r) signed h = record { signed = signed; cert = h }
   cert-decides (Err e) signed h = (unless-weaker e (λ none r k. none r k.cert) h.0, inr (signed, h.1))

@@ -1,9 +1,6 @@
 -- What a certificate claims of resources, and what of it is settled.
 use Rattle.std.proofs.Common.{◌≡◌, inl, inr, true, List, [], ◌∷◌, Option, refl, Some, ap, ◌∙◌, subst, sym}
-use Rattle.rpki_der.specs.declared.error.DecodeError.{DecodeError}
-use Rattle.rpki_der.specs.declared.error.DecodeError.TheVariants.{Truncated, BadTag, BadLength, Unexpected, Content}
-use Rattle.rpki_der.specs.declared.error.DecodeError.TheVariants.{Trailing, OutOfMemory as OutOfRoom}
-use Rattle.rpki_der.specs.Reading.{UnlessMemory}
+use Rattle.rpki_der.proofs.ReadingLaws.{is-out, at-memory}
 use Rattle.rpki.specs.ExtensionValue.{ExtensionParts}
 use Rattle.rpki.specs.declared.repository.error.ValidationError.{ValidationError}
 use Rattle.rpki.specs.declared.repository.error.ValidationError.TheVariants.{Decoding, Inspection, Verification}
@@ -37,17 +34,8 @@ use Rattle.rpki_valid.specs.ResourceSet.{HasOwnResources}
 
 -- ---- allocation failure
 
-out-memory : (e : DecodeError) (P : Type 0) → IsOut (Decoding e) → UnlessMemory e P
-out-memory Truncated P h = absurd (false≢true h)
-out-memory BadTag P h = absurd (false≢true h)
-out-memory BadLength P h = absurd (false≢true h)
-out-memory Unexpected P h = absurd (false≢true h)
-out-memory (Content c) P h = absurd (false≢true h)
-out-memory Trailing P h = absurd (false≢true h)
-out-memory OutOfRoom P h = tt
-
 pub out-unless : (e : ValidationError) (P : Type 0) → IsOut e → UnlessNoMemory e P
-out-unless (Decoding e) P h = out-memory e P h
+out-unless (Decoding e) P h = at-memory e P (is-out e h)
 out-unless (Inspection e) P h = absurd (false≢true h)
 out-unless (Verification e) P h = absurd (false≢true h)
 

@@ -3,6 +3,7 @@ use Rattle.std.proofs.Common.{◌≡◌, ◌+◌, ◌≤◌, ℕ, Bool, Option, 
 use Rattle.std.specs.Prelude.{IfOk}
 use Rattle.jiff.specs.Types.{DateTime}
 use Rattle.rpki_time.specs.Validity.{HoldsAt}
+use Rattle.rpki.specs.Provider.{Checkers}
 use Rattle.rpki.specs.declared.repository.error.ValidationError.{ValidationError}
 use Rattle.rpki_valid.specs.declared.resource.set.ResourceSet.{ResourceSet}
 use Rattle.rpki_cert.specs.declared.profile.Profile.{Profile}
@@ -19,7 +20,7 @@ use Rattle.rpki_valid.specs.Revocation.{IsCurrentAt, IsListOf, IsUnrevoked, IsUn
 use Rattle.rpki_valid.specs.Revocation.{least_asked}
 use Rattle.rpki_valid.specs.Valid.{HasReason, IsIssued, IsUnissued, IsPeriodError, IsAnchor, IsNoAnchor}
 use Rattle.rpki_valid.specs.ResourceSet.{HasNoResources, SettlesUnder, SettlesOwn, AreWithin}
-use Rattle.rpki_valid.specs.Verified.{Checkers, Verified, Holder, holder, IsRoot, IsAuthorityAt, IsVerified, IsOnPath}
+use Rattle.rpki_valid.specs.Verified.{Verified, Holder, holder, IsRoot, IsAuthorityAt, IsVerified, IsOnPath}
 use Rattle.rpki_valid.specs.Verified.{IsOffPath, IsVerifiedBy, HasPath, ChecksPath, ChecksLink, ChecksRoot}
 use Rattle.rpki_valid.specs.Verified.{Terms, IsLink, IsRefusedWith, IsRefusedLink, IsRefusedRoot}
 use Rattle.rpki_valid.specs.Verified.{DescendsFrom}
@@ -37,13 +38,13 @@ module _ (list : Option CrlParts) (v : Verified) (at : DateTime) (x : CertParts)
   off-period e h = (unless-from e (λ r k. h.0 k.period), inl h)
 
   pub off-issued : (e : ValidationError) → HoldsAt v.period at
-      → (IsIssued v.by.rsa v.by.ecdsa v.by.sha1 v.cert.tbs at x → ⊥)
-      × IsUnissued v.by.rsa v.by.ecdsa v.by.sha1 v.cert.tbs at x e
+      → (IsIssued v.by v.cert.tbs at x → ⊥)
+      × IsUnissued v.by v.cert.tbs at x e
       → IsRefusedWith (IsOnPath list v at x) (IsOffPath list v at x) e
   off-issued e p h = (unless-from e (λ r k. h.0 k.issued), inr (p, inl h))
 
   pub off-revoked : (e : ValidationError) → HoldsAt v.period at
-      → IsIssued v.by.rsa v.by.ecdsa v.by.sha1 v.cert.tbs at x
+      → IsIssued v.by v.cert.tbs at x
       → (IsUnrevoked list x → ⊥) × HasReason revoked_text e
       → IsRefusedWith (IsOnPath list v at x) (IsOffPath list v at x) e
   off-revoked e p i h = (unless-from e (λ r k. h.0 k.unrevoked), inr (p, inr (i, inl h)))
@@ -54,7 +55,7 @@ module _ (list : Option CrlParts) (v : Verified) (at : DateTime) (x : CertParts)
   no-resources e (inr h) = unless-from e (λ r k. h.0 r k.resources)
 
   pub path-settles : (r : Result ResourceSet ValidationError) → HoldsAt v.period at
-      → IsIssued v.by.rsa v.by.ecdsa v.by.sha1 v.cert.tbs at x → IsUnrevoked list x
+      → IsIssued v.by v.cert.tbs at x → IsUnrevoked list x
       → SettlesUnder x.tbs.extensions v.resources r → ChecksPath list v at x r
   path-settles (Ok r) p h u k = record { period = p; issued = h; unrevoked = u; resources = k }
   path-settles (Err e) p h u k = (no-resources e k, inr (p, inr (h, inr (u, k))))
@@ -128,7 +129,7 @@ listed-of profile v at x staleness list current (Err e) all h = tt
 
 module _ (terms : Terms) (by : Checkers) (at : DateTime) (x : CertParts) where
   pub root-settles : (r : Result ResourceSet ValidationError) → HasProfile Ta terms.strictness.names x.tbs
-      → IsAnchor by.rsa by.ecdsa by.sha1 at x → x.tbs.key ≡ terms.key → SettlesOwn x.tbs.extensions r
+      → IsAnchor by at x → x.tbs.key ≡ terms.key → SettlesOwn x.tbs.extensions r
       → ChecksRoot terms by at x r
   root-settles (Ok r) p h key k = record { profiled = p; anchor = h; key = key; resources = k }
   root-settles (Err e) p h key k = (out-unless e _ k, inr (p, inr (h, inr (key, k))))
@@ -139,12 +140,12 @@ module _ (terms : Terms) (by : Checkers) (at : DateTime) (x : CertParts) where
   root-else e h = (unless-from e (λ r k. h.0 k.profiled), inl h)
 
   pub root-off : (e : ValidationError) → HasProfile Ta terms.strictness.names x.tbs
-      → (IsAnchor by.rsa by.ecdsa by.sha1 at x → ⊥) × IsNoAnchor by.rsa by.ecdsa by.sha1 at x e
+      → (IsAnchor by at x → ⊥) × IsNoAnchor by at x e
       → IsRefusedRoot terms by at x e
   root-off e p h = (unless-from e (λ r k. h.0 k.anchor), inr (p, inl h))
 
   pub root-other-key : (e : ValidationError) → HasProfile Ta terms.strictness.names x.tbs
-      → IsAnchor by.rsa by.ecdsa by.sha1 at x
+      → IsAnchor by at x
       → (x.tbs.key ≡ terms.key → ⊥) × HasReason other_key_text e → IsRefusedRoot terms by at x e
   root-other-key e p h k = (unless-from e (λ r i. k.0 i.key), inr (p, inr (h, inl k)))
 
@@ -152,14 +153,14 @@ module _ (terms : Terms) (by : Checkers) (at : DateTime) (x : CertParts) where
 
 -- a list that counts although it may be stale
 accepted-list : (by : Checkers) (issuer : TbsParts) (at : DateTime) (list : CrlParts) (staleness : Staleness)
-    → IsListOf by.rsa by.ecdsa by.sha1 staleness issuer at list
-    → IsListOf by.rsa by.ecdsa by.sha1 Accepted issuer at list
+    → IsListOf by staleness issuer at list
+    → IsListOf by Accepted issuer at list
 accepted-list by issuer at list staleness h =
     record { signature = h.signature; name = h.name; authority = h.authority; out = h.out; fresh = tt }
 
 module _ (by : Checkers) (issuer : TbsParts) (at : DateTime) (x : CertParts) where
   abbrev Unrevoked : Option Staleness → Type 0
-  Unrevoked asked = IsUnrevokedBy by.rsa by.ecdsa by.sha1 asked issuer at x
+  Unrevoked asked = IsUnrevokedBy by asked issuer at x
 
   less-left : (one other : Option Staleness) → Unrevoked one → Unrevoked (least_asked one other)
   less-left None other h = tt
@@ -220,7 +221,7 @@ module _ (v : Verified) (at m : DateTime) (x : CertParts) (list : Option CrlPart
     (all : IsVerified v) (h : IsVerifiedBy Ca list v at x r) (above : HoldsAt v.period m)
     (holds : HoldsAt x.tbs.validity m)
   where
-    issued-link : (asked : Option Staleness) → IsUnrevokedBy v.by.rsa v.by.ecdsa v.by.sha1 asked v.cert.tbs m x
+    issued-link : (asked : Option Staleness) → IsUnrevokedBy v.by asked v.cert.tbs m x
         → IsLink Ca v.terms.strictness.names asked v.by m (holder v.cert v.resources) (holder x r)
     issued-link asked unrevoked =
         let s = h.path.issued.signed in
@@ -251,7 +252,7 @@ module _ (v : Verified) (at m : DateTime) (x : CertParts) (list : Option CrlPart
         → IsCurrentAt staleness m current → IsUnrevoked (Some current) x
         → IsAuthorityAt v.terms (least_asked v.asked (Some staleness)) v.by m depth (holder x r)
     listed-at depth next bound staleness current issued now unrevoked =
-        let of : IsListOf v.by.rsa v.by.ecdsa v.by.sha1 staleness v.cert.tbs m current = record {
+        let of : IsListOf v.by staleness v.cert.tbs m current = record {
           signature = issued.list.signature;
           name = issued.list.name;
           authority = issued.list.authority;

@@ -1,9 +1,9 @@
 -- Whether an authority has issued a revocation list that counts (RFC 5280 6.3.3, RFC 6487 5, 7.2).
-use Rattle.std.specs.Prelude.{◌≡◌, ℕ, List, Some, Result}
+use Rattle.std.specs.Prelude.{◌≡◌, Some, Result}
 use Rattle.jiff.specs.Types.{DateTime}
 use Rattle.rpki.specs.declared.repository.error.ValidationError.{ValidationError}
 use Rattle.rpki_time.specs.Validity.{HoldsAt}
-use Rattle.rpki.specs.Provider.{Check}
+use Rattle.rpki.specs.Checkers.{Models, checkers_of}
 use Rattle.rpki_cert.specs.declared.profile.Profile.{Profile}
 use Rattle.rpki_cert.specs.Cert.{CertParts}
 use Rattle.rpki_cert.specs.RuleError.{ChecksBy}
@@ -12,7 +12,7 @@ use Rattle.rpki_valid.specs.declared.staleness.Staleness.{Staleness}
 use Rattle.rpki_valid.specs.Valid.{HasReason, IsPeriodError, IsSignedBy, Unless}
 use Rattle.rpki_valid.specs.declared.resource.set.ResourceSet.{ResourceSet}
 use Rattle.rpki_valid.specs.Revocation.{IsOutAt, IsCurrentAt, IsListOf}
-use Rattle.rpki_valid.specs.Verified.{Authority, Verified, HasPath, checkers_by, holder}
+use Rattle.rpki_valid.specs.Verified.{Authority, Verified, HasPath, holder}
 use Rattle.rpki_valid.specs.ErrorTexts.{unsigned_list_text, list_issuer_text, list_authority_text, later_list_text}
 use Rattle.rpki_valid.specs.ErrorTexts.{stale_list_text}
 
@@ -20,13 +20,13 @@ use Rattle.rpki_valid.specs.ErrorTexts.{stale_list_text}
 -- the moment, at which all certificates of its path hold
 pub record IsIssuedBy (staleness : Staleness) (issuer : Verified) (at : DateTime) (x : CrlParts) : Type 0 where
   pub period : HoldsAt issuer.period at
-  pub list : IsListOf issuer.by.rsa issuer.by.ecdsa issuer.by.sha1 staleness issuer.cert.tbs at x
+  pub list : IsListOf issuer.by staleness issuer.cert.tbs at x
 
 -- the error where one of them doesn't hold: of the first, in this order
 abbrev pub IsNotIssued : Verified → DateTime → CrlParts → ValidationError → Type 0
 IsNotIssued issuer at x =
     Unless (HoldsAt issuer.period at) (IsPeriodError issuer.period at)
-    (Unless (IsSignedBy issuer.by.rsa issuer.by.ecdsa issuer.cert.tbs.key x.signed) (HasReason unsigned_list_text)
+    (Unless (IsSignedBy issuer.by issuer.cert.tbs.key x.signed) (HasReason unsigned_list_text)
     (Unless (x.list.issuer ≡ issuer.cert.tbs.subject) (HasReason list_issuer_text)
     (Unless (x.list.extensions.authority ≡ issuer.by.sha1 issuer.cert.tbs.key.bits.octets)
     (HasReason list_authority_text)
@@ -57,8 +57,7 @@ CountsAt c m = HoldsAt c.issuer.period m × IsCurrentAt c.staleness m c.list
 
 -- a path of authorities leads from a certificate of this profile, which the authority has issued and its list doesn't
 -- have, and which has these resources, to a trust anchor
-abbrev pub HasListedPath : {X : Type 0} → (X → Check) → (X → Check) → (X → List ℕ → List ℕ) → Profile → InForce X
-    → CertParts → ResourceSet → Type 0
-HasListedPath rsa ecdsa sha1 profile c x held =
-    HasPath profile c.issuer.terms c.issuer.asked (Some c.staleness) (checkers_by rsa ecdsa sha1 c.issuer.provider) c.at
+abbrev pub HasListedPath : {X : Type 0} → Models X → Profile → InForce X → CertParts → ResourceSet → Type 0
+HasListedPath models profile c x held =
+    HasPath profile c.issuer.terms c.issuer.asked (Some c.staleness) (checkers_of models c.issuer.provider) c.at
     (holder x held)

@@ -4,7 +4,7 @@ use Rattle.std.specs.Prelude.{◌⊎◌, ◌≤ℤ◌, ℕ, List, Some, Result, 
 use Rattle.jiff.specs.Types.{DateTime}
 use Rattle.jiff.specs.Words.{civil_nanos}
 use Rattle.rpki.specs.declared.repository.error.ValidationError.{ValidationError}
-use Rattle.rpki.specs.Provider.{Check}
+use Rattle.rpki.specs.Checkers.{Models}
 use Rattle.rpki_resources.specs.Blocks.{IsAmong}
 use Rattle.rpki_contents.specs.Aspa.{AspaParts}
 use Rattle.rpki_contents.specs.Manifest.{ManifestParts}
@@ -111,29 +111,25 @@ IsUnprocessed Valid Invalid Wrong e =
     IsRefusedWith Valid Invalid e ⊎ ((held : ResourceSet) × Valid held × Wrong held e)
 
 -- a check that returns the resources of the object, whose certificate is not on the list that counts
-abbrev pub ProcessesObject : {X : Type 0} → (X → Check) → (X → Check) → (X → List ℕ → List ℕ) → (X → List ℕ → List ℕ)
-    → InForce X → ObjectParts → (ResourceSet → Type 0) → (ResourceSet → ValidationError → Type 0)
+abbrev pub ProcessesObject : {X : Type 0} → Models X → InForce X → ObjectParts → (ResourceSet → Type 0)
+    → (ResourceSet → ValidationError → Type 0) → Result ResourceSet ValidationError → Type 0
+ProcessesObject models c x Rules Wrong r =
+    let v = verified_by models c.issuer in
+    MatchResult r (IsProcessed (IsValidObject (Some c.list) v c.at x) Rules)
+    (IsUnprocessed (IsValidObject (Some c.list) v c.at x) (IsInvalidObject (Some c.list) v c.at x) Wrong)
+
+abbrev pub ProcessesManifest : {X : Type 0} → Models X → InForce X → TypedParts ManifestParts
     → Result ResourceSet ValidationError → Type 0
-ProcessesObject rsa ecdsa sha1 sha256 c x Rules Wrong r =
-    let v = verified_by rsa ecdsa sha1 c.issuer in
-    let digest = sha256 c.issuer.provider in
-    MatchResult r (IsProcessed (IsValidObject (Some c.list) digest v c.at x) Rules)
-    (IsUnprocessed (IsValidObject (Some c.list) digest v c.at x) (IsInvalidObject (Some c.list) digest v c.at x) Wrong)
+ProcessesManifest models c x =
+    ProcessesObject models c x.object (λ _. KeepsManifestRules c.at x) (λ _. BreaksManifestRules c.at x)
 
-abbrev pub ProcessesManifest : {X : Type 0} → (X → Check) → (X → Check) → (X → List ℕ → List ℕ)
-    → (X → List ℕ → List ℕ) → InForce X → TypedParts ManifestParts → Result ResourceSet ValidationError → Type 0
-ProcessesManifest rsa ecdsa sha1 sha256 c x =
-    ProcessesObject rsa ecdsa sha1 sha256 c x.object (λ _. KeepsManifestRules c.at x) (λ _. BreaksManifestRules c.at x)
+abbrev pub ProcessesOrigin : {X : Type 0} → Models X → InForce X → TypedParts AttestationParts
+    → Result ResourceSet ValidationError → Type 0
+ProcessesOrigin models c x = ProcessesObject models c x.object (KeepsOriginRules x) (BreaksOriginRules x)
 
-abbrev pub ProcessesOrigin : {X : Type 0} → (X → Check) → (X → Check) → (X → List ℕ → List ℕ) → (X → List ℕ → List ℕ)
-    → InForce X → TypedParts AttestationParts → Result ResourceSet ValidationError → Type 0
-ProcessesOrigin rsa ecdsa sha1 sha256 c x =
-    ProcessesObject rsa ecdsa sha1 sha256 c x.object (KeepsOriginRules x) (BreaksOriginRules x)
-
-abbrev pub ProcessesAspa : {X : Type 0} → (X → Check) → (X → Check) → (X → List ℕ → List ℕ) → (X → List ℕ → List ℕ)
-    → InForce X → TypedParts AspaParts → Result ResourceSet ValidationError → Type 0
-ProcessesAspa rsa ecdsa sha1 sha256 c x =
-    ProcessesObject rsa ecdsa sha1 sha256 c x.object (KeepsAspaRules x) (BreaksAspaRules x)
+abbrev pub ProcessesAspa : {X : Type 0} → Models X → InForce X → TypedParts AspaParts
+    → Result ResourceSet ValidationError → Type 0
+ProcessesAspa models c x = ProcessesObject models c x.object (KeepsAspaRules x) (BreaksAspaRules x)
 
 -- ---- by the certificate alone
 

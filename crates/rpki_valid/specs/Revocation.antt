@@ -1,8 +1,8 @@
 -- Revocation lists, and whether a certificate is revoked (RFC 5280 6.3.3, RFC 6487 5, 7.2).
-use Rattle.std.specs.Prelude.{◌≡◌, ◌≤ℤ◌, ℕ, false, List, Option, None, Some}
+use Rattle.std.specs.Prelude.{◌≡◌, ◌≤ℤ◌, false, Option, None, Some}
 use Rattle.jiff.specs.Types.{DateTime}
 use Rattle.jiff.specs.Words.{civil_nanos}
-use Rattle.rpki.specs.Provider.{Check}
+use Rattle.rpki.specs.Provider.{Checkers}
 use Rattle.rpki_cert.specs.Cert.{TbsParts, CertParts}
 use Rattle.rpki_crl.specs.Crl.{CrlParts, listed, is_revoked}
 use Rattle.rpki_valid.specs.declared.staleness.Staleness.{Staleness}
@@ -24,11 +24,11 @@ IsCurrentAt staleness at x = IsOutAt at x × IsFreshAt staleness at x
 
 -- The authority of this name and key has signed the list, which has its name and the identifier of its key (RFC 5280
 -- 6.3.3, RFC 6487 5), and the list counts at the moment.
-pub record IsListOf (rsa ecdsa : Check) (sha1 : List ℕ → List ℕ) (staleness : Staleness) (issuer : TbsParts)
+pub record IsListOf (by : Checkers) (staleness : Staleness) (issuer : TbsParts)
     (at : DateTime) (x : CrlParts) : Type 0 where
-  pub signature : IsSignedBy rsa ecdsa issuer.key x.signed
+  pub signature : IsSignedBy by issuer.key x.signed
   pub name : x.list.issuer ≡ issuer.subject
-  pub authority : x.list.extensions.authority ≡ sha1 issuer.key.bits.octets
+  pub authority : x.list.extensions.authority ≡ by.sha1 issuer.key.bits.octets
   pub out : IsOutAt at x
   pub fresh : IsFreshAt staleness at x
 
@@ -39,11 +39,10 @@ IsUnrevoked (Some list) x = is_revoked x.tbs.serial (listed list.list.revoked) �
 
 -- A list of the authority, which counts at the moment, has no entry of the certificate (RFC 6487 7.2). Where no list is
 -- asked for, this says nothing.
-abbrev pub IsUnrevokedBy : (rsa ecdsa : Check) → (List ℕ → List ℕ) → Option Staleness → TbsParts → DateTime → CertParts
-    → Type 0
-IsUnrevokedBy rsa ecdsa sha1 None issuer at x = Unit {0}
-IsUnrevokedBy rsa ecdsa sha1 (Some staleness) issuer at x =
-    (list : CrlParts) × IsListOf rsa ecdsa sha1 staleness issuer at list × IsUnrevoked (Some list) x
+abbrev pub IsUnrevokedBy : Checkers → Option Staleness → TbsParts → DateTime → CertParts → Type 0
+IsUnrevokedBy by None issuer at x = Unit {0}
+IsUnrevokedBy by (Some staleness) issuer at x =
+    (list : CrlParts) × IsListOf by staleness issuer at list × IsUnrevoked (Some list) x
 
 -- what is asked of lists both here and there: nothing, where either asks for none; else that which accepts more
 abbrev pub least_asked : Option Staleness → Option Staleness → Option Staleness

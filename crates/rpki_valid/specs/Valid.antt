@@ -8,7 +8,7 @@ use Rattle.rpki.specs.declared.repository.error.ValidationError.{ValidationError
 use Rattle.rpki.specs.declared.repository.error.ValidationError.TheVariants.{Decoding, Inspection, Verification}
 use Rattle.rpki.specs.ErrorContent.{verification_content}
 use Rattle.rpki.specs.declared.crypto.keys.PublicKeyFormat.TheVariants.{Rsa}
-use Rattle.rpki.specs.Provider.{Check, Verifies}
+use Rattle.rpki.specs.Provider.{Checkers, Verifies}
 use Rattle.rpki.specs.PublicKey.{KeyParts}
 use Rattle.rpki.specs.KeyIdentifier.{SpellsKeyIdentifier}
 use Rattle.rpki.specs.Signature.{SignatureParts}
@@ -45,24 +45,23 @@ Unless P E F e = ((P → ⊥) × E e) ⊎ (P × F e)
 -- ---- a certificate and its issuer's name and key
 
 -- the key, of RSA, has signed the signed octets
-abbrev pub IsSignedBy : {A : Type 0} → Check → Check → KeyParts → SignedParts A → Type 0
-IsSignedBy rsa ecdsa key signed = Verifies rsa ecdsa Rsa key.format key.bits.octets signed.signed signed.value
+abbrev pub IsSignedBy : {A : Type 0} → Checkers → KeyParts → SignedParts A → Type 0
+IsSignedBy by key signed = Verifies by Rsa key.format key.bits.octets signed.signed signed.value
 
 -- the same of octets and their signature
-abbrev pub HasSigned : {A : Type 0} → Check → Check → KeyParts → List ℕ → SignatureParts A → Type 0
-HasSigned rsa ecdsa key octets signature =
-    IsSignedBy rsa ecdsa key (parts_of octets signature.algorithm signature.value)
+abbrev pub HasSigned : {A : Type 0} → Checkers → KeyParts → List ℕ → SignatureParts A → Type 0
+HasSigned by key octets signature = IsSignedBy by key (parts_of octets signature.algorithm signature.value)
 
 -- The key has signed the signed octets, the period holds, the issuer has this name, no unknown extension is critical
 -- (RFC 5280 4.2), and the subject key identifier is that of the subject's key (RFC 6487 4.8.2).
-pub record IsSigned (rsa ecdsa : Check) (sha1 : List ℕ → List ℕ) (name : List ℕ) (key : KeyParts) (at : DateTime)
+pub record IsSigned (by : Checkers) (name : List ℕ) (key : KeyParts) (at : DateTime)
     (x : CertParts) : Type 0 where
-  pub signature : IsSignedBy rsa ecdsa key x.signed
+  pub signature : IsSignedBy by key x.signed
   pub period : HoldsAt x.tbs.validity at
   pub issuer : x.tbs.issuer ≡ name
   pub understood : IsTrue (are_understood x.tbs.extensions)
   pub subject : HasExtension subject_key_identifier false SpellsKeyIdentifier x.tbs.extensions
-      (Some (sha1 x.tbs.key.bits.octets))
+      (Some (by.sha1 x.tbs.key.bits.octets))
 
 -- the subject key identifier is this one; and the error of one that is another, which has this text
 abbrev pub HasSubject : List ℕ → TbsParts → Type 0
@@ -75,10 +74,9 @@ IsOtherSubject text t =
     (HasReason text)
 
 -- the error where one of them doesn't hold: of the first, in this order
-abbrev pub IsUnsigned : Check → Check → (List ℕ → List ℕ) → List ℕ → KeyParts → DateTime → CertParts
-    → ValidationError → Type 0
-IsUnsigned rsa ecdsa sha1 name key at x =
-    Unless (IsSignedBy rsa ecdsa key x.signed) (HasReason unsigned_text)
+abbrev pub IsUnsigned : Checkers → List ℕ → KeyParts → DateTime → CertParts → ValidationError → Type 0
+IsUnsigned by name key at x =
+    Unless (IsSignedBy by key x.signed) (HasReason unsigned_text)
     (Unless (HoldsAt x.tbs.validity at) (IsPeriodError x.tbs.validity at)
     (Unless (x.tbs.issuer ≡ name) (HasReason issuer_text)
     (Unless (IsTrue (are_understood x.tbs.extensions)) (HasReason critical_text)
@@ -90,10 +88,10 @@ HasAuthority identifier t =
     HasExtension authority_key_identifier false SpellsAuthority t.extensions (Some identifier)
 
 -- the certificate of this name and key has signed the other
-pub record IsIssued (rsa ecdsa : Check) (sha1 : List ℕ → List ℕ) (issuer : TbsParts) (at : DateTime) (x : CertParts) :
+pub record IsIssued (by : Checkers) (issuer : TbsParts) (at : DateTime) (x : CertParts) :
     Type 0 where
-  pub signed : IsSigned rsa ecdsa sha1 issuer.subject issuer.key at x
-  pub authority : HasAuthority (sha1 issuer.key.bits.octets) x.tbs
+  pub signed : IsSigned by issuer.subject issuer.key at x
+  pub authority : HasAuthority (by.sha1 issuer.key.bits.octets) x.tbs
 
 -- the error of an authority key identifier that is another
 abbrev pub IsOtherAuthority : TbsParts → ValidationError → Type 0
@@ -102,34 +100,30 @@ IsOtherAuthority t =
     (HasReason authority_text)
 
 -- a check of what IsSigned says
-abbrev pub ChecksSigned : Check → Check → (List ℕ → List ℕ) → List ℕ → KeyParts → DateTime → CertParts
-    → Result (Unit {0}) ValidationError → Type 0
-ChecksSigned rsa ecdsa sha1 name key at x =
-    ChecksBy (IsSigned rsa ecdsa sha1 name key at x) (IsUnsigned rsa ecdsa sha1 name key at x)
+abbrev pub ChecksSigned : Checkers → List ℕ → KeyParts → DateTime → CertParts → Result (Unit {0}) ValidationError
+    → Type 0
+ChecksSigned by name key at x = ChecksBy (IsSigned by name key at x) (IsUnsigned by name key at x)
 
-abbrev pub IsUnissued : Check → Check → (List ℕ → List ℕ) → TbsParts → DateTime → CertParts → ValidationError → Type 0
-IsUnissued rsa ecdsa sha1 issuer at x =
-    Unless (IsSigned rsa ecdsa sha1 issuer.subject issuer.key at x)
-    (IsUnsigned rsa ecdsa sha1 issuer.subject issuer.key at x) (IsOtherAuthority x.tbs)
+abbrev pub IsUnissued : Checkers → TbsParts → DateTime → CertParts → ValidationError → Type 0
+IsUnissued by issuer at x =
+    Unless (IsSigned by issuer.subject issuer.key at x)
+    (IsUnsigned by issuer.subject issuer.key at x) (IsOtherAuthority x.tbs)
 
 -- a check of what IsIssued says
-abbrev pub ChecksIssued : Check → Check → (List ℕ → List ℕ) → TbsParts → DateTime → CertParts
-    → Result (Unit {0}) ValidationError → Type 0
-ChecksIssued rsa ecdsa sha1 issuer at x =
-    ChecksBy (IsIssued rsa ecdsa sha1 issuer at x) (IsUnissued rsa ecdsa sha1 issuer at x)
+abbrev pub ChecksIssued : Checkers → TbsParts → DateTime → CertParts → Result (Unit {0}) ValidationError → Type 0
+ChecksIssued by issuer at x = ChecksBy (IsIssued by issuer at x) (IsUnissued by issuer at x)
 
 -- a trust anchor: its own key has signed it, and the authority key identifier is left out, or is that of its key
-pub record IsAnchor (rsa ecdsa : Check) (sha1 : List ℕ → List ℕ) (at : DateTime) (x : CertParts) : Type 0 where
-  pub signed : IsSigned rsa ecdsa sha1 x.tbs.subject x.tbs.key at x
+pub record IsAnchor (by : Checkers) (at : DateTime) (x : CertParts) : Type 0 where
+  pub signed : IsSigned by x.tbs.subject x.tbs.key at x
   pub authority : (find authority_key_identifier x.tbs.extensions ≡ None)
-      ⊎ HasAuthority (sha1 x.tbs.key.bits.octets) x.tbs
+      ⊎ HasAuthority (by.sha1 x.tbs.key.bits.octets) x.tbs
 
-abbrev pub IsNoAnchor : Check → Check → (List ℕ → List ℕ) → DateTime → CertParts → ValidationError → Type 0
-IsNoAnchor rsa ecdsa sha1 at x =
-    Unless (IsSigned rsa ecdsa sha1 x.tbs.subject x.tbs.key at x)
-    (IsUnsigned rsa ecdsa sha1 x.tbs.subject x.tbs.key at x) (IsOtherAuthority x.tbs)
+abbrev pub IsNoAnchor : Checkers → DateTime → CertParts → ValidationError → Type 0
+IsNoAnchor by at x =
+    Unless (IsSigned by x.tbs.subject x.tbs.key at x)
+    (IsUnsigned by x.tbs.subject x.tbs.key at x) (IsOtherAuthority x.tbs)
 
 -- a check of what IsAnchor says
-abbrev pub ChecksAnchor : Check → Check → (List ℕ → List ℕ) → DateTime → CertParts
-    → Result (Unit {0}) ValidationError → Type 0
-ChecksAnchor rsa ecdsa sha1 at x = ChecksBy (IsAnchor rsa ecdsa sha1 at x) (IsNoAnchor rsa ecdsa sha1 at x)
+abbrev pub ChecksAnchor : Checkers → DateTime → CertParts → Result (Unit {0}) ValidationError → Type 0
+ChecksAnchor by at x = ChecksBy (IsAnchor by at x) (IsNoAnchor by at x)

@@ -1,9 +1,10 @@
 -- Certificates that are verified: each has its profile, a path of authorities leads from it to a trust anchor, and its
 -- resources are those of its issuer, or a part of them (RFC 5280 6.1, RFC 6487 7.2, RFC 8360 4.2).
-use Rattle.std.specs.Prelude.{◌≡◌, ◌+◌, ◌<◌, ◌≤◌, ℕ, Bool, List, Option, Result, MatchResult}
+use Rattle.std.specs.Prelude.{◌≡◌, ◌+◌, ◌<◌, ◌≤◌, ℕ, Bool, Option, Result, MatchResult}
 use Rattle.jiff.specs.Types.{DateTime}
 use Rattle.rpki_time.specs.Validity.{Period, HoldsAt}
-use Rattle.rpki.specs.Provider.{Check}
+use Rattle.rpki.specs.Checkers.{Models, checkers_of}
+use Rattle.rpki.specs.Provider.{Checkers}
 use Rattle.rpki.specs.PublicKey.{KeyParts}
 use Rattle.rpki.specs.declared.repository.error.ValidationError.{ValidationError}
 use Rattle.rpki_cert.specs.declared.profile.Profile.{Profile}
@@ -22,18 +23,6 @@ use Rattle.rpki_valid.specs.Revocation.{IsUnrevoked, IsUnrevokedBy}
 use Rattle.rpki_valid.specs.ResourceSet.{HasResources, HasOwnResources, IsOut, HasNoResources, AreWithin}
 use Rattle.rpki_valid.specs.ErrorTexts.{revoked_text, other_key_text, too_long_text}
 
--- what a provider checks and digests with
-pub record Checkers : Type 1 where
-  pub rsa : Check
-  pub ecdsa : Check
-  pub sha1 : List ℕ → List ℕ
-
-abbrev pub checkers_of : Check → Check → (List ℕ → List ℕ) → Checkers
-checkers_of rsa ecdsa sha1 = record { rsa = rsa; ecdsa = ecdsa; sha1 = sha1 }
-
-abbrev pub checkers_by : {X : Type 0} → (X → Check) → (X → Check) → (X → List ℕ → List ℕ) → X → Checkers
-checkers_by rsa ecdsa sha1 provider = checkers_of (rsa provider) (ecdsa provider) (sha1 provider)
-
 -- a certificate, and the resources that it has
 pub record Holder : Type 0 where
   pub cert : CertParts
@@ -47,8 +36,8 @@ holder cert resources = record { cert = cert; resources = resources }
 pub record IsLink (profile : Profile) (strict : Bool) (asked : Option Staleness) (by : Checkers) (at : DateTime)
     (issuer x : Holder) : Type 0 where
   pub profiled : HasProfile profile strict x.cert.tbs
-  pub issued : IsIssued by.rsa by.ecdsa by.sha1 issuer.cert.tbs at x.cert
-  pub unrevoked : IsUnrevokedBy by.rsa by.ecdsa by.sha1 asked issuer.cert.tbs at x.cert
+  pub issued : IsIssued by issuer.cert.tbs at x.cert
+  pub unrevoked : IsUnrevokedBy by asked issuer.cert.tbs at x.cert
   pub resources : HasResources x.cert.tbs.extensions issuer.resources x.resources
 
 -- what all certificates of a path are checked against: the key of its trust anchor, which a locator names (RFC 8630 2);
@@ -69,7 +58,7 @@ terms_in x = terms_of x.key.now x.strictness x.deepest
 -- moment, with resources of its own
 pub record IsRoot (terms : Terms) (by : Checkers) (at : DateTime) (x : Holder) : Type 0 where
   pub profiled : HasProfile Ta terms.strictness.names x.cert.tbs
-  pub anchor : IsAnchor by.rsa by.ecdsa by.sha1 at x.cert
+  pub anchor : IsAnchor by at x.cert
   pub key : x.cert.tbs.key ≡ terms.key
   pub resources : HasOwnResources x.cert.tbs.extensions x.resources
 
@@ -117,15 +106,15 @@ authority_of cert resources period terms depth asked provider = record {
   provider = provider;
 }
 
-abbrev pub verified_by : {X : Type 0} → (X → Check) → (X → Check) → (X → List ℕ → List ℕ) → Authority X → Verified
-verified_by rsa ecdsa sha1 a = record {
+abbrev pub verified_by : {X : Type 0} → Models X → Authority X → Verified
+verified_by models a = record {
   cert = a.cert;
   resources = a.resources;
   period = a.period;
   terms = a.terms;
   depth = a.depth;
   asked = a.asked;
-  by = checkers_by rsa ecdsa sha1 a.provider;
+  by = checkers_of models a.provider;
 }
 
 -- all of its path is valid at each moment of the period
@@ -138,7 +127,7 @@ IsVerified v =
 pub record IsOnPath (list : Option CrlParts) (issuer : Verified) (at : DateTime) (x : CertParts) (held : ResourceSet)
     : Type 0 where
   pub period : HoldsAt issuer.period at
-  pub issued : IsIssued issuer.by.rsa issuer.by.ecdsa issuer.by.sha1 issuer.cert.tbs at x
+  pub issued : IsIssued issuer.by issuer.cert.tbs at x
   pub unrevoked : IsUnrevoked list x
   pub resources : HasResources x.tbs.extensions issuer.resources held
 
@@ -181,8 +170,8 @@ SettleWithin by =
 abbrev pub IsOffPath : Option CrlParts → Verified → DateTime → CertParts → ValidationError → Type 0
 IsOffPath list issuer at x =
     Unless (HoldsAt issuer.period at) (IsPeriodError issuer.period at)
-    (Unless (IsIssued issuer.by.rsa issuer.by.ecdsa issuer.by.sha1 issuer.cert.tbs at x)
-    (IsUnissued issuer.by.rsa issuer.by.ecdsa issuer.by.sha1 issuer.cert.tbs at x)
+    (Unless (IsIssued issuer.by issuer.cert.tbs at x)
+    (IsUnissued issuer.by issuer.cert.tbs at x)
     (Unless (IsUnrevoked list x) (HasReason revoked_text)
     (HasNoResources x.tbs.extensions issuer.resources)))
 
@@ -196,7 +185,7 @@ IsUnverified profile list issuer at x =
 abbrev pub IsNoRoot : Terms → Checkers → DateTime → CertParts → ValidationError → Type 0
 IsNoRoot terms by at x =
     Unless (HasProfile Ta terms.strictness.names x.tbs) (IsFirstError terms.strictness.names x.tbs (rules_of Ta))
-    (Unless (IsAnchor by.rsa by.ecdsa by.sha1 at x) (IsNoAnchor by.rsa by.ecdsa by.sha1 at x)
+    (Unless (IsAnchor by at x) (IsNoAnchor by at x)
     (Unless (x.tbs.key ≡ terms.key) (HasReason other_key_text) IsOut))
 
 -- ---- checks

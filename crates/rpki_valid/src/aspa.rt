@@ -73,9 +73,8 @@ impl<'a, 'p, P: PreparingProvider> CurrentCrl<'a, 'p, P> {
     /// The errors are those of [CurrentCrl::verify_object]; then that of the first rule that is broken, as of
     /// [verify_own_aspa].
     pub fn process_aspa(&self, alloc: Global, aspa: &Aspa) -> Result<ResourceSet, ValidationError>
-        ensures exactly { ProcessesAspa P.rsa_of P.ecdsa_of P.sha1_of P.sha256_of self.now aspa.now result }
-        ensures path { IfOk result (λ v. HasListedPath P.rsa_of P.ecdsa_of P.sha1_of Ee self.now aspa.now.object.cert
-            v) }
+        ensures exactly { ProcessesAspa P.Provider self.now aspa.now result }
+        ensures path { IfOk result (λ v. HasListedPath P.Provider Ee self.now aspa.now.object.cert v) }
         ensures within { IfOk result (λ v. AreWithin v self.now.issuer.resources) }
     {
         let held = self.verify_object(alloc, aspa.object())?;

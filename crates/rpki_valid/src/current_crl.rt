@@ -46,7 +46,7 @@ impl<'a, 'p, P: PreparingProvider> Model for CurrentCrl<'a, 'p, P> {
 
     ghost view = { λ v. in_force v.issuer.now v.list.now v.staleness v.at };
 
-    ghost invariant = { λ v. IsIssuedBy v.staleness (verified_by P.rsa_of P.ecdsa_of P.sha1_of v.issuer.now) v.at
+    ghost invariant = { λ v. IsIssuedBy v.staleness (verified_by P.Provider v.issuer.now) v.at
         v.list.now };
 }
 
@@ -113,7 +113,7 @@ fn least_asked(one: Option<Staleness>, other: Option<Staleness>) -> Option<Stale
 impl<'p, P: PreparingProvider> ResourceCert<'p, P> {
     /// Tests what [ResourceCert::crl] does.
     fn verify_list(&self, list: &Crl, staleness: Staleness, at: Time) -> Result<(), ValidationError>
-        ensures { ChecksList staleness (verified_by P.rsa_of P.ecdsa_of P.sha1_of self.now) at list.now result }
+        ensures { ChecksList staleness (verified_by P.Provider self.now) at list.now result }
     {
         verify_period(self.period(), at)?;
         let authority = self.cert().tbs();
@@ -148,10 +148,8 @@ impl<'p, P: PreparingProvider> ResourceCert<'p, P> {
         at: Time,
     ) -> Result<CurrentCrl<'a, 'p, P>, ValidationError>
         ensures ok { IfOk result (λ v. v ≡ in_force self.now list.now staleness at) }
-        ensures issued { IfOk result (λ _. IsIssuedBy staleness (verified_by P.rsa_of P.ecdsa_of P.sha1_of self.now) at
-            list.now) }
-        ensures err { IfErr result (λ e. IsRefusedList staleness
-            (verified_by P.rsa_of P.ecdsa_of P.sha1_of self.now) at list.now e) }
+        ensures issued { IfOk result (λ _. IsIssuedBy staleness (verified_by P.Provider self.now) at list.now) }
+        ensures err { IfErr result (λ e. IsRefusedList staleness (verified_by P.Provider self.now) at list.now e) }
     {
         self.verify_list(list, staleness, at)?;
         Ok(CurrentCrl {
@@ -168,8 +166,8 @@ impl<'a, 'p, P: PreparingProvider> CurrentCrl<'a, 'p, P> {
     pub fn issuer(&self) -> &'a ResourceCert<'p, P>
         ensures value { result.now ≡ self.now.issuer }
         // It has issued the list, which counts at the moment.
-        ensures issued { IsIssuedBy self.now.staleness (verified_by P.rsa_of P.ecdsa_of P.sha1_of self.now.issuer)
-            self.now.at self.now.list }
+        ensures issued { IsIssuedBy self.now.staleness (verified_by P.Provider self.now.issuer) self.now.at
+            self.now.list }
     {
         self.issuer
     }
@@ -178,8 +176,8 @@ impl<'a, 'p, P: PreparingProvider> CurrentCrl<'a, 'p, P> {
     pub fn list(&self) -> &'a Crl
         ensures value { result.now ≡ self.now.list }
         // The authority has issued it, and it counts at the moment.
-        ensures issued { IsIssuedBy self.now.staleness (verified_by P.rsa_of P.ecdsa_of P.sha1_of self.now.issuer)
-            self.now.at self.now.list }
+        ensures issued { IsIssuedBy self.now.staleness (verified_by P.Provider self.now.issuer) self.now.at
+            self.now.list }
     {
         self.list
     }
@@ -226,14 +224,13 @@ impl<'a, 'p, P: PreparingProvider> CurrentCrl<'a, 'p, P> {
         cert: &Cert,
         profile: Profile,
     ) -> Result<ResourceSet, ValidationError>
-        ensures exactly { ChecksLink profile (Some self.now.list)
-            (verified_by P.rsa_of P.ecdsa_of P.sha1_of self.now.issuer) self.now.at cert.now result }
-        ensures path { IfOk result (λ v. HasListedPath P.rsa_of P.ecdsa_of P.sha1_of profile self.now cert.now v) }
+        ensures exactly { ChecksLink profile (Some self.now.list) (verified_by P.Provider self.now.issuer) self.now.at
+            cert.now result }
+        ensures path { IfOk result (λ v. HasListedPath P.Provider profile self.now cert.now v) }
         ensures within { IfOk result (λ v. AreWithin v self.now.issuer.resources) }
-        ensures verified { IfOk result (λ _. IsVerified
-            (verified_by P.rsa_of P.ecdsa_of P.sha1_of self.now.issuer)) }
-        ensures issued { IsIssuedBy self.now.staleness (verified_by P.rsa_of P.ecdsa_of P.sha1_of self.now.issuer)
-            self.now.at self.now.list }
+        ensures verified { IfOk result (λ _. IsVerified (verified_by P.Provider self.now.issuer)) }
+        ensures issued { IsIssuedBy self.now.staleness (verified_by P.Provider self.now.issuer) self.now.at
+            self.now.list }
     {
         let list = self.list();
         self.issuer()
@@ -257,9 +254,9 @@ impl<'a, 'p, P: PreparingProvider> CurrentCrl<'a, 'p, P> {
         alloc: Global,
         cert: Cert,
     ) -> Result<ResourceCert<'p, P>, ValidationError>
-        ensures ok { IfOk result (λ v. IsVerifiedBy Ca (Some self.now.list)
-            (verified_by P.rsa_of P.ecdsa_of P.sha1_of self.now.issuer) self.now.at cert v.resources) }
-        ensures path { IfOk result (λ v. HasListedPath P.rsa_of P.ecdsa_of P.sha1_of Ca self.now cert v.resources) }
+        ensures ok { IfOk result (λ v. IsVerifiedBy Ca (Some self.now.list) (verified_by P.Provider self.now.issuer)
+            self.now.at cert v.resources) }
+        ensures path { IfOk result (λ v. HasListedPath P.Provider Ca self.now cert v.resources) }
         ensures within { IfOk result (λ v. AreWithin v.resources self.now.issuer.resources) }
         ensures cert { IfOk result (λ v. v.cert ≡ cert) }
         ensures period { IfOk result (λ v. (m : Civil)
@@ -269,10 +266,10 @@ impl<'a, 'p, P: PreparingProvider> CurrentCrl<'a, 'p, P> {
         ensures asked { IfOk result (λ v. v.asked ≡ least_asked self.now.issuer.asked (Some self.now.staleness)) }
         ensures provider { IfOk result (λ v. v.provider ≡ self.now.issuer.provider) }
         ensures err { IfErr result (λ e. IsRefusedAuthority (Some self.now.list)
-            (verified_by P.rsa_of P.ecdsa_of P.sha1_of self.now.issuer) self.now.at cert e) }
+            (verified_by P.Provider self.now.issuer) self.now.at cert e) }
         // The authority has issued the list, and it counts at the moment.
-        ensures issued { IsIssuedBy self.now.staleness (verified_by P.rsa_of P.ecdsa_of P.sha1_of self.now.issuer)
-            self.now.at self.now.list }
+        ensures issued { IsIssuedBy self.now.staleness (verified_by P.Provider self.now.issuer) self.now.at
+            self.now.list }
     {
         let depth = self.issuer().next_depth()?;
         let resources = self.verify_link(alloc, &cert, Profile::Ca)?;
@@ -294,9 +291,9 @@ impl<'a, 'p, P: PreparingProvider> CurrentCrl<'a, 'p, P> {
     ///
     /// The errors are those of [TbsCert::inspect_ee](rpki_cert::TbsCert::inspect_ee); then as there.
     pub fn verify_ee(&self, alloc: Global, cert: &Cert) -> Result<ResourceSet, ValidationError>
-        ensures exactly { ChecksLink Ee (Some self.now.list)
-            (verified_by P.rsa_of P.ecdsa_of P.sha1_of self.now.issuer) self.now.at cert.now result }
-        ensures path { IfOk result (λ v. HasListedPath P.rsa_of P.ecdsa_of P.sha1_of Ee self.now cert.now v) }
+        ensures exactly { ChecksLink Ee (Some self.now.list) (verified_by P.Provider self.now.issuer) self.now.at
+            cert.now result }
+        ensures path { IfOk result (λ v. HasListedPath P.Provider Ee self.now cert.now v) }
         ensures within { IfOk result (λ v. AreWithin v self.now.issuer.resources) }
     {
         self.verify_link(alloc, cert, Profile::Ee)
@@ -311,9 +308,9 @@ impl<'a, 'p, P: PreparingProvider> CurrentCrl<'a, 'p, P> {
         alloc: Global,
         cert: &Cert,
     ) -> Result<ResourceSet, ValidationError>
-        ensures exactly { ChecksLink DetachedEe (Some self.now.list)
-            (verified_by P.rsa_of P.ecdsa_of P.sha1_of self.now.issuer) self.now.at cert.now result }
-        ensures path { IfOk result (λ v. HasListedPath P.rsa_of P.ecdsa_of P.sha1_of DetachedEe self.now cert.now v) }
+        ensures exactly { ChecksLink DetachedEe (Some self.now.list) (verified_by P.Provider self.now.issuer)
+            self.now.at cert.now result }
+        ensures path { IfOk result (λ v. HasListedPath P.Provider DetachedEe self.now cert.now v) }
         ensures within { IfOk result (λ v. AreWithin v self.now.issuer.resources) }
     {
         self.verify_link(alloc, cert, Profile::DetachedEe)
@@ -323,13 +320,13 @@ impl<'a, 'p, P: PreparingProvider> CurrentCrl<'a, 'p, P> {
     ///
     /// The errors are those of [TbsCert::inspect_router](rpki_cert::TbsCert::inspect_router); then as there.
     pub fn verify_router(&self, alloc: Global, cert: &Cert) -> Result<ResourceSet, ValidationError>
-        ensures exactly { ChecksLink Router (Some self.now.list)
-            (verified_by P.rsa_of P.ecdsa_of P.sha1_of self.now.issuer) self.now.at cert.now result }
-        ensures path { IfOk result (λ v. HasListedPath P.rsa_of P.ecdsa_of P.sha1_of Router self.now cert.now v) }
+        ensures exactly { ChecksLink Router (Some self.now.list) (verified_by P.Provider self.now.issuer) self.now.at
+            cert.now result }
+        ensures path { IfOk result (λ v. HasListedPath P.Provider Router self.now cert.now v) }
         ensures within { IfOk result (λ v. AreWithin v self.now.issuer.resources) }
         // The authority has issued the list, and it counts at the moment.
-        ensures issued { IsIssuedBy self.now.staleness (verified_by P.rsa_of P.ecdsa_of P.sha1_of self.now.issuer)
-            self.now.at self.now.list }
+        ensures issued { IsIssuedBy self.now.staleness (verified_by P.Provider self.now.issuer) self.now.at
+            self.now.list }
     {
         self.verify_link(alloc, cert, Profile::Router)
     }

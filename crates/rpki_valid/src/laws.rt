@@ -2,7 +2,8 @@
 
 ghost use Rattle.std.specs.Prelude.{◌≡◌, ◌↔◌, IsTrue};
 ghost use Rattle.rpki_valid.specs.ResourceSet.{AreSameSets};
-ghost use Rattle.rpki_valid.specs.Verified.{checkers_by, SettleWithin};
+ghost use Rattle.rpki.specs.Checkers.{checkers_of};
+ghost use Rattle.rpki_valid.specs.Verified.{SettleWithin};
 ghost use Rattle.rpki_valid.specs.declared.staleness.Staleness.{Staleness as Asked};
 
 use crate::resource::set::ResourceSet;
@@ -12,7 +13,7 @@ use rpki::crypto::Provider;
 /// Down a path nobody has more than an authority above: what a certificate has is within what each above it has. The
 /// signatures of the path are those that the provider verifies.
 pub fn paths_settle_within<P: Provider>(provider: &P)
-    ensures { SettleWithin (checkers_by P.rsa_of P.ecdsa_of P.sha1_of provider.now) }
+    ensures { SettleWithin (checkers_of P.Provider provider.now) }
 {}
 
 /// Resources are equal where the sets of each kind are, which have the same numbers then

@@ -100,9 +100,8 @@ impl<'a, 'p, P: PreparingProvider> CurrentCrl<'a, 'p, P> {
         alloc: Global,
         manifest: &Manifest,
     ) -> Result<ResourceSet, ValidationError>
-        ensures exactly { ProcessesManifest P.rsa_of P.ecdsa_of P.sha1_of P.sha256_of self.now manifest.now result }
-        ensures path { IfOk result (λ v. HasListedPath P.rsa_of P.ecdsa_of P.sha1_of Ee self.now
-            manifest.now.object.cert v) }
+        ensures exactly { ProcessesManifest P.Provider self.now manifest.now result }
+        ensures path { IfOk result (λ v. HasListedPath P.Provider Ee self.now manifest.now.object.cert v) }
         ensures within { IfOk result (λ v. AreWithin v self.now.issuer.resources) }
     {
         let held = self.verify_object(alloc, manifest.object())?;

@@ -5,7 +5,8 @@ ghost use Rattle.rpki_cert.specs.declared.profile.Profile.TheVariants.{Ee};
 ghost use Rattle.rpki_valid.specs.ResourceSet.{AreWithin};
 ghost use Rattle.rpki_cert.specs.RuleError.{ChecksBy};
 ghost use Rattle.rpki_valid.specs.Valid.{HasReason, HasSubject, IsOtherSubject};
-ghost use Rattle.rpki_valid.specs.Verified.{checkers_by, verified_by, holder, HasPath};
+ghost use Rattle.rpki.specs.Checkers.{checkers_of};
+ghost use Rattle.rpki_valid.specs.Verified.{verified_by, holder, HasPath};
 ghost use Rattle.rpki_valid.specs.ObjectVerified.{HasSignedType, HasSignedDigest, IsSignedByKey, ChecksSigned};
 ghost use Rattle.rpki_valid.specs.CrlIssued.{HasListedPath};
 ghost use Rattle.rpki_valid.specs.ObjectVerified.{ChecksObject, ChecksListedObject};
@@ -66,8 +67,8 @@ fn verify_attributes<P: Provider>(
     object: &SignedObject,
     provider: &P,
 ) -> Result<(), ValidationError>
-    ensures { ChecksBy (IsSignedByKey (P.rsa_of provider.now) (P.ecdsa_of provider.now) object.now)
-        (HasReason unsigned_object_text) result }
+    ensures { ChecksBy (IsSignedByKey (checkers_of P.Provider provider.now) object.now) (HasReason unsigned_object_text)
+        result }
 {
     let key = object.cert().tbs().subject_public_key_info();
     match key.verify(provider, object.message().as_slice(), object.signature()) {
@@ -88,8 +89,7 @@ pub fn verify_object_signature<P: Provider>(
     object: &SignedObject,
     provider: &P,
 ) -> Result<(), ValidationError>
-    ensures { ChecksSigned (P.rsa_of provider.now) (P.ecdsa_of provider.now) (P.sha256_of provider.now) object.now
-        result }
+    ensures { ChecksSigned (checkers_of P.Provider provider.now) object.now result }
 {
     verify_content_type(object)?;
     verify_digest(object, provider)?;
@@ -108,10 +108,9 @@ impl<'p, P: PreparingProvider> ResourceCert<'p, P> {
         object: &SignedObject,
         at: Time,
     ) -> Result<ResourceSet, ValidationError>
-        ensures exactly { ChecksObject None (P.sha256_of self.now.provider)
-            (verified_by P.rsa_of P.ecdsa_of P.sha1_of self.now) at object.now result }
+        ensures exactly { ChecksObject None (verified_by P.Provider self.now) at object.now result }
         ensures path { IfOk result (λ v. HasPath Ee self.now.terms self.now.asked None
-            (checkers_by P.rsa_of P.ecdsa_of P.sha1_of self.now.provider) at (holder object.now.cert v)) }
+            (checkers_of P.Provider self.now.provider) at (holder object.now.cert v)) }
         ensures within { IfOk result (λ v. AreWithin v self.now.resources) }
     {
         verify_object_signature(object, self.provider())?;
@@ -131,8 +130,8 @@ impl<'a, 'p, P: PreparingProvider> CurrentCrl<'a, 'p, P> {
         alloc: Global,
         object: &SignedObject,
     ) -> Result<ResourceSet, ValidationError>
-        ensures exactly { ChecksListedObject P.rsa_of P.ecdsa_of P.sha1_of P.sha256_of self.now object.now result }
-        ensures path { IfOk result (λ v. HasListedPath P.rsa_of P.ecdsa_of P.sha1_of Ee self.now object.now.cert v) }
+        ensures exactly { ChecksListedObject P.Provider self.now object.now result }
+        ensures path { IfOk result (λ v. HasListedPath P.Provider Ee self.now object.now.cert v) }
         ensures within { IfOk result (λ v. AreWithin v self.now.issuer.resources) }
     {
         verify_object_signature(object, self.issuer().provider())?;

@@ -13,7 +13,8 @@ ghost use Rattle.rpki_cert.specs.ResourceExtensions.{AreWellFormed};
 ghost use Rattle.rpki_valid.specs.ResourceSet.{AreWithin};
 ghost use Rattle.rpki_valid.specs.Revocation.{IsUnrevoked};
 ghost use Rattle.rpki_valid.specs.Valid.{HasReason};
-ghost use Rattle.rpki_valid.specs.Verified.{authority_of, checkers_by, verified_by, holder, IsRootWith, IsVerified};
+ghost use Rattle.rpki.specs.Checkers.{checkers_of};
+ghost use Rattle.rpki_valid.specs.Verified.{authority_of, verified_by, holder, IsRootWith, IsVerified};
 ghost use Rattle.rpki_valid.specs.Verified.{IsVerifiedBy, HasPath, ChecksPath, ChecksLink, ChecksRoot};
 ghost use Rattle.rpki_valid.specs.Verified.{IsRefusedAuthority, IsRefusedRoot, terms_in};
 ghost use Rattle.rpki_valid.specs.ErrorTexts.{revoked_text, other_key_text, too_long_text};
@@ -60,7 +61,7 @@ impl<'p, P: PreparingProvider> Model for ResourceCert<'p, P> {
     ghost view = { λ v. authority_of v.cert v.resources v.period
         (terms_of v.terms.key.now v.terms.strictness v.terms.deepest) v.depth v.asked v.provider.now };
 
-    ghost invariant = { λ v. IsVerified (verified_by P.rsa_of P.ecdsa_of P.sha1_of
+    ghost invariant = { λ v. IsVerified (verified_by P.Provider
         (authority_of v.cert v.resources v.period (terms_of v.terms.key.now v.terms.strictness v.terms.deepest) v.depth
         v.asked v.provider.now)) × (v.key_identifier ≡ P.sha1_of v.provider.now v.cert.tbs.key.bits.octets)
         × P.is_prepared v.provider.now v.cert.tbs.key.bits.octets v.prepared_key };
@@ -74,8 +75,7 @@ fn check_ta<P: Provider>(
     terms: Terms<'_>,
     at: Time,
 ) -> Result<ResourceSet, ValidationError>
-    ensures { ChecksRoot (terms_in terms.entry) (checkers_by P.rsa_of P.ecdsa_of P.sha1_of provider.now)
-        at cert.now result }
+    ensures { ChecksRoot (terms_in terms.entry) (checkers_of P.Provider provider.now) at cert.now result }
 {
     cert.tbs().inspect_ta(terms.strictness.names)?;
     verify_anchor(cert, provider, at)?;
@@ -119,8 +119,8 @@ impl<'p, P: PreparingProvider> ResourceCert<'p, P> {
         asked: Option<Staleness>,
         provider: &'p P,
     ) -> ResourceCert<'p, P>
-        requires { IsVerified (verified_by P.rsa_of P.ecdsa_of P.sha1_of (authority_of cert resources period
-            (terms_in terms) depth asked provider.now)) }
+        requires { IsVerified (verified_by P.Provider (authority_of cert resources period (terms_in terms) depth asked
+            provider.now)) }
         ensures { result ≡ authority_of cert resources period
             (terms_in terms.entry) depth asked provider.now }
     {
@@ -159,7 +159,7 @@ impl<'p, P: PreparingProvider> ResourceCert<'p, P> {
     pub fn cert(&self) -> &Cert
         ensures value { result.now ≡ self.now.cert }
         // Its path is valid at each moment of the period, and gives it its resources.
-        ensures verified { IsVerified (verified_by P.rsa_of P.ecdsa_of P.sha1_of self.now) }
+        ensures verified { IsVerified (verified_by P.Provider self.now) }
     {
         &self.cert
     }
@@ -242,16 +242,16 @@ impl<'p, P: PreparingProvider> ResourceCert<'p, P> {
         terms: Terms<'p>,
         at: Time,
     ) -> Result<ResourceCert<'p, P>, ValidationError>
-        ensures ok { IfOk result (λ v. IsRootWith (terms_in terms.entry)
-            (checkers_by P.rsa_of P.ecdsa_of P.sha1_of provider.now) at cert v.resources) }
+        ensures ok { IfOk result (λ v. IsRootWith (terms_in terms.entry) (checkers_of P.Provider provider.now) at cert
+            v.resources) }
         ensures cert { IfOk result (λ v. v.cert ≡ cert) }
         ensures period { IfOk result (λ v. v.period ≡ cert.tbs.validity) }
         ensures terms { IfOk result (λ v. v.terms ≡ terms_in terms.entry) }
         ensures depth { IfOk result (λ v. v.depth ≡ 0) }
         ensures asked { IfOk result (λ v. v.asked ≡ Some Staleness.Refused) }
         ensures provider { IfOk result (λ v. v.provider ≡ provider.now) }
-        ensures err { IfErr result (λ e. IsRefusedRoot (terms_in terms.entry)
-            (checkers_by P.rsa_of P.ecdsa_of P.sha1_of provider.now) at cert e) }
+        ensures err { IfErr result (λ e. IsRefusedRoot (terms_in terms.entry) (checkers_of P.Provider provider.now) at
+            cert e) }
     {
         let resources = check_ta(&cert, alloc, provider, terms, at)?;
         let period = cert.tbs().validity();
@@ -270,9 +270,8 @@ impl<'p, P: PreparingProvider> ResourceCert<'p, P> {
     ) -> Result<ResourceSet, ValidationError>
         requires policy { HasSome certificate_policies true SpellsPolicies cert.now.tbs.extensions }
         requires form { AreWellFormed cert.now.tbs.extensions }
-        ensures exactly { ChecksPath (option_copied list.entry) (verified_by P.rsa_of P.ecdsa_of P.sha1_of self.now) at
-            cert.now result }
-        ensures verified { IsVerified (verified_by P.rsa_of P.ecdsa_of P.sha1_of self.now) }
+        ensures exactly { ChecksPath (option_copied list.entry) (verified_by P.Provider self.now) at cert.now result }
+        ensures verified { IsVerified (verified_by P.Provider self.now) }
     {
         let authority = self.cert();
         verify_period(self.period(), at)?;
@@ -294,10 +293,10 @@ impl<'p, P: PreparingProvider> ResourceCert<'p, P> {
         profile: Profile,
         at: Time,
     ) -> Result<ResourceSet, ValidationError>
-        ensures exactly { ChecksLink profile (option_copied list.entry)
-            (verified_by P.rsa_of P.ecdsa_of P.sha1_of self.now) at cert.now result }
+        ensures exactly { ChecksLink profile (option_copied list.entry) (verified_by P.Provider self.now) at cert.now
+            result }
         ensures within { IfOk result (λ v. AreWithin v self.now.resources) }
-        ensures verified { IfOk result (λ _. IsVerified (verified_by P.rsa_of P.ecdsa_of P.sha1_of self.now)) }
+        ensures verified { IfOk result (λ _. IsVerified (verified_by P.Provider self.now)) }
     {
         cert.tbs().inspect(profile, self.strictness().names)?;
         self.verify_path(alloc, cert, list, at)
@@ -311,12 +310,11 @@ impl<'p, P: PreparingProvider> ResourceCert<'p, P> {
         profile: Profile,
         at: Time,
     ) -> Result<ResourceSet, ValidationError>
-        ensures exactly { ChecksLink profile None (verified_by P.rsa_of P.ecdsa_of P.sha1_of self.now) at cert.now
-            result }
+        ensures exactly { ChecksLink profile None (verified_by P.Provider self.now) at cert.now result }
         ensures path { IfOk result (λ v. HasPath profile self.now.terms self.now.asked None
-            (checkers_by P.rsa_of P.ecdsa_of P.sha1_of self.now.provider) at (holder cert.now v)) }
+            (checkers_of P.Provider self.now.provider) at (holder cert.now v)) }
         ensures within { IfOk result (λ v. AreWithin v self.now.resources) }
-        ensures verified { IfOk result (λ _. IsVerified (verified_by P.rsa_of P.ecdsa_of P.sha1_of self.now)) }
+        ensures verified { IfOk result (λ _. IsVerified (verified_by P.Provider self.now)) }
     {
         self.check_link(alloc, cert, None, profile, at)
     }
@@ -332,10 +330,9 @@ impl<'p, P: PreparingProvider> ResourceCert<'p, P> {
         cert: Cert,
         at: Time,
     ) -> Result<ResourceCert<'p, P>, ValidationError>
-        ensures ok { IfOk result (λ v. IsVerifiedBy Ca None
-            (verified_by P.rsa_of P.ecdsa_of P.sha1_of self.now) at cert v.resources) }
+        ensures ok { IfOk result (λ v. IsVerifiedBy Ca None (verified_by P.Provider self.now) at cert v.resources) }
         ensures path { IfOk result (λ v. HasPath Ca self.now.terms self.now.asked None
-            (checkers_by P.rsa_of P.ecdsa_of P.sha1_of self.now.provider) at (holder cert v.resources)) }
+            (checkers_of P.Provider self.now.provider) at (holder cert v.resources)) }
         ensures within { IfOk result (λ v. AreWithin v.resources self.now.resources) }
         ensures cert { IfOk result (λ v. v.cert ≡ cert) }
         ensures period { IfOk result (λ v. (m : Civil)
@@ -344,8 +341,7 @@ impl<'p, P: PreparingProvider> ResourceCert<'p, P> {
         ensures depth { IfOk result (λ v. v.depth ≡ self.now.depth + 1) }
         ensures asked { IfOk result (λ v. v.asked ≡ None) }
         ensures provider { IfOk result (λ v. v.provider ≡ self.now.provider) }
-        ensures err { IfErr result (λ e. IsRefusedAuthority None
-            (verified_by P.rsa_of P.ecdsa_of P.sha1_of self.now) at cert e) }
+        ensures err { IfErr result (λ e. IsRefusedAuthority None (verified_by P.Provider self.now) at cert e) }
     {
         let depth = self.next_depth()?;
         let resources = self.verify_unlisted(alloc, &cert, Profile::Ca, at)?;
@@ -364,9 +360,9 @@ impl<'p, P: PreparingProvider> ResourceCert<'p, P> {
         cert: &Cert,
         at: Time,
     ) -> Result<ResourceSet, ValidationError>
-        ensures exactly { ChecksLink Ee None (verified_by P.rsa_of P.ecdsa_of P.sha1_of self.now) at cert.now result }
+        ensures exactly { ChecksLink Ee None (verified_by P.Provider self.now) at cert.now result }
         ensures path { IfOk result (λ v. HasPath Ee self.now.terms self.now.asked None
-            (checkers_by P.rsa_of P.ecdsa_of P.sha1_of self.now.provider) at (holder cert.now v)) }
+            (checkers_of P.Provider self.now.provider) at (holder cert.now v)) }
         ensures within { IfOk result (λ v. AreWithin v self.now.resources) }
     {
         self.verify_unlisted(alloc, cert, Profile::Ee, at)
@@ -380,10 +376,9 @@ impl<'p, P: PreparingProvider> ResourceCert<'p, P> {
         cert: &Cert,
         at: Time,
     ) -> Result<ResourceSet, ValidationError>
-        ensures exactly { ChecksLink DetachedEe None (verified_by P.rsa_of P.ecdsa_of P.sha1_of self.now) at cert.now
-            result }
+        ensures exactly { ChecksLink DetachedEe None (verified_by P.Provider self.now) at cert.now result }
         ensures path { IfOk result (λ v. HasPath DetachedEe self.now.terms self.now.asked None
-            (checkers_by P.rsa_of P.ecdsa_of P.sha1_of self.now.provider) at (holder cert.now v)) }
+            (checkers_of P.Provider self.now.provider) at (holder cert.now v)) }
         ensures within { IfOk result (λ v. AreWithin v self.now.resources) }
     {
         self.verify_unlisted(alloc, cert, Profile::DetachedEe, at)
@@ -397,10 +392,9 @@ impl<'p, P: PreparingProvider> ResourceCert<'p, P> {
         cert: &Cert,
         at: Time,
     ) -> Result<ResourceSet, ValidationError>
-        ensures exactly { ChecksLink Router None (verified_by P.rsa_of P.ecdsa_of P.sha1_of self.now) at cert.now
-            result }
+        ensures exactly { ChecksLink Router None (verified_by P.Provider self.now) at cert.now result }
         ensures path { IfOk result (λ v. HasPath Router self.now.terms self.now.asked None
-            (checkers_by P.rsa_of P.ecdsa_of P.sha1_of self.now.provider) at (holder cert.now v)) }
+            (checkers_of P.Provider self.now.provider) at (holder cert.now v)) }
         ensures within { IfOk result (λ v. AreWithin v self.now.resources) }
     {
         self.verify_unlisted(alloc, cert, Profile::Router, at)

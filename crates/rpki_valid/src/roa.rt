@@ -69,9 +69,8 @@ impl<'a, 'p, P: PreparingProvider> CurrentCrl<'a, 'p, P> {
     ///
     /// The errors are those of [CurrentCrl::verify_object]; then those of [verify_own_roa].
     pub fn process_roa(&self, alloc: Global, roa: &Roa) -> Result<ResourceSet, ValidationError>
-        ensures exactly { ProcessesOrigin P.rsa_of P.ecdsa_of P.sha1_of P.sha256_of self.now roa.now result }
-        ensures path { IfOk result (λ v. HasListedPath P.rsa_of P.ecdsa_of P.sha1_of Ee self.now roa.now.object.cert
-            v) }
+        ensures exactly { ProcessesOrigin P.Provider self.now roa.now result }
+        ensures path { IfOk result (λ v. HasListedPath P.Provider Ee self.now roa.now.object.cert v) }
         ensures within { IfOk result (λ v. AreHeldWithin v self.now.issuer.resources) }
     {
         let held = self.verify_object(alloc, roa.object())?;

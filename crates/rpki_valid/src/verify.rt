@@ -2,6 +2,7 @@
 
 ghost use Rattle.std.specs.Prelude.{◌≡◌, ◌↔◌, ◌⊎◌, false, None, Option, IsTrue};
 ghost use Rattle.rpki_time.specs.Validity.{HoldsAt};
+ghost use Rattle.rpki.specs.Checkers.{checkers_of};
 ghost use Rattle.rpki_cert.specs.Cert.{find};
 ghost use Rattle.rpki_x509.specs.Authority.{authority_key_identifier};
 ghost use Rattle.rpki_cert.specs.Known.{are_understood};
@@ -119,7 +120,7 @@ pub fn verify_signature<P: Provider>(
     key: &PublicKey,
     text: &'static str,
 ) -> Result<(), ValidationError>
-    ensures { ChecksBy (HasSigned (P.rsa_of provider.now) (P.ecdsa_of provider.now) key.now octets.now signature.now)
+    ensures { ChecksBy (HasSigned (checkers_of P.Provider provider.now) key.now octets.now signature.now)
         (HasReason text.now) result }
 {
     match key.verify(provider, octets, signature) {
@@ -137,8 +138,7 @@ fn verify_signed<P: Provider>(
     issuer_key: &PublicKey,
     at: Time,
 ) -> Result<(), ValidationError>
-    ensures { ChecksSigned (P.rsa_of provider.now) (P.ecdsa_of provider.now) (P.sha1_of provider.now) issuer.now
-        issuer_key.now at cert.now result }
+    ensures { ChecksSigned (checkers_of P.Provider provider.now) issuer.now issuer_key.now at cert.now result }
 {
     let own = cert.tbs();
     let signed = cert.signed_data();
@@ -165,8 +165,7 @@ pub(crate) fn verify_issued_by<P: Provider>(
     at: Time,
 ) -> Result<(), ValidationError>
     requires { authority ≡ P.sha1_of provider.now issuer.now.key.bits.octets }
-    ensures { ChecksIssued (P.rsa_of provider.now) (P.ecdsa_of provider.now) (P.sha1_of provider.now) issuer.now
-        at cert.now result }
+    ensures { ChecksIssued (checkers_of P.Provider provider.now) issuer.now at cert.now result }
 {
     verify_signed(
         cert,
@@ -192,8 +191,7 @@ pub fn verify_issued<P: Provider>(
     issuer: &TbsCert,
     at: Time,
 ) -> Result<(), ValidationError>
-    ensures { ChecksIssued (P.rsa_of provider.now) (P.ecdsa_of provider.now) (P.sha1_of provider.now) issuer.now
-        at cert.now result }
+    ensures { ChecksIssued (checkers_of P.Provider provider.now) issuer.now at cert.now result }
 {
     let authority = issuer.subject_public_key_info().key_identifier(provider);
     verify_issued_by(cert, provider, issuer, authority, at)
@@ -208,8 +206,7 @@ pub(crate) fn verify_anchor<P: Provider>(
     provider: &P,
     at: Time,
 ) -> Result<(), ValidationError>
-    ensures { ChecksAnchor (P.rsa_of provider.now) (P.ecdsa_of provider.now) (P.sha1_of provider.now) at cert.now
-        result }
+    ensures { ChecksAnchor (checkers_of P.Provider provider.now) at cert.now result }
 {
     let own = cert.tbs();
     verify_signed(

@@ -6,7 +6,7 @@ use Rattle.std.specs.List.{Contains}
 use Rattle.std.proofs.lemmas.List.Elements.{Contains-append_left, Contains-append_right, Contains-append_cases}
 use Rattle.std.proofs.lemmas.List.Elements.{Contains-push, Contains-push_cases}
 use Rattle.jiff.specs.Types.{DateTime}
-use Rattle.rpki.specs.Provider.{Check}
+use Rattle.rpki.specs.Checkers.{Models}
 use Rattle.rpki_cert.specs.declared.profile.Profile.TheVariants.{Ca, Router}
 use Rattle.rpki_contents.specs.Aspa.{AspaParts}
 use Rattle.rpki_contents.specs.ListedFile.{ListedFile}
@@ -158,18 +158,18 @@ no-octets end P [] more short h = h
 no-octets end P (file ∷ files) [] short h = h
 no-octets end P (file ∷ files) (o ∷ os) short h = absurd (omega (arith, short))
 
-module _ {X : Type 0} (rsa ecdsa : X → Check) (sha1 sha256 : X → List ℕ → List ℕ) (c : InForce X) where
+module _ {X : Type 0} (models : Models X) (c : InForce X) where
   abbrev Origin : RouteOrigin → List ℕ → Type 0
-  Origin = SaysOriginHere rsa ecdsa sha1 sha256 c
+  Origin = SaysOriginHere models c
 
   abbrev Providers : TypedParts AspaParts → List ℕ → Type 0
-  Providers = AreProvidersHere rsa ecdsa sha1 sha256 c
+  Providers = AreProvidersHere models c
 
   abbrev RouterCert : Holder → List ℕ → Type 0
-  RouterCert = IsCertHere rsa ecdsa sha1 sha256 c Router
+  RouterCert = IsCertHere models c Router
 
   abbrev CaCert : Holder → List ℕ → Type 0
-  CaCert = IsCertHere rsa ecdsa sha1 sha256 c Ca
+  CaCert = IsCertHere models c Ca
 
   -- of what files say, what the rest say is still to be added
   pub record AreLeft (files rest : List ListedFile) (octets more : List (List ℕ)) (old now : Found) : Type 0 where
@@ -179,7 +179,7 @@ module _ {X : Type 0} (rsa ecdsa : X → Check) (sha1 sha256 : X → List ℕ �
         (λ x. IsSaidAmong (codes ".asa") (Providers x) files octets) old.providers now.providers
     pub routers : IsAdded (λ x. IsSaidAmong (codes ".cer") (RouterCert x) rest more)
         (λ x. IsSaidAmong (codes ".cer") (RouterCert x) files octets) old.routers now.routers
-    pub below : MayIssue rsa ecdsa sha1 sha256 c → IsAdded (λ x. IsSaidAmong (codes ".cer") (CaCert x) rest more)
+    pub below : MayIssue models c → IsAdded (λ x. IsSaidAmong (codes ".cer") (CaCert x) rest more)
         (λ x. IsSaidAmong (codes ".cer") (CaCert x) files octets) old.below now.below
 
   module _ (files : List ListedFile) (octets : List (List ℕ)) (old : Found) where
@@ -195,7 +195,7 @@ module _ {X : Type 0} (rsa ecdsa : X → Check) (sha1 sha256 : X → List ℕ �
         (before : AreLeft files rest octets more old now) where
       pub files-step : (file : ListedFile) (following : List ListedFile) (one : List ℕ) (later : List (List ℕ))
           (then : Found) → rest ≡ file ∷ following → more ≡ one ∷ later
-          → AddsFile rsa ecdsa sha1 sha256 c file one now then → AreLeft files following octets later old then
+          → AddsFile models c file one now then → AreLeft files following octets later old then
       files-step file following one later then r m step =
           step-at (subst (λ (q : List ListedFile). AreLeft files q octets (one ∷ later) old now) r
           (subst (λ (q : List (List ℕ)). AreLeft files rest octets q old now) m before)) where
@@ -213,7 +213,7 @@ module _ {X : Type 0} (rsa ecdsa : X → Check) (sha1 sha256 : X → List ℕ �
             }
 
       none-left : ((end : List ℕ) (P : List ℕ → Type 0) → IsSaidAmong end P rest more → ⊥)
-          → AddsFiles rsa ecdsa sha1 sha256 c files octets old now
+          → AddsFiles models c files octets old now
       none-left none = record {
         origins = added-end _ _ _ _ (λ v. none (codes ".roa") (Origin v)) before.origins;
         providers = added-end _ _ _ _ (λ x. none (codes ".asa") (Providers x)) before.providers;
@@ -222,9 +222,9 @@ module _ {X : Type 0} (rsa ecdsa : X → Check) (sha1 sha256 : X → List ℕ �
       }
 
       -- no file remains
-      pub files-end : length rest ≡ 0 → AddsFiles rsa ecdsa sha1 sha256 c files octets old now
+      pub files-end : length rest ≡ 0 → AddsFiles models c files octets old now
       files-end short = none-left (λ end P. no-file end P rest more short)
 
       -- no octets are
-      pub octets-end : length more ≡ 0 → AddsFiles rsa ecdsa sha1 sha256 c files octets old now
+      pub octets-end : length more ≡ 0 → AddsFiles models c files octets old now
       octets-end short = none-left (λ end P. no-octets end P rest more short)

@@ -51,12 +51,12 @@ alike-then x y z h k = record {
 -- ---- what they issue
 
 module _ (published : Published) (basis : Basis) (x y : Holder) (same : AreAlike x y) where
-  issued-alike : (c : CertParts) → IsIssued basis.by.rsa basis.by.ecdsa basis.by.sha1 x.cert.tbs basis.at c
-      → IsIssued basis.by.rsa basis.by.ecdsa basis.by.sha1 y.cert.tbs basis.at c
+  issued-alike : (c : CertParts) → IsIssued basis.by x.cert.tbs basis.at c
+      → IsIssued basis.by y.cert.tbs basis.at c
   issued-alike c h = record {
-    signed = subst (λ (s : List ℕ). IsSigned basis.by.rsa basis.by.ecdsa basis.by.sha1 s y.cert.tbs.key basis.at c)
+    signed = subst (λ (s : List ℕ). IsSigned basis.by s y.cert.tbs.key basis.at c)
         same.subject
-        (subst (λ (k : KeyParts). IsSigned basis.by.rsa basis.by.ecdsa basis.by.sha1 x.cert.tbs.subject k basis.at c)
+        (subst (λ (k : KeyParts). IsSigned basis.by x.cert.tbs.subject k basis.at c)
         same.key h.signed);
     authority = subst (λ (k : KeyParts). HasAuthority (basis.by.sha1 k.bits.octets) c.tbs) same.key h.authority;
   }
@@ -82,7 +82,7 @@ module _ (published : Published) (basis : Basis) (x y : Holder) (same : AreAlike
   list-alike list h = record {
     period = h.period;
     list = record {
-      signature = subst (λ (k : KeyParts). IsSignedBy basis.by.rsa basis.by.ecdsa k list.signed) same.key
+      signature = subst (λ (k : KeyParts). IsSignedBy basis.by k list.signed) same.key
           h.list.signature;
       name = h.list.name ∙ same.subject;
       authority = subst (λ (k : KeyParts). list.list.extensions.authority ≡ basis.by.sha1 k.bits.octets) same.key

@@ -1,6 +1,7 @@
 -- The trust anchor of a locator: of its URIs, in their order, that of the first from which one was fetched.
 use Rattle.std.proofs.Common.{◌≡◌, ◌∙◌, inl, inr, ℕ, List, [], ◌∷◌, Option, Some, None, length, refl, sym, subst, arith}
 use Rattle.std.specs.Prelude.{◌↔◌, Result, Ok, Err}
+use Rattle.rpki_der.proofs.ReadingLaws.{UnlessMemory-weaker}
 use Rattle.rpki_der.specs.Prelude.{SpellsNothing, UnlessMemory}
 use Rattle.rpki.specs.declared.repository.error.ValidationError.{ValidationError}
 use Rattle.rpki_cert.specs.declared.read.cert_error.CertError.{CertError}
@@ -8,6 +9,7 @@ use Rattle.rpki_cert.specs.Cert.{CertParts, SpellsCert}
 use Rattle.rpki_cert.specs.CertFault.{IsDecodedPart}
 use Rattle.rpki_locator.specs.declared.anchor_uri.AnchorUri.{AnchorUri}
 use Rattle.rpki_locator.specs.Locator.{uri_text}
+use Rattle.rpki_cert.proofs.KnownLaws.{unless-weaker}
 use Rattle.rpki_valid.specs.declared.resource.set.ResourceSet.{ResourceSet}
 use Rattle.rpki_valid.specs.ResourceSet.{HasOwnResources}
 use Rattle.rpki_valid.specs.Verified.{Authority, Holder, IsRefusedRoot, IsRootWith, holder}
@@ -20,7 +22,7 @@ use Rattle.rpki_validation.specs.Finding.{Finds, IsSole, StopsAt, cert_stop_of, 
 use Rattle.rpki_validation.specs.Reached.{IsAnchorAt, IsAnchorIn, IsFirstAnchor, IsNoAnchor, IsNoAnchorAt, IsNoAnchorIn}
 use Rattle.rpki_validation.specs.Reached.IsFirstAnchor.{Here, Later}
 use Rattle.rpki_validation.specs.Snapshot.{Published}
-use Rattle.rpki_validation.proofs.FindingLaws.{stops-invalid, stops-malformed-cert, unless-then, unless-valid}
+use Rattle.rpki_validation.proofs.FindingLaws.{stops-invalid, stops-malformed-cert}
 use Rattle.rpki_validation.proofs.OneHolderLaws.{one-own-held}
 
 -- ---- octets
@@ -35,14 +37,14 @@ module _ (basis : Basis) (octets : List ℕ) where
   pub anchor-malformed : (q : CertError) → UnlessMemory q.error (SpellsNothing SpellsCert octets)
       → IsDecodedPart octets q → StopsAt Anchor Why (cert_stop_of q)
   anchor-malformed q none part =
-      stops-malformed-cert Anchor Why q (unless-then q.error (λ no x k. no x.cert k.spells) none) part
+      stops-malformed-cert Anchor Why q (UnlessMemory-weaker q.error (λ no x k. no x.cert k.spells) none) part
 
   module _ (x : CertParts) (read : SpellsCert x octets × ((w : CertParts) → SpellsCert w octets → w ≡ x)) where
     pub anchor-refused : (e : ValidationError) → IsRefusedRoot basis.terms basis.by basis.at x e
         → StopsAt Anchor Why (invalid_stop_of e)
     anchor-refused e h =
         stops-invalid Anchor Why e
-        (unless-valid e (λ none y k. none y.resources
+        (unless-weaker e (λ none y k. none y.resources
         (subst (λ (z : CertParts). IsRootWith basis.terms basis.by basis.at z y.resources) (read.1 y.cert k.spells)
         k.root)) h.0)
         (x, read.0, h)

@@ -57,52 +57,8 @@ module _ {V : Type 0} (P : V → Type 0) (K : Reason → Type 0) where
   stops-invalid (Inspection e) none k = (none, k)
   stops-invalid (Verification e) none k = (none, k)
 
-  -- the same of an error that says all but where allocation failed
-  pub stops-said : (e : ValidationError) → UnlessNoMemory e (IsNone P × K (Invalid e)) → StopsAt P K (invalid_stop_of e)
-  stops-said (Decoding e) h = said e h where
-    said : (e : DecodeError) → UnlessMemory e (IsNone P × K (Invalid (Decoding e)))
-        → StopsAt P K (invalid_stop_of (Decoding e))
-    said Truncated h = h
-    said BadTag h = h
-    said BadLength h = h
-    said Unexpected h = h
-    said (Content e) h = h
-    said Trailing h = h
-    said der.OutOfMemory h = tt
-  stops-said (Inspection e) h = h
-  stops-said (Verification e) h = h
-
   -- of another step, where nothing is found in the one, and so nothing in the other
   pub stops-later : {W : Type 0} (Q : W → Type 0) (L : Reason → Type 0) (s : Stop) → StopsAt Q L s
       → (IsNone Q → IsNone P) → ((reason : Reason) → L reason → K reason) → StopsAt P K s
   stops-later Q L (Rejected reason) h none why = (none h.0, why reason h.1)
   stops-later Q L OutOfMemory h none why = tt
-
--- ---- the same, under errors that say less
-
-pub unless-then : (e : DecodeError) {A B : Type 0} → (A → B) → UnlessMemory e A → UnlessMemory e B
-unless-then Truncated f h = f h
-unless-then BadTag f h = f h
-unless-then BadLength f h = f h
-unless-then Unexpected f h = f h
-unless-then (Content e) f h = f h
-unless-then Trailing f h = f h
-unless-then der.OutOfMemory f h = tt
-
-pub unless-valid : (e : ValidationError) {A B : Type 0} → (A → B) → UnlessNoMemory e A → UnlessNoMemory e B
-unless-valid (Decoding e) f h = unless-then e f h
-unless-valid (Inspection e) f h = f h
-unless-valid (Verification e) f h = f h
-
-pub unless-here : (e : ValidationError) {A : Type 0} → A → UnlessNoMemory e A
-unless-here (Decoding e) a = here e a where
-  here : (e : DecodeError) {A : Type 0} → A → UnlessMemory e A
-  here Truncated a = a
-  here BadTag a = a
-  here BadLength a = a
-  here Unexpected a = a
-  here (Content e) a = a
-  here Trailing a = a
-  here der.OutOfMemory a = tt
-unless-here (Inspection e) a = a
-unless-here (Verification e) a = a

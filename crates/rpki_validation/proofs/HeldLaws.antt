@@ -5,8 +5,8 @@ use Rattle.std.proofs.Common.{subst, sym}
 use Rattle.std.specs.List.{Contains}
 use Rattle.std.proofs.lemmas.List.Elements.{Contains-append_cases}
 use Rattle.jiff.specs.Types.{DateTime}
-use Rattle.rpki.specs.Provider.{Check}
 use Rattle.rpki_time.specs.Validity.{Period}
+use Rattle.rpki.specs.Checkers.{Models}
 use Rattle.rpki_contents.specs.declared.route_origin.RouteOrigin.{RouteOrigin}
 use Rattle.rpki_contents.specs.ListedFile.{ListedFile}
 use Rattle.rpki_objects.specs.TypedObject.{TypedParts}
@@ -75,11 +75,11 @@ module _ {T : Type 0} (period : Period) where
 
 -- ---- files, in sequence
 
-module _ {X : Type 0} (rsa ecdsa : X → Check) (sha1 sha256 : X → List ℕ → List ℕ) (c : InForce X)
+module _ {X : Type 0} (models : Models X) (c : InForce X)
     (files : List ListedFile) (octets : List (List ℕ)) where
   abbrev UpTo : {T : Type 0} → List ℕ → SaysBy T → List ListedFile → List (List ℕ) → List (Payload T)
       → List (Payload T) → Type 0
-  UpTo end Says rest more = AddsUpTo (IsSaidByFile rsa ecdsa sha1 sha256 c end Says) files rest octets more
+  UpTo end Says rest more = AddsUpTo (IsSaidByFile models c end Says) files rest octets more
 
   pub record HeldUpTo (rest : List ListedFile) (more : List (List ℕ)) (old now : Outcome) : Type 0 where
     pub origins : UpTo (codes ".roa") SaysOriginBy rest more old.origins.items now.origins.items
@@ -94,7 +94,7 @@ module _ {X : Type 0} (rsa ecdsa : X → Check) (sha1 sha256 : X → List ℕ �
   }
 
   pub held-end : (rest : List ListedFile) (more : List (List ℕ)) (old now : Outcome) → HeldUpTo rest more old now
-      → AddsHeldFiles rsa ecdsa sha1 sha256 c files octets old now
+      → AddsHeldFiles models c files octets old now
   held-end rest more old now h =
       record { origins = h.origins.each; providers = h.providers.each; routers = h.routers.each }
 
@@ -106,9 +106,9 @@ module _ {X : Type 0} (rsa ecdsa : X → Check) (sha1 sha256 : X → List ℕ �
         (subst (λ (q : List (List ℕ)). HeldUpTo rest q old now) m before)
 
     pub held-step : (old now then : Outcome) → HeldUpTo rest more old now
-        → AddsHeld (IsSaidByFile rsa ecdsa sha1 sha256 c (codes ".roa") SaysOriginBy file one)
-        (IsSaidByFile rsa ecdsa sha1 sha256 c (codes ".asa") SaysProvidersBy file one)
-        (IsSaidByFile rsa ecdsa sha1 sha256 c (codes ".cer") SaysRouterBy file one) now then
+        → AddsHeld (IsSaidByFile models c (codes ".roa") SaysOriginBy file one)
+        (IsSaidByFile models c (codes ".asa") SaysProvidersBy file one)
+        (IsSaidByFile models c (codes ".cer") SaysRouterBy file one) now then
         → HeldUpTo following later old then
     held-step old now then before h =
         let b = here old now before in
@@ -123,27 +123,27 @@ module _ {X : Type 0} (rsa ecdsa : X → Check) (sha1 sha256 : X → List ℕ �
 
 -- ---- the point of an authority
 
-module _ {X : Type 0} (rsa ecdsa : X → Check) (sha1 sha256 : X → List ℕ → List ℕ) (published : Published)
+module _ {X : Type 0} (models : Models X) (published : Published)
     (issuer : Authority X) (at : DateTime) (p : PublicationParts)
-    (sole : IsSole (Publishes rsa ecdsa sha1 sha256 published issuer at) p)
-    (holds : HoldsAtMoment (Basis' rsa ecdsa sha1 sha256 published issuer at)
-    (Holder' rsa ecdsa sha1 sha256 published issuer at) p)
+    (sole : IsSole (Publishes models published issuer at) p)
+    (holds : HoldsAtMoment (Basis' models published issuer at)
+    (Holder' models published issuer at) p)
     (os : List (List ℕ))
-    (are : AreOctetsOf published (sha256 issuer.provider) p.folder p.manifest.content.files os) where
+    (are : AreOctetsOf published (models.sha256_of issuer.provider) p.folder p.manifest.content.files os) where
   abbrev C : InForce X
   C = in_force issuer p.list Refused at
 
   abbrev Own : Basis
-  Own = basis_of rsa ecdsa sha1 sha256 issuer at
+  Own = basis_of models issuer at
 
   said-for : {T : Type 0} (end : List ℕ) (Says : SaysBy T) (v : Payload T)
-      → IsSaidByOne rsa ecdsa sha1 sha256 C end Says p.manifest.content.files os v
+      → IsSaidByOne models C end Says p.manifest.content.files os v
       → IsSaidOf published Own end Says issuer v
   said-for end Says v h =
-      let k = pair-out published (sha256 issuer.provider) p.folder _ p.manifest.content.files os are h in
+      let k = pair-out published (models.sha256_of issuer.provider) p.folder _ p.manifest.content.files os are h in
       record {
         point = p;
-        published_there = There rsa ecdsa sha1 sha256 published issuer at p sole holds os are;
+        published_there = There models published issuer at p sole holds os are;
         octets = k.octets;
         file = record { file = k.file; listed = k.listed; ends = k.is.0; stands = k.stands };
         cert = k.is.1.0;
@@ -151,7 +151,7 @@ module _ {X : Type 0} (rsa ecdsa : X → Check) (sha1 sha256 : X → List ℕ �
         period = k.is.1.2;
       }
 
-  said-all : (old new : Outcome) → AddsHeldFiles rsa ecdsa sha1 sha256 C p.manifest.content.files os old new
+  said-all : (old new : Outcome) → AddsHeldFiles models C p.manifest.content.files os old new
       → AddsHeld (IsSaidOf published Own (codes ".roa") SaysOriginBy issuer)
       (IsSaidOf published Own (codes ".asa") SaysProvidersBy issuer)
       (IsSaidOf published Own (codes ".cer") SaysRouterBy issuer) old new
@@ -163,12 +163,12 @@ module _ {X : Type 0} (rsa ecdsa : X → Check) (sha1 sha256 : X → List ℕ �
   }
 
   pub files-held : (c : InForce X) → c ≡ in_force issuer p.list Refused at → (old new : Outcome)
-      → AddsHeldFiles rsa ecdsa sha1 sha256 c p.manifest.content.files os old new
+      → AddsHeldFiles models c p.manifest.content.files os old new
       → AddsHeld (IsSaidOf published Own (codes ".roa") SaysOriginBy issuer)
       (IsSaidOf published Own (codes ".asa") SaysProvidersBy issuer)
       (IsSaidOf published Own (codes ".cer") SaysRouterBy issuer) old new
   files-held c e old new h =
-      said-all old new (subst (λ (q : InForce X). AddsHeldFiles rsa ecdsa sha1 sha256 q p.manifest.content.files os old
+      said-all old new (subst (λ (q : InForce X). AddsHeldFiles models q p.manifest.content.files os old
       new) e h)
 
 -- nothing is added
@@ -181,13 +181,13 @@ held-nothing {P} {Q} {R} o = record {
 }
 
 -- nothing is added, of the files of an authority, nor is what is below it
-module _ {X R : Type 0} (rsa ecdsa : X → Check) (sha1 sha256 : X → List ℕ → List ℕ) (known : Option Published)
+module _ {X R : Type 0} (models : Models X) (known : Option Published)
     (issuer : Authority X) (at : DateTime) (r : Result R Stop) where
-  pub held-never : (o : Outcome) → WhereMemory r (AddsHeldOf rsa ecdsa sha1 sha256 known issuer at o o)
+  pub held-never : (o : Outcome) → WhereMemory r (AddsHeldOf models known issuer at o o)
   held-never o =
-      where-always (AddsHeldOf rsa ecdsa sha1 sha256 known issuer at o o) r (λ published e. held-nothing o)
+      where-always (AddsHeldOf models known issuer at o o) r (λ published e. held-nothing o)
 
   pub below-never : (xs : List (Authority X))
-      → WhereMemory r (AddsBelow rsa ecdsa sha1 sha256 known issuer at xs xs)
+      → WhereMemory r (AddsBelow models known issuer at xs xs)
   below-never xs =
-      where-always (AddsBelow rsa ecdsa sha1 sha256 known issuer at xs xs) r (λ published e. adds-nothing _ xs)
+      where-always (AddsBelow models known issuer at xs xs) r (λ published e. adds-nothing _ xs)

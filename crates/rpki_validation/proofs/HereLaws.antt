@@ -4,7 +4,8 @@ use Rattle.std.proofs.Common.{Option, arith, inl, inr, nat_eq, subst, sym}
 use Rattle.std.specs.List.{Contains, ends_with}
 use Rattle.std.specs.Bool.{MatchBool}
 use Rattle.std.specs.Prelude.{IfErr, IsErr, IsErrAnd}
-use Rattle.rpki.specs.Provider.{Check}
+use Rattle.rpki.specs.Provider.{Checkers}
+use Rattle.rpki.specs.Checkers.{Models, checkers_of}
 use Rattle.rpki_cert.specs.declared.profile.Profile.{Profile}
 use Rattle.rpki_cert.specs.declared.profile.Profile.TheVariants.{Ca, Router}
 use Rattle.rpki_cert.specs.Cert.{CertParts, SpellsCert}
@@ -20,7 +21,7 @@ use Rattle.jiff.specs.Types.{DateTime}
 use Rattle.rpki_time.specs.Validity.{HoldsAt}
 use Rattle.rpki_valid.specs.declared.resource.set.ResourceSet.{ResourceSet}
 use Rattle.rpki_valid.specs.CrlIssued.{InForce}
-use Rattle.rpki_valid.specs.Verified.{Authority, Checkers, Holder, IsAuthorityAt, IsVerified, Terms, checkers_by}
+use Rattle.rpki_valid.specs.Verified.{Authority, Holder, IsAuthorityAt, IsVerified, Terms}
 use Rattle.rpki_valid.specs.Verified.{verified_by}
 use Rattle.rpki_valid.specs.Verified.IsAuthorityAt.{Issued as IssuedBelow, Root}
 use Rattle.rpki_valid.specs.declared.staleness.Staleness.{Staleness}
@@ -86,15 +87,15 @@ where-both A B D (Ok x) f h k = f h k
 where-both A B D (Err (Rejected reason)) f h k = f h k
 where-both A B D (Err OutOfMemory) f h k = tt
 
-module _ {X : Type 0} (rsa ecdsa : X → Check) (sha1 sha256 : X → List ℕ → List ℕ) (c : InForce X) where
+module _ {X : Type 0} (models : Models X) (c : InForce X) where
   module _ (octets : List ℕ) where
     -- ---- attestations
 
     abbrev Origins : TypedParts AttestationParts → Type 0
-    Origins = AreOriginsIn (basis_in rsa ecdsa sha1 sha256 c) (holder_of c.issuer) c.list octets
+    Origins = AreOriginsIn (basis_in models c) (holder_of c.issuer) c.list octets
 
     abbrev AddsOrigins' : List RouteOrigin → List RouteOrigin → Type 0
-    AddsOrigins' = AddsOriginsHere rsa ecdsa sha1 sha256 c octets
+    AddsOrigins' = AddsOriginsHere models c octets
 
     pub no-origins : (K : Reason → Type 0) (s : Stop) (xs : List RouteOrigin) → StopsAt Origins K s
         → UnlessMemory (AddsOrigins' xs xs) s
@@ -103,15 +104,15 @@ module _ {X : Type 0} (rsa ecdsa : X → Check) (sha1 sha256 : X → List ℕ �
     pub origins-found : (x : TypedParts AttestationParts) → IsSole Origins x → (xs : List RouteOrigin)
         → AddsOrigins' xs (xs ++ origins x.content)
     origins-found x h xs =
-        adds-list (λ v. SaysOriginHere rsa ecdsa sha1 sha256 c v octets) xs (origins x.content)
+        adds-list (λ v. SaysOriginHere models c v octets) xs (origins x.content)
         (λ v k. (x, h.holds, k))
         (λ v k. subst (λ (y : TypedParts AttestationParts). Contains (origins y.content) v) (h.sole k.0 k.1) k.2)
 
     abbrev Providers : TypedParts AspaParts → Type 0
-    Providers = AreProvidersIn (basis_in rsa ecdsa sha1 sha256 c) (holder_of c.issuer) c.list octets
+    Providers = AreProvidersIn (basis_in models c) (holder_of c.issuer) c.list octets
 
     abbrev AddsProviders' : List (TypedParts AspaParts) → List (TypedParts AspaParts) → Type 0
-    AddsProviders' = AddsProvidersHere rsa ecdsa sha1 sha256 c octets
+    AddsProviders' = AddsProvidersHere models c octets
 
     pub no-providers : (K : Reason → Type 0) (s : Stop) (xs : List (TypedParts AspaParts)) → StopsAt Providers K s
         → UnlessMemory (AddsProviders' xs xs) s
@@ -124,13 +125,13 @@ module _ {X : Type 0} (rsa ecdsa : X → Check) (sha1 sha256 : X → List ℕ �
     -- ---- certificates
 
     abbrev IsCert : Profile → Holder → Type 0
-    IsCert profile x = IsCertHere rsa ecdsa sha1 sha256 c profile x octets
+    IsCert profile x = IsCertHere models c profile x octets
 
     abbrev AddsRouters' : List Holder → List Holder → Type 0
-    AddsRouters' = AddsRoutersHere rsa ecdsa sha1 sha256 c octets
+    AddsRouters' = AddsRoutersHere models c octets
 
     abbrev AddsBelow' : List Holder → List Holder → Type 0
-    AddsBelow' = AddsAuthoritiesHere rsa ecdsa sha1 sha256 c octets
+    AddsBelow' = AddsAuthoritiesHere models c octets
 
     abbrev Spelled : CertParts → Type 0
     Spelled x = SpellsCert x octets
@@ -146,27 +147,27 @@ module _ {X : Type 0} (rsa ecdsa : X → Check) (sha1 sha256 : X → List ℕ �
         stops-none Spelled K (AddsBelow' xs xs) s (λ none may. adds-none _ xs (λ x k. none x.cert k.spells)) h
 
     pub unread-cert : (s : Stop) → StopsAt Spelled (IsCertReason (IsDecodedPart octets) (λ e. ⊥)) s
-        → StopsAt (IsCountedCert c.issuer.depth (basis_in rsa ecdsa sha1 sha256 c) (holder_of c.issuer) c.list octets)
-        (IsNoCertIn c.issuer.depth (basis_in rsa ecdsa sha1 sha256 c) (holder_of c.issuer) c.list octets) s
+        → StopsAt (IsCountedCert c.issuer.depth (basis_in models c) (holder_of c.issuer) c.list octets)
+        (IsNoCertIn c.issuer.depth (basis_in models c) (holder_of c.issuer) c.list octets) s
     unread-cert s h =
         stops-later _ _ Spelled (IsCertReason (IsDecodedPart octets) (λ e. ⊥)) s h (λ none. none-of none)
         (λ reason k. Unread k) where
           none-of : IsNone Spelled
-              → IsNone (IsCountedCert c.issuer.depth (basis_in rsa ecdsa sha1 sha256 c) (holder_of c.issuer) c.list
+              → IsNone (IsCountedCert c.issuer.depth (basis_in models c) (holder_of c.issuer) c.list
               octets)
           none-of none x (inl h) = none x.cert h.spells
           none-of none x (inr h) = none x.cert h.1.spells
 
     module _ (cert : CertParts) (read : IsSole Spelled cert) where
       abbrev Issued : Profile → ResourceSet → Type 0
-      Issued profile = IsIssuedHere rsa ecdsa sha1 sha256 c profile cert
+      Issued profile = IsIssuedHere models c profile cert
 
       the-cert : (profile : Profile) (x : Holder) → IsCert profile x → x.cert ≡ cert
       the-cert profile x h = read.sole x.cert h.spells
 
       issued : (profile : Profile) (x : Holder) → IsCert profile x → Issued profile x.resources
       issued profile x h =
-          subst (λ (y : CertParts). IsIssuedHere rsa ecdsa sha1 sha256 c profile y x.resources)
+          subst (λ (y : CertParts). IsIssuedHere models c profile y x.resources)
           (the-cert profile x h) h.valid
 
       -- another profile
@@ -188,10 +189,10 @@ module _ {X : Type 0} (rsa ecdsa : X → Check) (sha1 sha256 : X → List ℕ �
           stops-none (Issued Router) K (AddsRouters' xs xs) s
           (λ none. adds-none _ xs (λ x k. none x.resources (issued Router x k))) h
 
-      pub no-below : (s : Stop) (xs : List Holder) → IsNoAuthorityHere rsa ecdsa sha1 sha256 c cert s
+      pub no-below : (s : Stop) (xs : List Holder) → IsNoAuthorityHere models c cert s
           → UnlessMemory (AddsBelow' xs xs) s
       no-below s xs h =
-          stops-none (λ (r : ResourceSet). MayIssue rsa ecdsa sha1 sha256 c × Issued Ca r) _ (AddsBelow' xs xs) s
+          stops-none (λ (r : ResourceSet). MayIssue models c × Issued Ca r) _ (AddsBelow' xs xs) s
           (λ none may. adds-none _ xs (λ x k. none x.resources (may, issued Ca x k))) h
 
       -- it is, and has these resources
@@ -200,7 +201,7 @@ module _ {X : Type 0} (rsa ecdsa : X → Check) (sha1 sha256 : X → List ℕ �
       held profile x e h = record {
         holds = record {
           spells = subst (λ (y : CertParts). SpellsCert y octets) (sym e) read.holds;
-          valid = subst (λ (y : CertParts). IsIssuedHere rsa ecdsa sha1 sha256 c profile y x.resources) (sym e) h.holds;
+          valid = subst (λ (y : CertParts). IsIssuedHere models c profile y x.resources) (sym e) h.holds;
         };
         sole = λ y k.
             let cert = the-cert profile y k ∙ sym e in
@@ -216,12 +217,12 @@ module _ {X : Type 0} (rsa ecdsa : X → Check) (sha1 sha256 : X → List ℕ �
 
       abbrev Counted : Holder → Type 0
       Counted =
-          IsCountedCert c.issuer.depth (basis_in rsa ecdsa sha1 sha256 c) (holder_of c.issuer) c.list octets
+          IsCountedCert c.issuer.depth (basis_in models c) (holder_of c.issuer) c.list octets
 
       abbrev Why : Reason → Type 0
-      Why = IsNoCertIn c.issuer.depth (basis_in rsa ecdsa sha1 sha256 c) (holder_of c.issuer) c.list octets
+      Why = IsNoCertIn c.issuer.depth (basis_in models c) (holder_of c.issuer) c.list octets
 
-      none-counted : IsNone (IsCert Router) → (MayIssue rsa ecdsa sha1 sha256 c → IsNone (IsCert Ca)) → IsNone Counted
+      none-counted : IsNone (IsCert Router) → (MayIssue models c → IsNone (IsCert Ca)) → IsNone Counted
       none-counted router ca x (inl h) = router x h
       none-counted router ca x (inr h) = ca h.0 x h.1
 
@@ -233,15 +234,15 @@ module _ {X : Type 0} (rsa ecdsa : X → Check) (sha1 sha256 : X → List ℕ �
       wrong-constraints OutOfMemory router ca h = tt
 
       pub no-authority : (s : Stop) → ((strict : Bool) → HasProfile Router strict cert.tbs → ⊥)
-          → IsNoAuthorityHere rsa ecdsa sha1 sha256 c cert s → StopsAt Counted Why s
+          → IsNoAuthorityHere models c cert s → StopsAt Counted Why s
       no-authority s router h =
-          stops-later Counted Why (λ (r : ResourceSet). MayIssue rsa ecdsa sha1 sha256 c × Issued Ca r) _ s h
+          stops-later Counted Why (λ (r : ResourceSet). MayIssue models c × Issued Ca r) _ s h
           (λ none. none-counted (other Router router) (λ may x k. none x.resources (may, issued Ca x k)))
           (λ reason k. NoAuthority cert read.holds router k)
 
       pub no-router : (s : Stop) → ((strict : Bool) → HasProfile Ca strict cert.tbs → ⊥)
           → StopsAt (Issued Router) (IsCertReason (λ q. ⊥)
-          (IsNoRouterIn (basis_in rsa ecdsa sha1 sha256 c) (holder_of c.issuer) c.list cert)) s
+          (IsNoRouterIn (basis_in models c) (holder_of c.issuer) c.list cert)) s
           → StopsAt Counted Why s
       no-router s ca h =
           stops-later Counted Why (Issued Router) _ s h
@@ -252,7 +253,7 @@ module _ {X : Type 0} (rsa ecdsa : X → Check) (sha1 sha256 : X → List ℕ �
       router-counts x e h = (x, inl (held Router x e h).holds)
 
       pub authority-counts : (a : Authority X) → a.cert ≡ cert → IsSole (Issued Ca) a.resources
-          → MayIssue rsa ecdsa sha1 sha256 c → (y : Holder) × Counted y
+          → MayIssue models c → (y : Holder) × Counted y
       authority-counts a e h may = (holder_of a, inr (may, (held Ca (holder_of a) e h).holds))
 
       pub authority-said : (a : Authority X) → a.cert ≡ cert → IsSole (Issued Ca) a.resources → IsCert Ca (holder_of a)
@@ -269,16 +270,16 @@ module _ {X : Type 0} (rsa ecdsa : X → Check) (sha1 sha256 : X → List ℕ �
 
   module _ (file : ListedFile) (octets : List ℕ) where
     abbrev Adds' : Found → Found → Type 0
-    Adds' = AddsFile rsa ecdsa sha1 sha256 c file octets
+    Adds' = AddsFile models c file octets
 
     abbrev End : List ℕ → Type 0
     End end = ends_with nat_eq file.0 end ≡ true
 
     abbrev Says : RouteOrigin → List ℕ → Type 0
-    Says = SaysOriginHere rsa ecdsa sha1 sha256 c
+    Says = SaysOriginHere models c
 
     abbrev Are : TypedParts AspaParts → List ℕ → Type 0
-    Are = AreProvidersHere rsa ecdsa sha1 sha256 c
+    Are = AreProvidersHere models c
 
     abbrev with_origins : Found → List RouteOrigin → Found
     with_origins f xs = record f { origins = xs }
@@ -287,7 +288,7 @@ module _ {X : Type 0} (rsa ecdsa : X → Check) (sha1 sha256 : X → List ℕ �
     with_providers f xs = record f { providers = xs }
 
     pub origins-file : End (codes ".roa") → (old : Found) (new : List RouteOrigin)
-        → AddsOriginsHere rsa ecdsa sha1 sha256 c octets old.origins new → Adds' old (with_origins old new)
+        → AddsOriginsHere models c octets old.origins new → Adds' old (with_origins old new)
     origins-file roa old new h = record {
       origins = adds-where _ _ roa old.origins new h;
       providers = adds-never _ _ (roa-asa file.0 roa) old.providers;
@@ -296,7 +297,7 @@ module _ {X : Type 0} (rsa ecdsa : X → Check) (sha1 sha256 : X → List ℕ �
     }
 
     pub providers-file : (End (codes ".roa") → ⊥) → End (codes ".asa") → (old : Found)
-        (new : List (TypedParts AspaParts)) → AddsProvidersHere rsa ecdsa sha1 sha256 c octets old.providers new
+        (new : List (TypedParts AspaParts)) → AddsProvidersHere models c octets old.providers new
         → Adds' old (with_providers old new)
     providers-file none asa old new h = record {
       origins = adds-never _ _ none old.origins;
@@ -307,8 +308,8 @@ module _ {X : Type 0} (rsa ecdsa : X → Check) (sha1 sha256 : X → List ℕ �
 
     pub cert-file : (End (codes ".roa") → ⊥) → (End (codes ".asa") → ⊥) → End (codes ".cer") → (old new : Found)
         → old.origins ≡ new.origins → old.providers ≡ new.providers
-        → AddsRoutersHere rsa ecdsa sha1 sha256 c octets old.routers new.routers
-        → AddsAuthoritiesHere rsa ecdsa sha1 sha256 c octets old.below new.below → Adds' old new
+        → AddsRoutersHere models c octets old.routers new.routers
+        → AddsAuthoritiesHere models c octets old.below new.below → Adds' old new
     cert-file none not cer old new o p h k = record {
       origins = subst
           (λ (xs : List RouteOrigin). Adds (λ v. IsSaidBy (codes ".roa") (Says v) file octets) old.origins xs) o
@@ -333,13 +334,13 @@ module _ {X : Type 0} (rsa ecdsa : X → Check) (sha1 sha256 : X → List ℕ �
     -- ---- whether it counts
 
     abbrev Right : Type 0
-    Right = IsRightHere rsa ecdsa sha1 sha256 c file octets
+    Right = IsRightHere models c file octets
 
     abbrev Wrong : Reason → Type 0
-    Wrong = IsWrongHere rsa ecdsa sha1 sha256 c file octets
+    Wrong = IsWrongHere models c file octets
 
     abbrev Settled : {R : Type 0} → Result R Stop → Type 0
-    Settled = SettlesFile rsa ecdsa sha1 sha256 c file octets
+    Settled = SettlesFile models c file octets
 
     settled : {R V : Type 0} (P : V → Type 0) (K : Reason → Type 0) (r : Result R Stop)
         → (((v : V) × P v) → Right) → ((reason : Reason) → IsNone P → K reason → Wrong reason) → IsSettled P K r
@@ -349,7 +350,7 @@ module _ {X : Type 0} (rsa ecdsa : X → Check) (sha1 sha256 : X → List ℕ �
     settled P K (Err OutOfMemory) right wrong h = tt
 
     pub origins-settled : {R : Type 0} (r : Result R Stop) → End (codes ".roa")
-        → SettlesOrigins rsa ecdsa sha1 sha256 c octets r → Settled r
+        → SettlesOrigins models c octets r → Settled r
     origins-settled r roa =
         settled _ _ r
         (λ h. record {
@@ -360,7 +361,7 @@ module _ {X : Type 0} (rsa ecdsa : X → Check) (sha1 sha256 : X → List ℕ �
         (λ reason none k. NoOrigins roa none k)
 
     pub providers-settled : {R : Type 0} (r : Result R Stop) → End (codes ".asa")
-        → SettlesProviders rsa ecdsa sha1 sha256 c octets r → Settled r
+        → SettlesProviders models c octets r → Settled r
     providers-settled r asa =
         settled _ _ r
         (λ h. record {
@@ -371,7 +372,7 @@ module _ {X : Type 0} (rsa ecdsa : X → Check) (sha1 sha256 : X → List ℕ �
         (λ reason none k. NoProviders asa none k)
 
     pub cert-settled : {R : Type 0} (r : Result R Stop) → End (codes ".cer")
-        → SettlesCert rsa ecdsa sha1 sha256 c octets r → Settled r
+        → SettlesCert models c octets r → Settled r
     cert-settled r cer =
         settled _ _ r
         (λ h. record {
@@ -396,12 +397,12 @@ deep-enough : (terms : Terms) (asked : Option Staleness) (by : Checkers) (at : D
 deep-enough terms asked by at _ _ (Root x h) k is = absurd (omega (arith, is))
 deep-enough terms asked by at _ _ (IssuedBelow n m issuer x up e low link) k is = omega (arith, e, low, is)
 
-pub may-issue : {X : Type 0} (rsa ecdsa : X → Check) (sha1 sha256 : X → List ℕ → List ℕ) (c : InForce X)
-    (a : Authority X) → IsVerified (verified_by rsa ecdsa sha1 a) → HoldsAt a.period c.at
-    → a.depth ≡ c.issuer.depth + 1 → a.terms ≡ c.issuer.terms → MayIssue rsa ecdsa sha1 sha256 c
-may-issue rsa ecdsa sha1 sha256 c a verified period deep same =
+pub may-issue : {X : Type 0} (models : Models X) (c : InForce X)
+    (a : Authority X) → IsVerified (verified_by models a) → HoldsAt a.period c.at
+    → a.depth ≡ c.issuer.depth + 1 → a.terms ≡ c.issuer.terms → MayIssue models c
+may-issue models c a verified period deep same =
     subst (λ (t : Terms). c.issuer.depth < t.deepest) same
-    (deep-enough a.terms a.asked (checkers_by rsa ecdsa sha1 a.provider) c.at a.depth (holder_of a)
+    (deep-enough a.terms a.asked (checkers_of models a.provider) c.at a.depth (holder_of a)
     (verified c.at period) c.issuer.depth deep)
 
 -- ---- answers of tests

@@ -45,8 +45,8 @@ module _ (own : RsyncUri → Bool) (uris : List AnchorUri) (one other : Publishe
   -- ---- points
 
   file-moves : (folder : List ℕ) (file : ListedFile) (octets : List ℕ)
-      → IsTrue (own (joined_uri (uri_of folder) file.0)) → StandsAs one basis.sha256 folder file octets
-      → StandsAs other basis.sha256 folder file octets
+      → IsTrue (own (joined_uri (uri_of folder) file.0)) → StandsAs one basis.by.sha256 folder file octets
+      → StandsAs other basis.by.sha256 folder file octets
   file-moves folder file octets at h = record {
     short = h.short;
     stands = sym (agree.objects (joined_uri (uri_of folder) file.0) at) ∙ h.stands;

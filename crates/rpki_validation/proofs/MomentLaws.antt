@@ -1,6 +1,6 @@
 -- What an authority has issued depends on the period of its path only by whether it holds at the moment, and not on how
 -- far down the path it is.
-use Rattle.std.proofs.Common.{ℕ, List, Option}
+use Rattle.std.proofs.Common.{Option}
 use Rattle.jiff.specs.Types.{DateTime}
 use Rattle.jiff.specs.Words.{civil_nanos}
 use lib.Signed.{≤ℤ_refl}
@@ -17,12 +17,12 @@ use Rattle.rpki_valid.specs.ObjectVerified.{IsValidObject}
 use Rattle.rpki_valid.specs.Verified.{Verified, IsVerifiedBy, holder}
 use Rattle.rpki_validation.specs.Basis.{Basis, verified_at}
 
-abbrev pub basis_under : Verified → (List ℕ → List ℕ) → DateTime → Basis
-basis_under v sha256 at = record { terms = v.terms; by = v.by; sha256 = sha256; at = at }
+abbrev pub basis_under : Verified → DateTime → Basis
+basis_under v at = record { terms = v.terms; by = v.by; at = at }
 
-module _ (v : Verified) (sha256 : List ℕ → List ℕ) (at : DateTime) where
+module _ (v : Verified) (at : DateTime) where
   abbrev pub now : Verified
-  now = verified_at (basis_under v sha256 at) (holder v.cert v.resources)
+  now = verified_at (basis_under v at) (holder v.cert v.resources)
 
   -- the moment itself is such a period
   pub moment-holds : HoldsAt now.period at
@@ -45,7 +45,7 @@ module _ (v : Verified) (sha256 : List ℕ → List ℕ) (at : DateTime) where
   }
 
   pub object-now : (list : Option CrlParts) (x : ObjectParts) (held : ResourceSet)
-      → IsValidObject list sha256 v at x held → IsValidObject list sha256 now at x held
+      → IsValidObject list v at x held → IsValidObject list now at x held
   object-now list x held h = record { signed = h.signed; cert = cert-now Ee list x.cert held h.cert }
 
   module _ (period : HoldsAt v.period at) where
@@ -66,5 +66,5 @@ module _ (v : Verified) (sha256 : List ℕ → List ℕ) (at : DateTime) where
     }
 
     pub object-then : (list : Option CrlParts) (x : ObjectParts) (held : ResourceSet)
-        → IsValidObject list sha256 now at x held → IsValidObject list sha256 v at x held
+        → IsValidObject list now at x held → IsValidObject list v at x held
     object-then list x held h = record { signed = h.signed; cert = cert-then Ee list x.cert held h.cert }

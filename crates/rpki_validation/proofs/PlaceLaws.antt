@@ -27,7 +27,7 @@ use Rattle.rpki_cert.specs.Rule.{Obeys}
 use Rattle.rpki_validation.specs.declared.reason.Reason.{Reason}
 use Rattle.rpki_validation.specs.Finding.{IsCertReason, IsNone, IsRejected, IsSole, invalid_stop_of}
 use Rattle.rpki_validation.specs.Met.{IsPlace}
-use Rattle.rpki_validation.specs.Publication.{SaysNoUri, SaysOther}
+use Rattle.rpki_validation.specs.Publication.{SaysOther}
 
 module _ (G : Option (List ℕ) → List ℕ → Type 0) (t : TbsParts) where
   abbrev Says' : Option (List ℕ) → Type 0
@@ -38,15 +38,6 @@ module _ (G : Option (List ℕ) → List ℕ → Type 0) (t : TbsParts) where
 
   abbrev pub IsUri : List ℕ → Type 0
   IsUri uri = Says' (Some uri)
-
-  pub uri-found : (uri : List ℕ) → Says' (Some uri) → IsSole IsUri uri
-  uri-found uri h = record {
-    holds = h;
-    sole = λ other k. let e = one-uri (Some uri) (Some other) h k in cc;
-  }
-
-  pub uri-none : SaysNoUri G t → IsNone IsUri
-  uri-none h uri k = let e : ◌≡◌ {A = Option (List ℕ)} (Some uri) None = one-uri None (Some uri) h k in absurd (cc)
 
   pub uri-other : SaysOther G t → IsNone IsUri
   uri-other h uri k = h k.0 k.1.0

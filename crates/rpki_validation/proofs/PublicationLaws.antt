@@ -1,26 +1,27 @@
 -- What is where an authority publishes is one thing.
-use Rattle.std.proofs.Common.{◌≡◌, ◌≢◌, ◌∙◌, ℕ, Bool, List, Option, Some, None, refl, sym, ap, subst}
+use Rattle.std.proofs.Common.{◌≡◌, ◌∙◌, ℕ, Bool, List, Option, Some, None, sym, subst}
+use Rattle.rpki_der.proofs.ReadingLaws.{UnlessMemory-weaker}
 use Rattle.rpki_der.specs.declared.error.DecodeError.{DecodeError}
 use Rattle.rpki_der.specs.Prelude.{Format, IsWholeFault, SpellsNothing, UnlessMemory}
-use Rattle.rpki_text.specs.RsyncText.{RsyncUri, uri_of, joined, joined_uri}
+use Rattle.rpki_text.specs.RsyncText.{RsyncUri, uri_of}
 use Rattle.rpki_cert.specs.Cert.{TbsParts}
 use Rattle.rpki_contents.specs.ListedFile.{ListedFile}
 use Rattle.rpki_contents.specs.Manifest.{ManifestParts}
 use Rattle.rpki_crl.specs.Crl.{CrlParts, crl}
 use Rattle.rpki_objects.specs.TypedObject.{TypedParts, manifest_object}
 use Rattle.rpki_validation.specs.declared.reason.Reason.{Reason}
-use Rattle.rpki_validation.specs.declared.reason.Reason.TheVariants.{Missing, MissingFile, NoList, OtherFile}
+use Rattle.rpki_validation.specs.declared.reason.Reason.TheVariants.{Missing, NoList}
 use Rattle.rpki_validation.specs.declared.stop.Stop.{Stop}
 use Rattle.rpki_validation.specs.declared.stop.Stop.TheVariants.{Rejected}
 use Rattle.rpki_validation.specs.Finding.{IsSole, StopsAt, stop_of}
-use Rattle.rpki_validation.specs.Publication.{HasManifest, HasRepository, IsFileUri, IsListOn, IsNoFile, IsNoFileUri}
+use Rattle.rpki_validation.specs.Publication.{HasManifest, HasRepository, IsListOn, IsNoFile}
 use Rattle.rpki_validation.specs.Publication.{IsNoListOn, IsNoManifestPlace, IsNoPublication, IsNoRepository, IsNoValue}
 use Rattle.rpki_validation.specs.Publication.{IsPublication, PublicationParts, StandsAs, ValueAt, list_file}
 use Rattle.rpki_validation.specs.Publication.{publication}
 use Rattle.rpki_validation.specs.Publication.IsNoListOn.{NoneListed, NotThere, NoListThere}
 use Rattle.rpki_validation.specs.Publication.IsNoPublication.{OfFolder, OfPlace, OfManifest, OfList}
 use Rattle.rpki_validation.specs.Snapshot.{Published}
-use Rattle.rpki_validation.proofs.FindingLaws.{stops-later, stops-malformed, unless-then}
+use Rattle.rpki_validation.proofs.FindingLaws.{stops-later, stops-malformed}
 
 one-some : {X : Type 0} (o : Option X) (a b : X) → o ≡ Some a → o ≡ Some b → b ≡ a
 one-some {X} o a b e d = let s : ◌≡◌ {A = Option X} (Some b) (Some a) = sym d ∙ e in cc
@@ -49,7 +50,7 @@ module _ {V : Type 0} (published : Published) (F : Format V) (uri : RsyncUri) wh
         → UnlessMemory e (SpellsNothing F.spells octets) × IsWholeFault F.spells F.fault octets e
         → StopsAt Value NoValue (stop_of e)
     value-malformed e h =
-        stops-malformed Value NoValue e (unless-then e (λ none v k. none v (spelled-there v k)) h.0)
+        stops-malformed Value NoValue e (UnlessMemory-weaker e (λ none v k. none v (spelled-there v k)) h.0)
         (octets, stands, h.1)
 
     pub value-found : (v : V) → F.spells v octets × ((w : V) → F.spells w octets → w ≡ v) → IsSole Value v
@@ -57,43 +58,6 @@ module _ {V : Type 0} (published : Published) (F : Format V) (uri : RsyncUri) wh
       holds = record { octets = octets; stands = stands; spells = read.0 };
       sole = λ w k. read.1 w (spelled-there w k);
     }
-
--- ---- a file of a manifest
-
-module _ (published : Published) (sha256 : List ℕ → List ℕ) (folder : List ℕ) (file : ListedFile) where
-  abbrev Stands : List ℕ → Type 0
-  Stands = StandsAs published sha256 folder file
-
-  abbrev NoFile : Reason → Type 0
-  NoFile = IsNoFile published sha256 folder file
-
-  abbrev At : Option (List ℕ)
-  At = published.objects (joined_uri (uri_of folder) file.0)
-
-  why-no-uri : (reason : Reason) → IsNoFileUri folder file reason → NoFile reason
-  why-no-uri reason h = subst NoFile (sym h.1) h.0
-
-  pub uri-stops : (s : Stop) → StopsAt (IsFileUri folder file) (IsNoFileUri folder file) s → StopsAt Stands NoFile s
-  uri-stops s h =
-      stops-later Stands NoFile (IsFileUri folder file) (IsNoFileUri folder file) s h
-      (λ none o k. none (joined folder file.0) (record { short = k.short; is = refl })) why-no-uri
-
-  module _ (uri : List ℕ) (found : IsSole (IsFileUri folder file) uri) where
-    pub file-missing : At ≡ None → StopsAt Stands NoFile (Rejected (MissingFile uri))
-    file-missing none = (λ o k. some-none At o k.stands none, (found.holds.is, none))
-
-    module _ (octets : List ℕ) (stands : At ≡ Some octets) where
-      pub file-other : (sha256 octets ≢ file.1) → StopsAt Stands NoFile (Rejected (OtherFile uri))
-      file-other other = (
-        λ o k. other (ap sha256 (sym (one-some At octets o stands k.stands)) ∙ k.same),
-        (found.holds.is, (octets, stands, other)),
-      )
-
-      pub file-found : sha256 octets ≡ file.1 → IsSole Stands octets
-      file-found same = record {
-        holds = record { short = found.holds.short; stands = stands; same = same };
-        sole = λ o k. one-some At octets o stands k.stands;
-      }
 
 -- ---- the list of a manifest
 
@@ -127,7 +91,7 @@ module _ (published : Published) (sha256 : List ℕ → List ℕ) (folder : List
           → UnlessMemory e (SpellsNothing crl.spells octets) × IsWholeFault crl.spells crl.fault octets e
           → StopsAt On NotOn (stop_of e)
       no-list e h =
-          stops-malformed On NotOn e (unless-then e (λ none x k. none x (spelled-on x k)) h.0)
+          stops-malformed On NotOn e (UnlessMemory-weaker e (λ none x k. none x (spelled-on x k)) h.0)
           (NoListThere file octets listed stands.holds h.1)
 
       pub list-found : (x : CrlParts) → crl.spells x octets × ((w : CrlParts) → crl.spells w octets → w ≡ x)

@@ -4,7 +4,7 @@ use Rattle.std.proofs.Common.{Result, Ok, Err, ap, refl, subst, sym, ◌∙◌}
 use Rattle.std.specs.Prelude.{IfOk}
 use Rattle.std.specs.List.{Contains}
 use Rattle.jiff.specs.Types.{DateTime}
-use Rattle.rpki.specs.Provider.{Check}
+use Rattle.rpki.specs.Checkers.{Models}
 use Rattle.rpki_contents.specs.ListedFile.{ListedFile}
 use Rattle.rpki_valid.specs.declared.staleness.Staleness.TheVariants.{Refused}
 use Rattle.rpki_valid.specs.CrlIssued.{InForce, in_force}
@@ -43,21 +43,21 @@ ok-always A (Err e) a = tt
 
 -- ---- files, in sequence
 
-module _ {X : Type 0} (rsa ecdsa : X → Check) (sha1 sha256 : X → List ℕ → List ℕ) (c : InForce X)
+module _ {X : Type 0} (models : Models X) (c : InForce X)
     (folder : List ℕ) (files : List ListedFile) (octets : List (List ℕ)) where
   abbrev Children : List ListedFile → List (List ℕ) → List (Authority X) → List (Authority X) → Type 0
-  Children rest more = AddsUpTo (IsChildOf rsa ecdsa sha1 sha256 c) files rest octets more
+  Children rest more = AddsUpTo (IsChildOf models c) files rest octets more
 
   abbrev Notes' : List ListedFile → List (List ℕ) → List Rejection → List Rejection → Type 0
-  Notes' rest more = NotesUpTo (IsRightHere rsa ecdsa sha1 sha256 c) (IsNotedHere rsa ecdsa sha1 sha256 c folder) files
+  Notes' rest more = NotesUpTo (IsRightHere models c) (IsNotedHere models c folder) files
       rest octets more
 
   module _ (file : ListedFile) (rest following : List ListedFile) (one : List ℕ) (more later : List (List ℕ))
       (r : rest ≡ file ∷ following) (m : more ≡ one ∷ later) where
     pub children-step : (old now then : List (Authority X)) → Children rest more old now
-        → AddsOnly (IsChildOf rsa ecdsa sha1 sha256 c file one) now then → Children following later old then
+        → AddsOnly (IsChildOf models c file one) now then → Children following later old then
     children-step old now then before h =
-        adds-step (IsChildOf rsa ecdsa sha1 sha256 c) files octets old file following one later now
+        adds-step (IsChildOf models c) files octets old file following one later now
         (subst (λ (q : List ListedFile). Children q (one ∷ later) old now) r
         (subst (λ (q : List (List ℕ)). Children rest q old now) m before)) then h
 
@@ -68,23 +68,23 @@ module _ {X : Type 0} (rsa ecdsa : X → Check) (sha1 sha256 : X → List ℕ �
 
     -- the file counts
     pub right-step : (old now then : List Rejection) → then ≡ now → Notes' rest more old now
-        → IsRightHere rsa ecdsa sha1 sha256 c file one → Notes' following later old then
+        → IsRightHere models c file one → Notes' following later old then
     right-step old now then same before right =
         subst (λ (q : List Rejection). Notes' following later old q) (sym same)
-        (notes-right (IsRightHere rsa ecdsa sha1 sha256 c) (IsNotedHere rsa ecdsa sha1 sha256 c folder) files octets old
+        (notes-right (IsRightHere models c) (IsNotedHere models c folder) files octets old
         file following one later now (here old now before) right)
 
     -- it doesn't, and that is noted
     pub wrong-step : (old now then noted : List Rejection) → then ≡ now → Notes' rest more old now → (reason : Reason)
-        → IsWrongHere rsa ecdsa sha1 sha256 c file one reason → AddsNote (IsFileNote folder file reason) then noted
+        → IsWrongHere models c file one reason → AddsNote (IsFileNote folder file reason) then noted
         → Notes' following later old noted
     wrong-step old now then noted same before reason wrong note =
         let e = note.1 ∙ ap (λ (l : List Rejection). l ++ note.0 ∷ []) same in
         subst (λ (q : List Rejection). Notes' following later old q) (sym e)
-        (notes-noted (IsRightHere rsa ecdsa sha1 sha256 c) (IsNotedHere rsa ecdsa sha1 sha256 c folder) files octets old
+        (notes-noted (IsRightHere models c) (IsNotedHere models c folder) files octets old
         file following one later now (here old now before) note.0 (record {
           note = record { alone = note.2.alone; place = note.2.place; why = refl };
-          wrong = subst (λ (q : Reason). IsWrongHere rsa ecdsa sha1 sha256 c file one q) (sym note.2.why) wrong;
+          wrong = subst (λ (q : Reason). IsWrongHere models c file one q) (sym note.2.why) wrong;
         }))
 
 -- ---- pairs of files and octets that are there
@@ -137,16 +137,16 @@ module _ (published : Published) (sha256 : List ℕ → List ℕ) (folder : List
 
 -- ---- the point of an authority
 
-module _ {X : Type 0} (rsa ecdsa : X → Check) (sha1 sha256 : X → List ℕ → List ℕ) (published : Published)
+module _ {X : Type 0} (models : Models X) (published : Published)
     (issuer : Authority X) (at : DateTime) where
   abbrev pub Basis' : Basis
-  Basis' = basis_of rsa ecdsa sha1 sha256 issuer at
+  Basis' = basis_of models issuer at
 
   abbrev pub Holder' : Holder
   Holder' = holder_of issuer
 
   abbrev pub Publishes : PublicationParts → Type 0
-  Publishes = IsPublication published Basis'.sha256 Basis'.terms.strictness.attributes Holder'.cert.tbs
+  Publishes = IsPublication published Basis'.by.sha256 Basis'.terms.strictness.attributes Holder'.cert.tbs
 
   abbrev Point : PublicationParts → Type 0
   Point = IsPoint published Basis' Holder'
@@ -161,10 +161,10 @@ module _ {X : Type 0} (rsa ecdsa : X → Check) (sha1 sha256 : X → List ℕ �
 
   pub not-there : (s : Stop)
       → StopsAt Publishes
-      (IsNoPublication published Basis'.sha256 Basis'.terms.strictness.attributes Holder'.cert.tbs) s
+      (IsNoPublication published Basis'.by.sha256 Basis'.terms.strictness.attributes Holder'.cert.tbs) s
       → StopsAt Point NoPoint s
   not-there s h =
-      stops-later Point NoPoint Publishes _ s h (none-published rsa ecdsa sha1 sha256 published issuer at)
+      stops-later Point NoPoint Publishes _ s h (none-published models published issuer at)
       (λ reason k. NotThere k)
 
   module _ (p : PublicationParts) (sole : IsSole Publishes p) where
@@ -175,16 +175,16 @@ module _ {X : Type 0} (rsa ecdsa : X → Check) (sha1 sha256 : X → List ℕ �
         (none-holds published Basis' Holder' p sole) (λ reason k. NotAtMoment p sole.holds k)
 
     pub not-whole : HoldsAtMoment Basis' Holder' p → (s : Stop)
-        → StopsAt (AreOctetsOf published Basis'.sha256 p.folder p.manifest.content.files)
-        (IsIncomplete published Basis'.sha256 p.folder p.manifest.content.files) s → StopsAt Point NoPoint s
+        → StopsAt (AreOctetsOf published Basis'.by.sha256 p.folder p.manifest.content.files)
+        (IsIncomplete published Basis'.by.sha256 p.folder p.manifest.content.files) s → StopsAt Point NoPoint s
     not-whole holds s h =
-        stops-later Point NoPoint (AreOctetsOf published Basis'.sha256 p.folder p.manifest.content.files) _ s h
+        stops-later Point NoPoint (AreOctetsOf published Basis'.by.sha256 p.folder p.manifest.content.files) _ s h
         (none-whole published Basis' Holder' p sole) (λ reason k. NotWhole p sole.holds holds k)
 
     -- ---- what its files are rejected for
 
     module _ (holds : HoldsAtMoment Basis' Holder' p) (os : List (List ℕ))
-        (are : AreOctetsOf published Basis'.sha256 p.folder p.manifest.content.files os) where
+        (are : AreOctetsOf published Basis'.by.sha256 p.folder p.manifest.content.files os) where
       pub There : Point p
       There = the-point published Basis' Holder' p sole holds os are
 
@@ -192,17 +192,17 @@ module _ {X : Type 0} (rsa ecdsa : X → Check) (sha1 sha256 : X → List ℕ �
       C = in_force issuer p.list Refused at
 
       abbrev Pair : (ListedFile → List ℕ → Type 0) → Type 0
-      Pair P = IsPairAt published Basis'.sha256 p.folder P p.manifest.content.files
+      Pair P = IsPairAt published Basis'.by.sha256 p.folder P p.manifest.content.files
 
       -- the note of a file that is there
-      file-noted : (file : ListedFile) (q : List ℕ) → StandsAs published Basis'.sha256 p.folder file q
-          → (r : Rejection) → IsNotedHere rsa ecdsa sha1 sha256 C p.folder file q r
+      file-noted : (file : ListedFile) (q : List ℕ) → StandsAs published Basis'.by.sha256 p.folder file q
+          → (r : Rejection) → IsNotedHere models C p.folder file q r
           → IsRejectedFile issuer.depth Basis' Holder' p file q r
       file-noted file q stands r h =
           record { alone = h.note.alone; place = h.note.place stands.short; why = h.wrong }
 
       file-rejection : (r : Rejection)
-          → Pair (λ file q. IsNotedHere rsa ecdsa sha1 sha256 C p.folder file q r)
+          → Pair (λ file q. IsNotedHere models C p.folder file q r)
           → IsFileRejection published Basis' issuer.depth Holder' r
       file-rejection r h = record {
         point = p;
@@ -215,60 +215,60 @@ module _ {X : Type 0} (rsa ecdsa : X → Check) (sha1 sha256 : X → List ℕ �
       }
 
       all-noted : (all : List Rejection)
-          → EachPair (λ file q. IsRightHere rsa ecdsa sha1 sha256 C file q
-          ⊎ Noted (IsNotedHere rsa ecdsa sha1 sha256 C p.folder file q) all) p.manifest.content.files os
+          → EachPair (λ file q. IsRightHere models C file q
+          ⊎ Noted (IsNotedHere models C p.folder file q) all) p.manifest.content.files os
           → AreNoted published Basis' issuer.depth Holder' all
       all-noted all each = record {
         point = λ none. absurd (none p There);
         files = λ q there file listed o stands. same q (sole.sole q there.there) file listed o stands;
       } where
         settled : (file : ListedFile) → Contains p.manifest.content.files file → (o : List ℕ)
-            → StandsAs published Basis'.sha256 p.folder file o
+            → StandsAs published Basis'.by.sha256 p.folder file o
             → IsRightFile issuer.depth Basis' Holder' p.list file o
             ⊎ Noted (IsRejectedFile issuer.depth Basis' Holder' p file o) all
         settled file listed o stands =
-            by (each-of published Basis'.sha256 p.folder _ p.manifest.content.files os are each file listed o stands)
+            by (each-of published Basis'.by.sha256 p.folder _ p.manifest.content.files os are each file listed o stands)
           where
-            by : IsRightHere rsa ecdsa sha1 sha256 C file o
-                ⊎ Noted (IsNotedHere rsa ecdsa sha1 sha256 C p.folder file o) all
+            by : IsRightHere models C file o
+                ⊎ Noted (IsNotedHere models C p.folder file o) all
                 → IsRightFile issuer.depth Basis' Holder' p.list file o
                 ⊎ Noted (IsRejectedFile issuer.depth Basis' Holder' p file o) all
             by (inl h) = inl h
             by (inr h) = inr (noted-map _ _ all (file-noted file o stands) h)
 
         same : (q : PublicationParts) → q ≡ p → (file : ListedFile) → Contains q.manifest.content.files file
-            → (o : List ℕ) → StandsAs published Basis'.sha256 q.folder file o
+            → (o : List ℕ) → StandsAs published Basis'.by.sha256 q.folder file o
             → IsRightFile issuer.depth Basis' Holder' q.list file o
             ⊎ Noted (IsRejectedFile issuer.depth Basis' Holder' q file o) all
         same q e =
             subst (λ (p : PublicationParts). (file : ListedFile) → Contains p.manifest.content.files file
-            → (o : List ℕ) → StandsAs published Basis'.sha256 p.folder file o
+            → (o : List ℕ) → StandsAs published Basis'.by.sha256 p.folder file o
             → IsRightFile issuer.depth Basis' Holder' p.list file o
             ⊎ Noted (IsRejectedFile issuer.depth Basis' Holder' p file o) all) (sym e) settled
 
       files-rejected' : (old new : List Rejection)
-          → RejectsFiles rsa ecdsa sha1 sha256 C p.folder p.manifest.content.files os old new → Rejects' old new
+          → RejectsFiles models C p.folder p.manifest.content.files os old new → Rejects' old new
       files-rejected' old new h = record {
         each = adds-map _ _ old new
             (λ r k. (
               Holder',
               refl,
               inr (file-rejection r
-                  (pair-out published Basis'.sha256 p.folder _ p.manifest.content.files os are k)),
+                  (pair-out published Basis'.by.sha256 p.folder _ p.manifest.content.files os are k)),
             )) h.each;
         all = λ x e. subst (λ (y : Holder). AreNoted published Basis' issuer.depth y new) e (all-noted new h.all);
         kept = h.kept;
       }
 
       pub files-rejected : (c : InForce X) → c ≡ in_force issuer p.list Refused at → (old new : List Rejection)
-          → RejectsFiles rsa ecdsa sha1 sha256 c p.folder p.manifest.content.files os old new → Rejects' old new
+          → RejectsFiles models c p.folder p.manifest.content.files os old new → Rejects' old new
       files-rejected c e old new h =
-          files-rejected' old new (subst (λ (q : InForce X). RejectsFiles rsa ecdsa sha1 sha256 q p.folder
+          files-rejected' old new (subst (λ (q : InForce X). RejectsFiles models q p.folder
           p.manifest.content.files os old new) e h)
 
       -- ---- what is below it
 
-      child-below : (a : Authority X) → Pair (λ file q. IsChildOf rsa ecdsa sha1 sha256 C file q a)
+      child-below : (a : Authority X) → Pair (λ file q. IsChildOf models C file q a)
           → IsChild published Basis' issuer a
       child-below a h = (
         record {
@@ -282,12 +282,12 @@ module _ {X : Type 0} (rsa ecdsa : X → Check) (sha1 sha256 : X → List ℕ �
       )
 
       pub children-below : (c : InForce X) → c ≡ in_force issuer p.list Refused at → (old new : List (Authority X))
-          → AddsOnly (λ a. AnyPair (λ file q. IsChildOf rsa ecdsa sha1 sha256 c file q a) p.manifest.content.files os)
+          → AddsOnly (λ a. AnyPair (λ file q. IsChildOf models c file q a) p.manifest.content.files os)
           old new → AddsOnly (IsChild published Basis' issuer) old new
       children-below c e old new h =
           adds-map _ _ old new
-          (λ a k. child-below a (pair-out published Basis'.sha256 p.folder _ p.manifest.content.files os are k))
-          (subst (λ (q : InForce X). AddsOnly (λ a. AnyPair (λ file o. IsChildOf rsa ecdsa sha1 sha256 q file o a)
+          (λ a k. child-below a (pair-out published Basis'.by.sha256 p.folder _ p.manifest.content.files os are k))
+          (subst (λ (q : InForce X). AddsOnly (λ a. AnyPair (λ file o. IsChildOf models q file o a)
           p.manifest.content.files os) old new) e h)
 
   -- ---- all that it publishes is rejected

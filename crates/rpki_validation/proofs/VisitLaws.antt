@@ -3,7 +3,7 @@ use Rattle.std.proofs.Common.{◌≡◌, ◌⊎◌, ◌<◌, inl, inr, ℕ, true
 use Rattle.std.proofs.Common.{codes}
 use Rattle.std.specs.List.{Contains, ends_with}
 use Rattle.jiff.specs.Types.{DateTime}
-use Rattle.rpki.specs.Provider.{Check}
+use Rattle.rpki.specs.Checkers.{Models}
 use Rattle.rpki_cert.specs.declared.profile.Profile.TheVariants.{Ca, Router}
 use Rattle.rpki_contents.specs.ListedFile.{ListedFile}
 use Rattle.rpki_crl.specs.Crl.{CrlParts}
@@ -116,14 +116,14 @@ module _ (published : Published) (sha256 : List ℕ → List ℕ) (folder : List
 
 module _ (published : Published) (basis : Basis) (x : Holder) where
   abbrev Publishes : PublicationParts → Type 0
-  Publishes = IsPublication published basis.sha256 basis.terms.strictness.attributes x.cert.tbs
+  Publishes = IsPublication published basis.by.sha256 basis.terms.strictness.attributes x.cert.tbs
 
   abbrev Point : PublicationParts → Type 0
   Point = IsPoint published basis x
 
   module _ (p : PublicationParts) (sole : IsSole Publishes p) where
     abbrev Octets : List (List ℕ) → Type 0
-    Octets = AreOctetsOf published basis.sha256 p.folder p.manifest.content.files
+    Octets = AreOctetsOf published basis.by.sha256 p.folder p.manifest.content.files
 
     one-point : (q : PublicationParts) → Point q → q ≡ p
     one-point q h = sole.sole q h.there
@@ -134,7 +134,7 @@ module _ (published : Published) (basis : Basis) (x : Holder) where
     pub none-whole : IsNone Octets → IsNone Point
     none-whole none q h =
         let k = subst Point (one-point q h) h in
-        let all = octets-of published basis.sha256 p.folder p.manifest.content.files k.whole in
+        let all = octets-of published basis.by.sha256 p.folder p.manifest.content.files k.whole in
         none all.0 all.1
 
     module _ (holds : HoldsAtMoment basis x p) (os : List (List ℕ)) (are : Octets os) where
@@ -142,7 +142,7 @@ module _ (published : Published) (basis : Basis) (x : Holder) where
       the-point = record {
         there = sole.holds;
         valid = holds;
-        whole = all-there published basis.sha256 p.folder p.manifest.content.files os are;
+        whole = all-there published basis.by.sha256 p.folder p.manifest.content.files os are;
       }
 
       module _ (end : List ℕ) (P : PublicationParts → List ℕ → Type 0) where
@@ -150,12 +150,12 @@ module _ (published : Published) (basis : Basis) (x : Holder) where
         said-in h =
             let e = one-point h.point h.file.published_there in
             let file = subst (λ (q : PublicationParts). IsFile published basis q end h.octets) e h.file.file in
-            among-in published basis.sha256 p.folder end (P p) p.manifest.content.files os are file.file file.listed
+            among-in published basis.by.sha256 p.folder end (P p) p.manifest.content.files os are file.file file.listed
             file.ends h.octets file.stands (subst (λ (q : PublicationParts). P q h.octets) e h.says)
 
         pub said-out : IsSaidAmong end (P p) p.manifest.content.files os → IsSaid published basis end x P
         said-out h =
-            let k = among-out published basis.sha256 p.folder end (P p) p.manifest.content.files os are h in
+            let k = among-out published basis.by.sha256 p.folder end (P p) p.manifest.content.files os are h in
             record {
               point = p;
               octets = k.octets;
@@ -189,10 +189,10 @@ module _ (published : Published) (basis : Basis) (x : Holder) where
 
 -- ---- what is added
 
-module _ {X : Type 0} (rsa ecdsa : X → Check) (sha1 sha256 : X → List ℕ → List ℕ) (published : Published)
+module _ {X : Type 0} (models : Models X) (published : Published)
     (issuer : Authority X) (at : DateTime) where
   abbrev pub B : Basis
-  B = basis_of rsa ecdsa sha1 sha256 issuer at
+  B = basis_of models issuer at
 
   abbrev pub H : Holder
   H = holder_of issuer
@@ -210,14 +210,14 @@ module _ {X : Type 0} (rsa ecdsa : X → Check) (sha1 sha256 : X → List ℕ �
     below = λ may. adds-none (IsBelow published B H) xs.below (λ y h. none h.point h.published_there);
   }
 
-  pub none-published : IsNone (IsPublication published B.sha256 B.terms.strictness.attributes H.cert.tbs)
+  pub none-published : IsNone (IsPublication published B.by.sha256 B.terms.strictness.attributes H.cert.tbs)
       → IsNone (IsPoint published B H)
   none-published none q h = none q h.there
 
   module _ (p : PublicationParts) (sole : IsSole (Publishes published B H) p) (holds : HoldsAtMoment B H p)
-      (os : List (List ℕ)) (are : AreOctetsOf published B.sha256 p.folder p.manifest.content.files os)
+      (os : List (List ℕ)) (are : AreOctetsOf published B.by.sha256 p.folder p.manifest.content.files os)
       (old new : Found) where
-    files-said : AddsFiles rsa ecdsa sha1 sha256 (in_force issuer p.list Refused at) p.manifest.content.files os old new
+    files-said : AddsFiles models (in_force issuer p.list Refused at) p.manifest.content.files os old new
         → Said old new
     files-said h = record {
       origins = adds-same _ (SaysOrigin published B H) old.origins new.origins
@@ -242,16 +242,16 @@ module _ {X : Type 0} (rsa ecdsa : X → Check) (sha1 sha256 : X → List ℕ �
 
     -- what the files say
     pub point-files : (c : InForce X) → c ≡ in_force issuer p.list Refused at
-        → AddsFiles rsa ecdsa sha1 sha256 c p.manifest.content.files os old new → Said old new
+        → AddsFiles models c p.manifest.content.files os old new → Said old new
     point-files c e h = files-said
-        (subst (λ (q : InForce X). AddsFiles rsa ecdsa sha1 sha256 q p.manifest.content.files os old new) e h)
+        (subst (λ (q : InForce X). AddsFiles models q p.manifest.content.files os old new) e h)
 
   -- why there is none
   pub stop-publication : (K : Reason → Type 0) (s : Stop) (xs : Found)
-      → StopsAt (IsPublication published B.sha256 B.terms.strictness.attributes H.cert.tbs) K s
+      → StopsAt (IsPublication published B.by.sha256 B.terms.strictness.attributes H.cert.tbs) K s
       → UnlessMemory (Said xs xs) s
   stop-publication K s xs h =
-      stops-none (IsPublication published B.sha256 B.terms.strictness.attributes H.cert.tbs) K (Said xs xs) s
+      stops-none (IsPublication published B.by.sha256 B.terms.strictness.attributes H.cert.tbs) K (Said xs xs) s
       (λ none. point-none (none-published none) xs) h
 
   module _ (p : PublicationParts) (sole : IsSole (Publishes published B H) p) where
@@ -262,9 +262,10 @@ module _ {X : Type 0} (rsa ecdsa : X → Check) (sha1 sha256 : X → List ℕ �
         (λ none. point-none (none-holds published B H p sole none) xs) h
 
     pub stop-files : (K : Reason → Type 0) (s : Stop) (xs : Found)
-        → StopsAt (AreOctetsOf published B.sha256 p.folder p.manifest.content.files) K s → UnlessMemory (Said xs xs) s
+        → StopsAt (AreOctetsOf published B.by.sha256 p.folder p.manifest.content.files) K s
+        → UnlessMemory (Said xs xs) s
     stop-files K s xs h =
-        stops-none (AreOctetsOf published B.sha256 p.folder p.manifest.content.files) K (Said xs xs) s
+        stops-none (AreOctetsOf published B.by.sha256 p.folder p.manifest.content.files) K (Said xs xs) s
         (λ none. point-none (none-whole published B H p sole none) xs) h
 
 -- the authority of a list that counts

@@ -6,7 +6,7 @@ use Rattle.std.proofs.lemmas.List.Elements.{Contains-append_left, Contains-push,
 use Rattle.std.specs.Prelude.{◌↔◌, IsTrue}
 use Rattle.std.specs.List.{Contains}
 use Rattle.jiff.specs.Types.{DateTime}
-use Rattle.rpki.specs.Provider.{Check}
+use Rattle.rpki.specs.Checkers.{Models}
 use Rattle.rpki_contents.specs.Aspa.{AspaParts}
 use Rattle.rpki_contents.specs.ListedFile.{ListedFile}
 use Rattle.rpki_contents.specs.declared.route_origin.RouteOrigin.{RouteOrigin}
@@ -561,17 +561,17 @@ module _ {X : Type 0} (published : Published) (basis : Basis) (uris : List Ancho
           not-true t = let c : ◌≡◌ {A = Bool} false true = t in absurd (cc)
 
 -- what is told below a trust anchor of these terms, by this provider
-module _ {X : Type 0} (rsa ecdsa : X → Check) (sha1 sha256 : X → List ℕ → List ℕ) (published : Published)
+module _ {X : Type 0} (models : Models X) (published : Published)
     (at : DateTime) (uris : List AnchorUri) (anchor : Authority X) (o : Outcome) where
   pub told-under : (terms : Terms) (provider : X) → anchor.terms ≡ terms → anchor.provider ≡ provider
-      → IsSole (IsFirstAnchor published (basis_by rsa ecdsa sha1 sha256 terms provider at) uris) (holder_of anchor)
+      → IsSole (IsFirstAnchor published (basis_by models terms provider at) uris) (holder_of anchor)
       → ((us : List AnchorUri)
-      → IsSole (IsFirstAnchor published (basis_of rsa ecdsa sha1 sha256 anchor at) us) (holder_of anchor)
-      → AreExactly published (basis_of rsa ecdsa sha1 sha256 anchor at) us o)
-      → AreExactly published (basis_by rsa ecdsa sha1 sha256 terms provider at) uris o
+      → IsSole (IsFirstAnchor published (basis_of models anchor at) us) (holder_of anchor)
+      → AreExactly published (basis_of models anchor at) us o)
+      → AreExactly published (basis_by models terms provider at) uris o
   told-under terms provider same by sole told =
-      let e = ap (λ (t : Terms). basis_by rsa ecdsa sha1 sha256 t anchor.provider at) same
-      ∙ ap (λ (x : X). basis_by rsa ecdsa sha1 sha256 terms x at) by in
+      let e = ap (λ (t : Terms). basis_by models t anchor.provider at) same
+      ∙ ap (λ (x : X). basis_by models terms x at) by in
       subst (λ (b : Basis). AreExactly published b uris o) e
       (told uris (subst (λ (b : Basis). IsSole (IsFirstAnchor published b uris) (holder_of anchor)) (sym e) sole))
 
@@ -633,12 +633,12 @@ module _ {X : Type 0} (terms : Terms) (provider : X) (at : DateTime) (a : Author
         )
 
 -- what is looked at under the terms and the provider of the trust anchor
-pub looks-under : {X : Type 0} (rsa ecdsa : X → Check) (sha1 sha256 : X → List ℕ → List ℕ) (published : Published)
+pub looks-under : {X : Type 0} (models : Models X) (published : Published)
     (at : DateTime) (terms : Terms) (provider : X) (b : Bool) (a : Authority X) (w w' : List (Entry X)) (o o' : Outcome)
     → a.terms ≡ terms → a.provider ≡ provider
-    → LooksAtOne published (basis_of rsa ecdsa sha1 sha256 a at) b a w w' o o'
-    → LooksAtOne published (basis_by rsa ecdsa sha1 sha256 terms provider at) b a w w' o o'
-looks-under {X} rsa ecdsa sha1 sha256 published at terms provider b a w w' o o' same by h =
+    → LooksAtOne published (basis_of models a at) b a w w' o o'
+    → LooksAtOne published (basis_by models terms provider at) b a w w' o o'
+looks-under {X} models published at terms provider b a w w' o o' same by h =
     subst (λ (q : Basis). LooksAtOne published q b a w w' o o')
-    (ap (λ (t : Terms). basis_by rsa ecdsa sha1 sha256 t a.provider at) same
-    ∙ ap (λ (x : X). basis_by rsa ecdsa sha1 sha256 terms x at) by) h
+    (ap (λ (t : Terms). basis_by models t a.provider at) same
+    ∙ ap (λ (x : X). basis_by models terms x at) by) h

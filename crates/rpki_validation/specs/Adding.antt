@@ -3,7 +3,7 @@ use Rattle.std.specs.Prelude.{◌≡◌, ◌⊎◌, ◌<◌, ℕ, true, List, []
 use Rattle.std.specs.Prelude.{IfOk, Vec, codes}
 use Rattle.std.specs.List.{Contains, ends_with}
 use Rattle.jiff.specs.Types.{DateTime}
-use Rattle.rpki.specs.Provider.{Check}
+use Rattle.rpki.specs.Checkers.{Models}
 use Rattle.rpki_cert.specs.declared.profile.Profile.{Profile}
 use Rattle.rpki_cert.specs.declared.profile.Profile.TheVariants.{Ca, Router}
 use Rattle.rpki_contents.specs.Aspa.{AspaParts}
@@ -76,23 +76,21 @@ IsSaidAmong end P (file ∷ files) (o ∷ os) = IsSaidBy end P file o ⊎ IsSaid
 
 -- ---- what octets say under a list that counts
 
-module _ {X : Type 0} (rsa ecdsa : X → Check) (sha1 sha256 : X → List ℕ → List ℕ) (c : InForce X) where
+module _ {X : Type 0} (models : Models X) (c : InForce X) where
   -- they are an attestation that says the prefix may be announced
   abbrev pub SaysOriginHere : RouteOrigin → List ℕ → Type 0
   SaysOriginHere v octets =
       (x : TypedParts AttestationParts)
-      × AreOriginsIn (basis_in rsa ecdsa sha1 sha256 c) (holder_of c.issuer) c.list octets x
+      × AreOriginsIn (basis_in models c) (holder_of c.issuer) c.list octets x
       × Contains (origins x.content) v
 
   -- they are this attestation of providers
   abbrev pub AreProvidersHere : TypedParts AspaParts → List ℕ → Type 0
-  AreProvidersHere x octets =
-      AreProvidersIn (basis_in rsa ecdsa sha1 sha256 c) (holder_of c.issuer) c.list octets x
+  AreProvidersHere x octets = AreProvidersIn (basis_in models c) (holder_of c.issuer) c.list octets x
 
   -- they are this certificate
   abbrev pub IsCertHere : Profile → Holder → List ℕ → Type 0
-  IsCertHere profile x octets =
-      IsCertIn profile (basis_in rsa ecdsa sha1 sha256 c) (holder_of c.issuer) c.list octets x
+  IsCertHere profile x octets = IsCertIn profile (basis_in models c) (holder_of c.issuer) c.list octets x
 
   -- an authority below that of the list is no deeper than its path may be
   abbrev pub MayIssue : Type 0
@@ -129,12 +127,12 @@ module _ {X : Type 0} (rsa ecdsa : X → Check) (sha1 sha256 : X → List ℕ �
 
 -- ---- what the point of an authority says
 
-module _ {X : Type 0} (rsa ecdsa : X → Check) (sha1 sha256 : X → List ℕ → List ℕ) (known : Option Published)
+module _ {X : Type 0} (models : Models X) (known : Option Published)
     (issuer : Authority X) (at : DateTime) where
   -- all that it says is added
   abbrev pub AddsPoint : {R : Type 0} → Found → Found → Result R Stop → Type 0
   AddsPoint old new r =
-      let basis = basis_of rsa ecdsa sha1 sha256 issuer at in
+      let basis = basis_of models issuer at in
       let x = holder_of issuer in
       Where known (λ published. WhereMemory r (AddsSaid (issuer.depth < issuer.terms.deepest)
       (SaysOrigin published basis x) (SaysProviders published basis x) (SaysRouter published basis x)
@@ -145,23 +143,23 @@ module _ {X : Type 0} (rsa ecdsa : X → Check) (sha1 sha256 : X → List ℕ �
       → Result (Unit {0}) E → Type 0
   AddsOrigins old new r =
       Where known (λ published. IfOk r (λ _. Adds
-      (SaysOrigin published (basis_of rsa ecdsa sha1 sha256 issuer at) (holder_of issuer)) (values old) (values new)))
+      (SaysOrigin published (basis_of models issuer at) (holder_of issuer)) (values old) (values new)))
 
   abbrev pub AddsProviders : {E : Type 0} → List (Payload (TypedParts AspaParts))
       → List (Payload (TypedParts AspaParts))
       → Result (Unit {0}) E → Type 0
   AddsProviders old new r =
       Where known (λ published. IfOk r (λ _. Adds
-      (SaysProviders published (basis_of rsa ecdsa sha1 sha256 issuer at) (holder_of issuer)) (values old)
+      (SaysProviders published (basis_of models issuer at) (holder_of issuer)) (values old)
       (values new)))
 
   abbrev pub AddsRouters : {E : Type 0} → List (Payload Holder) → List (Payload Holder) → Result (Unit {0}) E → Type 0
   AddsRouters old new r =
       Where known (λ published. IfOk r (λ _. Adds
-      (SaysRouter published (basis_of rsa ecdsa sha1 sha256 issuer at) (holder_of issuer)) (values old) (values new)))
+      (SaysRouter published (basis_of models issuer at) (holder_of issuer)) (values old) (values new)))
 
   abbrev pub AddsAuthorities : {E : Type 0} → List (Authority X) → List (Authority X) → Result (Unit {0}) E → Type 0
   AddsAuthorities old new r =
       Where known (λ published. IfOk r (λ _. issuer.depth < issuer.terms.deepest
-      → Adds (IsBelow published (basis_of rsa ecdsa sha1 sha256 issuer at) (holder_of issuer)) (holders old)
+      → Adds (IsBelow published (basis_of models issuer at) (holder_of issuer)) (holders old)
       (holders new)))

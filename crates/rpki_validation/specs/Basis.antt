@@ -1,35 +1,31 @@
 -- What validity rests on beside the octets that are published.
-use Rattle.std.specs.Prelude.{ℕ, List, Some, map}
+use Rattle.std.specs.Prelude.{List, Some, map}
 use Rattle.jiff.specs.Types.{DateTime}
-use Rattle.rpki.specs.Provider.{Check}
 use Rattle.rpki_time.specs.Validity.{Period}
+use Rattle.rpki.specs.Provider.{Checkers}
+use Rattle.rpki.specs.Checkers.{Models, checkers_of}
 use Rattle.rpki_valid.specs.declared.staleness.Staleness.TheVariants.{Refused}
 use Rattle.rpki_valid.specs.CrlIssued.{InForce}
-use Rattle.rpki_valid.specs.Verified.{Authority, Checkers, Holder, Terms, Verified, checkers_by, holder}
+use Rattle.rpki_valid.specs.Verified.{Authority, Holder, Terms, Verified, holder}
 
 -- what all certificates of a path are checked against: the key of the trust anchor, which rules are kept strictly, and
 -- how many steps there are at most below the trust anchor; what signatures and digests are; and the moment
 pub record Basis : Type 1 where
   pub terms : Terms
   pub by : Checkers
-  pub sha256 : List ℕ → List ℕ
   pub at : DateTime
 
 -- those of a provider
-abbrev pub basis_by : {X : Type 0} → (X → Check) → (X → Check) → (X → List ℕ → List ℕ) → (X → List ℕ → List ℕ) → Terms
-    → X → DateTime → Basis
-basis_by rsa ecdsa sha1 sha256 terms provider at =
-    record { terms = terms; by = checkers_by rsa ecdsa sha1 provider; sha256 = sha256 provider; at = at }
+abbrev pub basis_by : {X : Type 0} → Models X → Terms → X → DateTime → Basis
+basis_by models terms provider at = record { terms = terms; by = checkers_of models provider; at = at }
 
 -- those of an authority that was verified
-abbrev pub basis_of : {X : Type 0} → (X → Check) → (X → Check) → (X → List ℕ → List ℕ) → (X → List ℕ → List ℕ)
-    → Authority X → DateTime → Basis
-basis_of rsa ecdsa sha1 sha256 a at = basis_by rsa ecdsa sha1 sha256 a.terms a.provider at
+abbrev pub basis_of : {X : Type 0} → Models X → Authority X → DateTime → Basis
+basis_of models a at = basis_by models a.terms a.provider at
 
 -- those of its list that counts
-abbrev pub basis_in : {X : Type 0} → (X → Check) → (X → Check) → (X → List ℕ → List ℕ) → (X → List ℕ → List ℕ)
-    → InForce X → Basis
-basis_in rsa ecdsa sha1 sha256 c = basis_of rsa ecdsa sha1 sha256 c.issuer c.at
+abbrev pub basis_in : {X : Type 0} → Models X → InForce X → Basis
+basis_in models c = basis_of models c.issuer c.at
 
 -- the certificate of an authority, and its resources
 abbrev pub holder_of : {X : Type 0} → Authority X → Holder

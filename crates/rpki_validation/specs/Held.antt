@@ -1,7 +1,7 @@
 -- What steps of a walk promise of the periods of payloads.
 use Rattle.std.specs.Prelude.{ℕ, List, Option, codes}
 use Rattle.jiff.specs.Types.{DateTime}
-use Rattle.rpki.specs.Provider.{Check}
+use Rattle.rpki.specs.Checkers.{Models}
 use Rattle.rpki_cert.specs.Cert.{CertParts}
 use Rattle.rpki_contents.specs.declared.route_origin.RouteOrigin.{RouteOrigin}
 use Rattle.rpki_contents.specs.Aspa.{AspaParts}
@@ -32,12 +32,12 @@ SaysBy T = Basis → Holder → CrlParts → List ℕ → T → CertParts → Ty
 
 -- ---- under a list that counts
 
-module _ {X : Type 0} (rsa ecdsa : X → Check) (sha1 sha256 : X → List ℕ → List ℕ) (c : InForce X) where
+module _ {X : Type 0} (models : Models X) (c : InForce X) where
   -- octets say the payload, in its period
   abbrev pub IsSaidHere : {T : Type 0} → SaysBy T → List ℕ → Payload T → Type 0
   IsSaidHere Says octets v =
       (cert : CertParts)
-      × Says (basis_in rsa ecdsa sha1 sha256 c) (holder_of c.issuer) c.list octets v.value cert
+      × Says (basis_in models c) (holder_of c.issuer) c.list octets v.value cert
       × IsPeriodUnder (CountsAt c) cert v.period
 
   -- a file does, whose name ends so
@@ -62,11 +62,11 @@ module _ {X : Type 0} (rsa ecdsa : X → Check) (sha1 sha256 : X → List ℕ �
 abbrev pub IsSaidOf : {X T : Type 0} → Published → Basis → List ℕ → SaysBy T → Authority X → Payload T → Type 0
 IsSaidOf published basis end Says a = IsSaidFor published basis end Says (holder_of a) a.period
 
-module _ {X : Type 0} (rsa ecdsa : X → Check) (sha1 sha256 : X → List ℕ → List ℕ) (known : Option Published)
+module _ {X : Type 0} (models : Models X) (known : Option Published)
     (issuer : Authority X) (at : DateTime) where
   abbrev pub AddsHeldOf : Outcome → Outcome → Type 0
   AddsHeldOf old new =
-      let basis = basis_of rsa ecdsa sha1 sha256 issuer at in
+      let basis = basis_of models issuer at in
       Where known (λ published. AddsHeld (IsSaidOf published basis (codes ".roa") SaysOriginBy issuer)
       (IsSaidOf published basis (codes ".asa") SaysProvidersBy issuer)
       (IsSaidOf published basis (codes ".cer") SaysRouterBy issuer) old new)

@@ -30,11 +30,11 @@ use Rattle.rpki_validation.specs.Finding.{IsCertReason, IsObjectReason}
 
 -- the authority has issued the object, which isn't on its list, and which has these resources
 abbrev pub IsIssuedObject : Basis → Holder → CrlParts → ObjectParts → ResourceSet → Type 0
-IsIssuedObject basis issuer list = IsValidObject (Some list) basis.sha256 (verified_at basis issuer) basis.at
+IsIssuedObject basis issuer list = IsValidObject (Some list) (verified_at basis issuer) basis.at
 
 -- why it has none
 abbrev pub IsUnissuedObject : Basis → Holder → CrlParts → ObjectParts → ValidationError → Type 0
-IsUnissuedObject basis issuer list = IsInvalidObject (Some list) basis.sha256 (verified_at basis issuer) basis.at
+IsUnissuedObject basis issuer list = IsInvalidObject (Some list) (verified_at basis issuer) basis.at
 
 -- octets that are an object of F, which the authority has issued, and of which the rules of its type hold
 pub record IsObjectIn {C : Type 0} (F : Format (TypedParts C)) (Rules : TypedParts C → ResourceSet → Type 0)

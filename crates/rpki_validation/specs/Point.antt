@@ -42,14 +42,14 @@ pub record HoldsAtMoment (basis : Basis) (issuer : Holder) (p : PublicationParts
   pub list : IsIssuedBy Refused (verified_at basis issuer) basis.at p.list
   pub held : ResourceSet
   pub manifest : IsProcessed
-      (IsValidObject (Some p.list) basis.sha256 (verified_at basis issuer) basis.at p.manifest.object)
+      (IsValidObject (Some p.list) (verified_at basis issuer) basis.at p.manifest.object)
       (λ _. KeepsManifestRules basis.at p.manifest) held
 
 -- of its manifest, which isn't valid; or which is, but breaks a rule
 abbrev pub IsNoManifestOf : Basis → Holder → PublicationParts → ValidationError → Type 0
 IsNoManifestOf basis issuer p =
-    let valid = IsValidObject (Some p.list) basis.sha256 (verified_at basis issuer) basis.at p.manifest.object in
-    let invalid = IsInvalidObject (Some p.list) basis.sha256 (verified_at basis issuer) basis.at p.manifest.object in
+    let valid = IsValidObject (Some p.list) (verified_at basis issuer) basis.at p.manifest.object in
+    let invalid = IsInvalidObject (Some p.list) (verified_at basis issuer) basis.at p.manifest.object in
     IsUnprocessed valid invalid (λ _. BreaksManifestRules basis.at p.manifest)
 
 -- of its list, which the authority hasn't issued, or which doesn't count
@@ -74,10 +74,10 @@ VerifiesPublication basis issuer p r =
 -- The publication of the authority, which holds at the moment, and of whose manifest each file is there (RFC 9286 6.4,
 -- 6.5). Where one isn't, nothing of the authority counts (6.6).
 pub record IsPoint (published : Published) (basis : Basis) (issuer : Holder) (p : PublicationParts) : Type 0 where
-  pub there : IsPublication published basis.sha256 basis.terms.strictness.attributes issuer.cert.tbs p
+  pub there : IsPublication published basis.by.sha256 basis.terms.strictness.attributes issuer.cert.tbs p
   pub valid : HoldsAtMoment basis issuer p
   pub whole : (file : ListedFile) → Contains p.manifest.content.files file
-      → (octets : List ℕ) × StandsAs published basis.sha256 p.folder file octets
+      → (octets : List ℕ) × StandsAs published basis.by.sha256 p.folder file octets
 
 -- a file of the point with these octets, whose name ends so
 pub record IsFile (published : Published) (basis : Basis) (p : PublicationParts) (end : List ℕ) (octets : List ℕ)
@@ -85,4 +85,4 @@ pub record IsFile (published : Published) (basis : Basis) (p : PublicationParts)
   pub file : ListedFile
   pub listed : Contains p.manifest.content.files file
   pub ends : ends_with nat_eq file.0 end ≡ true
-  pub stands : StandsAs published basis.sha256 p.folder file octets
+  pub stands : StandsAs published basis.by.sha256 p.folder file octets

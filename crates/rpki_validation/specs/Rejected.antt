@@ -51,14 +51,14 @@ pub record IsRightFile (depth : ℕ) (basis : Basis) (issuer : Holder) (list : C
 -- why the authority has no point: what it publishes isn't there; doesn't hold at the moment; or isn't whole (RFC 9286
 -- 6.2 to 6.6)
 pub data IsNoPoint (published : Published) (basis : Basis) (issuer : Holder) (reason : Reason) : Type 0 where
-  NotThere : IsNoPublication published basis.sha256 basis.terms.strictness.attributes issuer.cert.tbs reason
+  NotThere : IsNoPublication published basis.by.sha256 basis.terms.strictness.attributes issuer.cert.tbs reason
       → IsNoPoint published basis issuer reason
   NotAtMoment : (p : PublicationParts)
-      → IsPublication published basis.sha256 basis.terms.strictness.attributes issuer.cert.tbs p
+      → IsPublication published basis.by.sha256 basis.terms.strictness.attributes issuer.cert.tbs p
       → IsNoMoment basis issuer p reason → IsNoPoint published basis issuer reason
   NotWhole : (p : PublicationParts)
-      → IsPublication published basis.sha256 basis.terms.strictness.attributes issuer.cert.tbs p
-      → HoldsAtMoment basis issuer p → IsIncomplete published basis.sha256 p.folder p.manifest.content.files reason
+      → IsPublication published basis.by.sha256 basis.terms.strictness.attributes issuer.cert.tbs p
+      → HoldsAtMoment basis issuer p → IsIncomplete published basis.by.sha256 p.folder p.manifest.content.files reason
       → IsNoPoint published basis issuer reason
 
 -- ---- rejections
@@ -85,7 +85,7 @@ pub record IsFileRejection (published : Published) (basis : Basis) (depth : ℕ)
   pub file : ListedFile
   pub listed : Contains point.manifest.content.files file
   pub octets : List ℕ
-  pub stands : StandsAs published basis.sha256 point.folder file octets
+  pub stands : StandsAs published basis.by.sha256 point.folder file octets
   pub rejected : IsRejectedFile depth basis issuer point file octets r
 
 -- the one or the other, of an authority so many steps below the trust anchor
@@ -100,7 +100,7 @@ pub record AreNoted (published : Published) (basis : Basis) (depth : ℕ) (issue
   pub point : IsNone (IsPoint published basis issuer) → Noted (IsPointRejection published basis issuer) all
   pub files : (p : PublicationParts) → IsPoint published basis issuer p → (file : ListedFile)
       → Contains p.manifest.content.files file → (octets : List ℕ)
-      → StandsAs published basis.sha256 p.folder file octets
+      → StandsAs published basis.by.sha256 p.folder file octets
       → IsRightFile depth basis issuer p.list file octets
       ⊎ Noted (IsRejectedFile depth basis issuer p file octets) all
 

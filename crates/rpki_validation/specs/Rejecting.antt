@@ -2,7 +2,7 @@
 use Rattle.std.specs.Prelude.{◌≡◌, ◌++◌, ℕ, true, false, List, [], ◌∷◌, Option, Some, None, Result}
 use Rattle.std.specs.Prelude.{MatchResult, codes}
 use Rattle.jiff.specs.Types.{DateTime}
-use Rattle.rpki.specs.Provider.{Check}
+use Rattle.rpki.specs.Checkers.{Models}
 use Rattle.rpki_cert.specs.declared.profile.Profile.TheVariants.{Ca}
 use Rattle.rpki_cert.specs.Cert.{TbsParts}
 use Rattle.rpki_contents.specs.ListedFile.{ListedFile}
@@ -60,33 +60,33 @@ AddsNote P old new = (r : Rejection) × (new ≡ old ++ r ∷ []) × P r
 
 -- ---- under a list that counts
 
-module _ {X : Type 0} (rsa ecdsa : X → Check) (sha1 sha256 : X → List ℕ → List ℕ) (c : InForce X) where
+module _ {X : Type 0} (models : Models X) (c : InForce X) where
   -- the octets are an attestation of route origins; or why not
   abbrev pub SettlesOrigins : {R : Type 0} → List ℕ → Result R Stop → Type 0
   SettlesOrigins octets =
-      let basis = basis_in rsa ecdsa sha1 sha256 c in
+      let basis = basis_in models c in
       IsSettled (AreOriginsIn basis (holder_of c.issuer) c.list octets)
       (AreNoOriginsIn basis (holder_of c.issuer) c.list octets)
 
   -- one of providers
   abbrev pub SettlesProviders : {R : Type 0} → List ℕ → Result R Stop → Type 0
   SettlesProviders octets =
-      let basis = basis_in rsa ecdsa sha1 sha256 c in
+      let basis = basis_in models c in
       IsSettled (AreProvidersIn basis (holder_of c.issuer) c.list octets)
       (AreNoProvidersIn basis (holder_of c.issuer) c.list octets)
 
   -- a certificate that counts
   abbrev pub SettlesCert : {R : Type 0} → List ℕ → Result R Stop → Type 0
   SettlesCert octets =
-      let basis = basis_in rsa ecdsa sha1 sha256 c in
+      let basis = basis_in models c in
       IsSettled (IsCountedCert c.issuer.depth basis (holder_of c.issuer) c.list octets)
       (IsNoCertIn c.issuer.depth basis (holder_of c.issuer) c.list octets)
 
   abbrev pub IsRightHere : ListedFile → List ℕ → Type 0
-  IsRightHere = IsRightFile c.issuer.depth (basis_in rsa ecdsa sha1 sha256 c) (holder_of c.issuer) c.list
+  IsRightHere = IsRightFile c.issuer.depth (basis_in models c) (holder_of c.issuer) c.list
 
   abbrev pub IsWrongHere : ListedFile → List ℕ → Reason → Type 0
-  IsWrongHere = IsWrongFile c.issuer.depth (basis_in rsa ecdsa sha1 sha256 c) (holder_of c.issuer) c.list
+  IsWrongHere = IsWrongFile c.issuer.depth (basis_in models c) (holder_of c.issuer) c.list
 
   -- a file that counts; or why not
   abbrev pub SettlesFile : {R : Type 0} → ListedFile → List ℕ → Result R Stop → Type 0
@@ -106,8 +106,7 @@ module _ {X : Type 0} (rsa ecdsa : X → Check) (sha1 sha256 : X → List ℕ �
 
   -- octets say the authority, in the period of its path
   abbrev pub IsChildHere : List ℕ → Authority X → Type 0
-  IsChildHere octets a =
-      IsCertHere rsa ecdsa sha1 sha256 c Ca (holder_of a) octets × IsPeriodUnder (CountsAt c) a.cert a.period
+  IsChildHere octets a = IsCertHere models c Ca (holder_of a) octets × IsPeriodUnder (CountsAt c) a.cert a.period
 
   -- an authority that is added is one that a file says
   abbrev pub IsChildOf : ListedFile → List ℕ → Authority X → Type 0
@@ -135,12 +134,12 @@ IsChild published basis issuer a =
     (below : IsBelow published basis (holder_of issuer) (holder_of a))
     × IsPeriodUnder (HoldsAbove issuer.period below.point.list) a.cert a.period
 
-module _ {X : Type 0} (rsa ecdsa : X → Check) (sha1 sha256 : X → List ℕ → List ℕ) (known : Option Published)
+module _ {X : Type 0} (models : Models X) (known : Option Published)
     (issuer : Authority X) (at : DateTime) where
   -- all that is rejected of the authority
   abbrev pub RejectsOf : List Rejection → List Rejection → Type 0
   RejectsOf old new =
-      Where known (λ published. Rejects published (basis_of rsa ecdsa sha1 sha256 issuer at) issuer.depth
+      Where known (λ published. Rejects published (basis_of models issuer at) issuer.depth
       (Only (holder_of issuer)) old new)
 
   abbrev pub RejectsIn : Outcome → Outcome → Type 0
@@ -149,7 +148,7 @@ module _ {X : Type 0} (rsa ecdsa : X → Check) (sha1 sha256 : X → List ℕ �
   -- its point is looked at; or why there is none
   abbrev pub SettlesPoint : {R : Type 0} → List Rejection → List Rejection → Result R Stop → Type 0
   SettlesPoint old new r =
-      let basis = basis_of rsa ecdsa sha1 sha256 issuer at in
+      let basis = basis_of models issuer at in
       Where known (λ published. MatchResult r
       (λ _. Rejects published basis issuer.depth (Only (holder_of issuer)) old new)
       (StopsAt (IsPoint published basis (holder_of issuer)) (IsNoPoint published basis (holder_of issuer))))
@@ -158,4 +157,4 @@ module _ {X : Type 0} (rsa ecdsa : X → Check) (sha1 sha256 : X → List ℕ �
   abbrev pub AddsBelow : List (Authority X) → List (Authority X) → Type 0
   AddsBelow old new =
       Where known (λ published.
-      AddsOnly (IsChild published (basis_of rsa ecdsa sha1 sha256 issuer at) issuer) old new)
+      AddsOnly (IsChild published (basis_of models issuer at) issuer) old new)

@@ -1,8 +1,8 @@
 -- Payloads are signed down from the key of the locator (RFC 6480 6).
-use Rattle.std.specs.Prelude.{◌≡◌, ℕ, List, Some}
+use Rattle.std.specs.Prelude.{◌≡◌, List, Some}
 use Rattle.std.specs.List.{Contains}
 use Rattle.jiff.specs.Types.{DateTime}
-use Rattle.rpki.specs.Provider.{Check}
+use Rattle.rpki.specs.Checkers.{Models}
 use Rattle.rpki_cert.specs.declared.profile.Profile.{Profile}
 use Rattle.rpki_cert.specs.declared.profile.Profile.TheVariants.{Ee, Router}
 use Rattle.rpki_contents.specs.declared.route_origin.RouteOrigin.{RouteOrigin}
@@ -30,32 +30,29 @@ IsSignedDown profile basis x = HasPath profile basis.terms (Some Refused) (Some 
 pub record IsObjectSignedDown {C : Type 0} (Rules : TypedParts C → ResourceSet → Type 0) (basis : Basis)
     (x : TypedParts C) : Type 0 where
   pub held : ResourceSet
-  pub signed : IsSignedObject basis.by.rsa basis.by.ecdsa basis.sha256 x.object
+  pub signed : IsSignedObject basis.by x.object
   pub path : IsSignedDown Ee basis (holder x.object.cert held)
   pub rules : Rules x held
 
 -- of a route origin, an attestation that says it
-abbrev pub AreOriginsSignedDown : {X : Type 0} → (X → Check) → (X → Check) → (X → List ℕ → List ℕ)
-    → (X → List ℕ → List ℕ) → X → Type 0
-AreOriginsSignedDown rsa ecdsa sha1 sha256 provider =
+abbrev pub AreOriginsSignedDown : {X : Type 0} → Models X → X → Type 0
+AreOriginsSignedDown models provider =
     (published : Published) (terms : Terms) (at : DateTime) (uris : List AnchorUri) (v : RouteOrigin)
-    → IsOrigin published (basis_by rsa ecdsa sha1 sha256 terms provider at) uris v
+    → IsOrigin published (basis_by models terms provider at) uris v
     → (x : TypedParts AttestationParts) × Contains (origins x.content) v
-    × IsObjectSignedDown KeepsOriginRules (basis_by rsa ecdsa sha1 sha256 terms provider at) x
+    × IsObjectSignedDown KeepsOriginRules (basis_by models terms provider at) x
 
 -- of providers, an attestation that is of them
-abbrev pub AreProvidersSignedDown : {X : Type 0} → (X → Check) → (X → Check) → (X → List ℕ → List ℕ)
-    → (X → List ℕ → List ℕ) → X → Type 0
-AreProvidersSignedDown rsa ecdsa sha1 sha256 provider =
+abbrev pub AreProvidersSignedDown : {X : Type 0} → Models X → X → Type 0
+AreProvidersSignedDown models provider =
     (published : Published) (terms : Terms) (at : DateTime) (uris : List AnchorUri) (v : AspaParts)
-    → AreProviders published (basis_by rsa ecdsa sha1 sha256 terms provider at) uris v
+    → AreProviders published (basis_by models terms provider at) uris v
     → (x : TypedParts AspaParts) × (x.content ≡ v)
-    × IsObjectSignedDown KeepsAspaRules (basis_by rsa ecdsa sha1 sha256 terms provider at) x
+    × IsObjectSignedDown KeepsAspaRules (basis_by models terms provider at) x
 
 -- of a router, its certificate
-abbrev pub AreRoutersSignedDown : {X : Type 0} → (X → Check) → (X → Check) → (X → List ℕ → List ℕ)
-    → (X → List ℕ → List ℕ) → X → Type 0
-AreRoutersSignedDown rsa ecdsa sha1 sha256 provider =
+abbrev pub AreRoutersSignedDown : {X : Type 0} → Models X → X → Type 0
+AreRoutersSignedDown models provider =
     (published : Published) (terms : Terms) (at : DateTime) (uris : List AnchorUri) (x : Holder)
-    → IsRouter published (basis_by rsa ecdsa sha1 sha256 terms provider at) uris x
-    → IsSignedDown Router (basis_by rsa ecdsa sha1 sha256 terms provider at) x
+    → IsRouter published (basis_by models terms provider at) uris x
+    → IsSignedDown Router (basis_by models terms provider at) x

@@ -1,7 +1,7 @@
 -- What the steps of a validator promise.
 use Rattle.std.specs.Prelude.{◌<◌, Bool, List, ℕ, Option, Result}
 use Rattle.jiff.specs.Types.{DateTime}
-use Rattle.rpki.specs.Provider.{Check}
+use Rattle.rpki.specs.Checkers.{Models}
 use Rattle.rpki_cert.specs.Cert.{CertParts, TbsParts}
 use Rattle.rpki_cert.specs.declared.profile.Profile.{Profile}
 use Rattle.rpki_cert.specs.declared.profile.Profile.TheVariants.{Ca, Router}
@@ -30,24 +30,24 @@ use Rattle.rpki_validation.specs.Snapshot.{Published, Where}
 
 -- ---- trust anchors
 
-module _ {X : Type 0} (rsa ecdsa : X → Check) (sha1 sha256 : X → List ℕ → List ℕ) (terms : Terms) (provider : X)
+module _ {X : Type 0} (models : Models X) (terms : Terms) (provider : X)
     (at : DateTime) where
   -- the trust anchor that the octets are
   abbrev pub FindsAnchorIn : List ℕ → Result (Authority X) Stop → Type 0
   FindsAnchorIn octets =
-      let basis = basis_by rsa ecdsa sha1 sha256 terms provider at in
+      let basis = basis_by models terms provider at in
       Finds holder_of (IsAnchorIn basis octets) (IsNoAnchorIn basis octets)
 
   -- that which was fetched from the URI
   abbrev pub FindsAnchorAt : Option Published → AnchorUri → Result (Authority X) Stop → Type 0
   FindsAnchorAt known uri r =
-      let basis = basis_by rsa ecdsa sha1 sha256 terms provider at in
+      let basis = basis_by models terms provider at in
       Where known (λ published. Finds holder_of (IsAnchorAt published basis uri) (IsNoAnchorAt published basis uri) r)
 
   -- that of a locator with these URIs
   abbrev pub FindsAnchor : Option Published → List AnchorUri → Result (Authority X) Stop → Type 0
   FindsAnchor known uris r =
-      let basis = basis_by rsa ecdsa sha1 sha256 terms provider at in
+      let basis = basis_by models terms provider at in
       Where known (λ published. Finds holder_of (IsFirstAnchor published basis uris)
       (IsNoAnchor published basis uris) r)
 
@@ -86,24 +86,24 @@ module _ (known : Option Published) (sha256 : List ℕ → List ℕ) where
 
 -- ---- what an authority has issued, by a list that counts
 
-module _ {X : Type 0} (rsa ecdsa : X → Check) (sha1 sha256 : X → List ℕ → List ℕ) (c : InForce X) where
+module _ {X : Type 0} (models : Models X) (c : InForce X) where
   -- the attestation of route origins that the octets are
   abbrev pub FindsOrigins : List ℕ → Result (TypedParts AttestationParts) Stop → Type 0
   FindsOrigins octets =
-      let basis = basis_in rsa ecdsa sha1 sha256 c in
+      let basis = basis_in models c in
       Finds (λ x. x) (AreOriginsIn basis (holder_of c.issuer) c.list octets)
       (AreNoOriginsIn basis (holder_of c.issuer) c.list octets)
 
   -- the attestation of providers that they are
   abbrev pub FindsProviders : List ℕ → Result (TypedParts AspaParts) Stop → Type 0
   FindsProviders octets =
-      let basis = basis_in rsa ecdsa sha1 sha256 c in
+      let basis = basis_in models c in
       Finds (λ x. x) (AreProvidersIn basis (holder_of c.issuer) c.list octets)
       (AreNoProvidersIn basis (holder_of c.issuer) c.list octets)
 
   -- the authority of the list has issued the certificate, of this profile, which has these resources
   abbrev pub IsIssuedHere : Profile → CertParts → ResourceSet → Type 0
-  IsIssuedHere profile = IsIssuedCert profile (basis_in rsa ecdsa sha1 sha256 c) (holder_of c.issuer) c.list
+  IsIssuedHere profile = IsIssuedCert profile (basis_in models c) (holder_of c.issuer) c.list
 
   -- of an authority
   abbrev pub IsAuthorityHere : CertParts → ResourceSet → Type 0
@@ -114,10 +114,10 @@ module _ {X : Type 0} (rsa ecdsa : X → Check) (sha1 sha256 : X → List ℕ �
   IsNoAuthorityHere cert =
       StopsAt (λ (r : ResourceSet). (c.issuer.depth < c.issuer.terms.deepest) × IsIssuedHere Ca cert r)
       (IsCertReason (λ _. ⊥)
-      (IsNoAuthorityIn c.issuer.depth (basis_in rsa ecdsa sha1 sha256 c) (holder_of c.issuer) c.list cert))
+      (IsNoAuthorityIn c.issuer.depth (basis_in models c) (holder_of c.issuer) c.list cert))
 
   -- of a router
   abbrev pub FindsRouter : CertParts → Result RouterCert Stop → Type 0
   FindsRouter cert =
       Finds (λ x. x.resources) (IsIssuedHere Router cert)
-      (IsCertReason (λ _. ⊥) (IsNoRouterIn (basis_in rsa ecdsa sha1 sha256 c) (holder_of c.issuer) c.list cert))
+      (IsCertReason (λ _. ⊥) (IsNoRouterIn (basis_in models c) (holder_of c.issuer) c.list cert))

@@ -3,7 +3,7 @@ use Rattle.std.specs.Prelude.{◌≡◌, ◌⊎◌, ◌↔◌, ◌<◌, ◌+◌,
 use Rattle.std.specs.Prelude.{IsTrue, MatchResult, codes}
 use Rattle.std.specs.List.{Contains}
 use Rattle.jiff.specs.Types.{DateTime}
-use Rattle.rpki.specs.Provider.{Check}
+use Rattle.rpki.specs.Checkers.{Models}
 use Rattle.rpki_contents.specs.declared.route_origin.RouteOrigin.{RouteOrigin}
 use Rattle.rpki_contents.specs.Aspa.{AspaParts}
 use Rattle.rpki_locator.specs.declared.anchor_uri.AnchorUri.{AnchorUri}
@@ -41,8 +41,7 @@ SayProviders all v = (x : TypedParts AspaParts) × Contains all x × (x.content 
 -- A locator with these URIs has a trust anchor; and the payloads are those that are valid under it, and no others, each
 -- in its period. Each rejection is one of an authority that counts, and has a true reason; and all that is rejected of
 -- it is among them. And no place is passed over: of what is below one that counts, where a path may be longer,
--- something
--- that counts publishes the same.
+-- something that counts publishes the same.
 pub record AreExactly (published : Published) (basis : Basis) (uris : List AnchorUri) (o : Outcome) : Type 0 where
   pub anchor : Holder
   pub first : IsFirstAnchor published basis uris anchor
@@ -60,20 +59,19 @@ pub record AreExactly (published : Published) (basis : Basis) (uris : List Ancho
       → IsBelow published basis x y → (z : Holder) × Counts published basis uris z × PublishTheSame z y
 
 -- the payloads of a locator; or why it has no trust anchor
-abbrev pub Validates : {X : Type 0} → (X → Check) → (X → Check) → (X → List ℕ → List ℕ) → (X → List ℕ → List ℕ)
-    → Terms → X → DateTime → Option Published → List AnchorUri → Result Outcome Stop → Type 0
-Validates rsa ecdsa sha1 sha256 terms provider at known uris r =
-    let basis = basis_by rsa ecdsa sha1 sha256 terms provider at in
+abbrev pub Validates : {X : Type 0} → Models X → Terms → X → DateTime → Option Published → List AnchorUri
+    → Result Outcome Stop → Type 0
+Validates models terms provider at known uris r =
+    let basis = basis_by models terms provider at in
     Where known (λ published. MatchResult r (AreExactly published basis uris)
     (StopsAt (IsFirstAnchor published basis uris) (IsNoAnchor published basis uris)))
 
 -- ---- the walk
 
 -- where the trust anchor is that of a locator with these URIs, what is valid below it
-abbrev pub TellsBelow : {X : Type 0} → (X → Check) → (X → Check) → (X → List ℕ → List ℕ) → (X → List ℕ → List ℕ)
-    → Option Published → DateTime → Authority X → Outcome → Type 0
-TellsBelow rsa ecdsa sha1 sha256 known at anchor o =
-    let basis = basis_of rsa ecdsa sha1 sha256 anchor at in
+abbrev pub TellsBelow : {X : Type 0} → Models X → Option Published → DateTime → Authority X → Outcome → Type 0
+TellsBelow models known at anchor o =
+    let basis = basis_of models anchor at in
     Where known (λ published. (uris : List AnchorUri)
     → IsSole (IsFirstAnchor published basis uris) (holder_of anchor) → AreExactly published basis uris o)
 
@@ -112,10 +110,10 @@ pub record LooksAtOne {X : Type 0} (published : Published) (basis : Basis) (is_n
       ⊎ WaitsUnder w' true (issuer.depth + 1) x
   pub kept : (key : Key) → HasKey w key → HasKey w' key
 
-abbrev pub LooksAt : {X : Type 0} → (X → Check) → (X → Check) → (X → List ℕ → List ℕ) → (X → List ℕ → List ℕ)
-    → Option Published → DateTime → Bool → Authority X → List (Entry X) → List (Entry X) → Outcome → Outcome → Type 0
-LooksAt rsa ecdsa sha1 sha256 known at is_named issuer w w' o o' =
-    Where known (λ published. LooksAtOne published (basis_of rsa ecdsa sha1 sha256 issuer at) is_named issuer w w' o o')
+abbrev pub LooksAt : {X : Type 0} → Models X → Option Published → DateTime → Bool → Authority X → List (Entry X)
+    → List (Entry X) → Outcome → Outcome → Type 0
+LooksAt models known at is_named issuer w w' o o' =
+    Where known (λ published. LooksAtOne published (basis_of models issuer at) is_named issuer w w' o o')
 
 -- each that waits was there, or is one step below the authority
 abbrev pub WaitBelow : {X : Type 0} → Authority X → DateTime → List (Entry X) → List (Entry X) → Type 0

@@ -24,8 +24,7 @@ fn anchor_in<'p, P: PreparingProvider>(
     at: Time,
     octets: Bytes,
 ) -> Result<ResourceCert<'p, P>, Stop>
-    ensures exactly { FindsAnchorIn P.rsa_of P.ecdsa_of P.sha1_of P.sha256_of (terms_in terms.entry)
-        provider.entry.now at octets result }
+    ensures exactly { FindsAnchorIn P.Provider (terms_in terms.entry) provider.entry.now at octets result }
     ensures period { IfOk result (λ a. HoldsAt a.period at) }
     ensures own { IfOk result (λ a. a.period ≡ a.cert.tbs.validity) }
     ensures terms { IfOk result (λ a. a.terms ≡ terms_in terms.entry) }
@@ -46,8 +45,8 @@ fn anchor_at<'p, S: Snapshot, P: PreparingProvider>(
     at: Time,
     uri: &AnchorUri,
 ) -> Result<ResourceCert<'p, P>, Stop>
-    ensures exactly { FindsAnchorAt P.rsa_of P.ecdsa_of P.sha1_of P.sha256_of (terms_in terms.entry)
-        provider.entry.now at (S.holds snapshot.now) uri.now result }
+    ensures exactly { FindsAnchorAt P.Provider (terms_in terms.entry) provider.entry.now at (S.holds snapshot.now)
+        uri.now result }
     ensures period { IfOk result (λ a. HoldsAt a.period at) }
     ensures own { IfOk result (λ a. a.period ≡ a.cert.tbs.validity) }
     ensures terms { IfOk result (λ a. a.terms ≡ terms_in terms.entry) }
@@ -73,8 +72,8 @@ pub fn anchor_of<'p, S: Snapshot, P: PreparingProvider>(
     terms: Terms<'p>,
     at: Time,
 ) -> Result<ResourceCert<'p, P>, Stop>
-    ensures exactly { FindsAnchor P.rsa_of P.ecdsa_of P.sha1_of P.sha256_of (terms_in terms.entry)
-        provider.entry.now at (S.holds snapshot.now) uris.now result }
+    ensures exactly { FindsAnchor P.Provider (terms_in terms.entry) provider.entry.now at (S.holds snapshot.now)
+        uris.now result }
     ensures period { IfOk result (λ a. HoldsAt a.period at) }
     ensures own { IfOk result (λ a. a.period ≡ a.cert.tbs.validity) }
     ensures terms { IfOk result (λ a. a.terms ≡ terms_in terms.entry) }

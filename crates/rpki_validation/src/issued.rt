@@ -32,7 +32,7 @@ pub fn origins_in<'a, 'p, P: PreparingProvider>(
     list: &CurrentCrl<'a, 'p, P>,
     octets: Bytes,
 ) -> Result<Roa, Stop>
-    ensures { FindsOrigins P.rsa_of P.ecdsa_of P.sha1_of P.sha256_of list.now octets result }
+    ensures { FindsOrigins P.Provider list.now octets result }
 {
     let roa = Roa::decode(alloc, octets, list.issuer().strictness())?;
     list.process_roa(alloc, &roa)?;
@@ -48,7 +48,7 @@ pub fn providers_in<'a, 'p, P: PreparingProvider>(
     list: &CurrentCrl<'a, 'p, P>,
     octets: Bytes,
 ) -> Result<Aspa, Stop>
-    ensures { FindsProviders P.rsa_of P.ecdsa_of P.sha1_of P.sha256_of list.now octets result }
+    ensures { FindsProviders P.Provider list.now octets result }
 {
     let aspa = Aspa::decode(alloc, octets, list.issuer().strictness().attributes)?;
     list.process_aspa(alloc, &aspa)?;
@@ -90,9 +90,8 @@ pub fn authority_of<'a, 'p, P: PreparingProvider>(
     list: &CurrentCrl<'a, 'p, P>,
     cert: Cert,
 ) -> Result<ResourceCert<'p, P>, Stop>
-    ensures ok { IfOk result (λ a. IsAuthorityHere P.rsa_of P.ecdsa_of P.sha1_of P.sha256_of list.now cert
-        a.resources) }
-    ensures err { IfErr result (IsNoAuthorityHere P.rsa_of P.ecdsa_of P.sha1_of P.sha256_of list.now cert) }
+    ensures ok { IfOk result (λ a. IsAuthorityHere P.Provider list.now cert a.resources) }
+    ensures err { IfErr result (IsNoAuthorityHere P.Provider list.now cert) }
     ensures cert { IfOk result (λ a. a.cert ≡ cert) }
     // All of its path is valid at the moment, and in this period.
     ensures period { IfOk result (λ a. HoldsAt a.period list.now.at) }
@@ -114,7 +113,7 @@ pub fn router_of<'a, 'p, P: PreparingProvider>(
     list: &CurrentCrl<'a, 'p, P>,
     cert: Cert,
 ) -> Result<RouterCert, Stop>
-    ensures exactly { FindsRouter P.rsa_of P.ecdsa_of P.sha1_of P.sha256_of list.now cert result }
+    ensures exactly { FindsRouter P.Provider list.now cert result }
     ensures cert { IfOk result (λ x. x.cert ≡ cert) }
 {
     let resources = list.verify_router(alloc, &cert)?;

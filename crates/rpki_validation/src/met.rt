@@ -92,7 +92,7 @@ fn place_mark_of<'p, P: PreparingProvider>(
 ) -> Result<Mark, AllocError>
     ensures mark { IfOk result (λ k. HasPlaceMark (holder_of authority.now) (mark_in (λ v. v.items) k)) }
     // It was verified.
-    ensures verified { IfOk result (λ _. IsVerified (verified_by P.rsa_of P.ecdsa_of P.sha1_of authority.now)) }
+    ensures verified { IfOk result (λ _. IsVerified (verified_by P.Provider authority.now)) }
 {
     let tbs = authority.cert().tbs();
     let name = Bytes::copy_from_slice(alloc, tbs.subject().as_slice())?;
@@ -113,7 +113,7 @@ pub(crate) fn mark_of<'p, P: PreparingProvider>(
 ) -> Result<Mark, AllocError>
     ensures mark { IfOk result (λ k. HasMark (holder_of authority.now) (mark_in (λ v. v.items) k)) }
     // It was verified.
-    ensures verified { IfOk result (λ _. IsVerified (verified_by P.rsa_of P.ecdsa_of P.sha1_of authority.now)) }
+    ensures verified { IfOk result (λ _. IsVerified (verified_by P.Provider authority.now)) }
 {
     let (name, bits, folder, manifest, mut numbers) = place_mark_of(alloc, authority)?;
     push_resources(authority.resources(), &mut numbers)?;
@@ -140,7 +140,7 @@ impl Met {
     ) -> Result<bool, AllocError>
         ensures inserted { IfOk result (InsertsMarkOf self.old self.new (holder_of authority.now)) }
         // It was verified.
-        ensures verified { IfOk result (λ _. IsVerified (verified_by P.rsa_of P.ecdsa_of P.sha1_of authority.now)) }
+        ensures verified { IfOk result (λ _. IsVerified (verified_by P.Provider authority.now)) }
     {
         let mark = mark_of(alloc, authority)?;
         let is_new = self.marks.insert(mark)?;

@@ -33,8 +33,8 @@ pub fn verify_publication<'a, 'p, P: PreparingProvider>(
     at: Time,
 ) -> Result<CurrentCrl<'a, 'p, P>, Stop>
     requires { HoldsAt issuer.now.period at }
-    ensures exactly { VerifiesPublication (basis_of P.rsa_of P.ecdsa_of P.sha1_of P.sha256_of issuer.entry.now at)
-        (holder_of issuer.entry.now) publication.entry.now result }
+    ensures exactly { VerifiesPublication (basis_of P.Provider issuer.entry.now at) (holder_of issuer.entry.now)
+        publication.entry.now result }
     ensures list { IfOk result (λ c. c ≡ in_force issuer.entry.now publication.entry.now.list Staleness.Refused at) }
 {
     let current = issuer.crl(publication.list(), Staleness::Refused, at)?;

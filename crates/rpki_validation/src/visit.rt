@@ -68,11 +68,11 @@ fn add_origins<'a, 'p, P: PreparingProvider>(
     octets: Bytes,
     origins: &mut Vec<Payload<RouteOrigin>>,
 ) -> Result<(), Stop>
-    ensures said { WhereMemory result (AddsOriginsHere P.rsa_of P.ecdsa_of P.sha1_of P.sha256_of list.now octets
-        (values origins.old.items) (values origins.new.items)) }
-    ensures held { WhereMemory result (AddsOnly (IsSaidHere P.rsa_of P.ecdsa_of P.sha1_of P.sha256_of list.now
-        SaysOriginBy octets) origins.old.items origins.new.items) }
-    ensures why { SettlesOrigins P.rsa_of P.ecdsa_of P.sha1_of P.sha256_of list.now octets result }
+    ensures said { WhereMemory result (AddsOriginsHere P.Provider list.now octets (values origins.old.items)
+        (values origins.new.items)) }
+    ensures held { WhereMemory result (AddsOnly (IsSaidHere P.Provider list.now SaysOriginBy octets) origins.old.items
+        origins.new.items) }
+    ensures why { SettlesOrigins P.Provider list.now octets result }
 {
     let roa = origins_in(alloc, list, octets)?;
     let period = period_of(list, roa.object().cert());
@@ -87,11 +87,11 @@ fn add_providers<'a, 'p, P: PreparingProvider>(
     octets: Bytes,
     providers: &mut Vec<Payload<Aspa>>,
 ) -> Result<(), Stop>
-    ensures said { WhereMemory result (AddsProvidersHere P.rsa_of P.ecdsa_of P.sha1_of P.sha256_of list.now octets
-        (values providers.old.items) (values providers.new.items)) }
-    ensures held { WhereMemory result (AddsOnly (IsSaidHere P.rsa_of P.ecdsa_of P.sha1_of P.sha256_of list.now
-        SaysProvidersBy octets) providers.old.items providers.new.items) }
-    ensures why { SettlesProviders P.rsa_of P.ecdsa_of P.sha1_of P.sha256_of list.now octets result }
+    ensures said { WhereMemory result (AddsProvidersHere P.Provider list.now octets (values providers.old.items)
+        (values providers.new.items)) }
+    ensures held { WhereMemory result (AddsOnly (IsSaidHere P.Provider list.now SaysProvidersBy octets)
+        providers.old.items providers.new.items) }
+    ensures why { SettlesProviders P.Provider list.now octets result }
 {
     let value = providers_in(alloc, list, octets)?;
     let period = period_of(list, value.object().cert());
@@ -106,7 +106,7 @@ fn add_below<'p, P: PreparingProvider>(
 ) -> Result<(), AllocError>
     ensures items { IfOk result (λ _. below.new.items ≡ below.old.items ++ authority.entry ∷ []) }
     // It was verified, as a look at its certificate tells.
-    ensures verified { IsVerified (verified_by P.rsa_of P.ecdsa_of P.sha1_of authority.entry) }
+    ensures verified { IsVerified (verified_by P.Provider authority.entry) }
 {
     let _cert = authority.cert();
     below.push(authority)?;
@@ -122,17 +122,17 @@ fn add_cert<'a, 'p, P: PreparingProvider>(
     below: &mut Vec<ResourceCert<'p, P>>,
     routers: &mut Vec<Payload<RouterCert>>,
 ) -> Result<(), Stop>
-    ensures routers { WhereMemory result (AddsRoutersHere P.rsa_of P.ecdsa_of P.sha1_of P.sha256_of list.now octets
-        (values routers.old.items) (values routers.new.items)) }
-    ensures held { WhereMemory result (AddsOnly (IsSaidHere P.rsa_of P.ecdsa_of P.sha1_of P.sha256_of list.now
-        SaysRouterBy octets) routers.old.items routers.new.items) }
-    ensures below { WhereMemory result (AddsAuthoritiesHere P.rsa_of P.ecdsa_of P.sha1_of P.sha256_of list.now octets
-        (holders below.old.items) (holders below.new.items)) }
+    ensures routers { WhereMemory result (AddsRoutersHere P.Provider list.now octets (values routers.old.items)
+        (values routers.new.items)) }
+    ensures held { WhereMemory result (AddsOnly (IsSaidHere P.Provider list.now SaysRouterBy octets) routers.old.items
+        routers.new.items) }
+    ensures below { WhereMemory result (AddsAuthoritiesHere P.Provider list.now octets (holders below.old.items)
+        (holders below.new.items)) }
     ensures sisters { WhereMemory result (AreSistersBelow list.now.issuer list.now.at below.old.items
         below.new.items) }
-    ensures children { WhereMemory result (AddsOnly (IsChildHere P.rsa_of P.ecdsa_of P.sha1_of P.sha256_of list.now
-        octets) below.old.items below.new.items) }
-    ensures why { SettlesCert P.rsa_of P.ecdsa_of P.sha1_of P.sha256_of list.now octets result }
+    ensures children { WhereMemory result (AddsOnly (IsChildHere P.Provider list.now octets) below.old.items
+        below.new.items) }
+    ensures why { SettlesCert P.Provider list.now octets result }
 {
     let cert = cert_in(alloc, octets)?;
     if is_authority(&cert)? {
@@ -155,15 +155,14 @@ fn add_file<'a, 'p, P: PreparingProvider>(
     below: &mut Vec<ResourceCert<'p, P>>,
     outcome: &mut Outcome,
 ) -> Result<(), Stop>
-    ensures said { WhereMemory result (AddsFile P.rsa_of P.ecdsa_of P.sha1_of P.sha256_of list.now file.now octets
-        (found below.old outcome.old) (found below.new outcome.new)) }
+    ensures said { WhereMemory result (AddsFile P.Provider list.now file.now octets (found below.old outcome.old)
+        (found below.new outcome.new)) }
     ensures sisters { WhereMemory result (AreSistersBelow list.now.issuer list.now.at below.old.items
         below.new.items) }
-    ensures children { WhereMemory result (AddsOnly (IsChildOf P.rsa_of P.ecdsa_of P.sha1_of P.sha256_of list.now
-        file.now octets) below.old.items below.new.items) }
-    ensures held { WhereMemory result (AddsHeldFile P.rsa_of P.ecdsa_of P.sha1_of P.sha256_of list.now file.now octets
-        outcome.old outcome.new) }
-    ensures why { SettlesFile P.rsa_of P.ecdsa_of P.sha1_of P.sha256_of list.now file.now octets result }
+    ensures children { WhereMemory result (AddsOnly (IsChildOf P.Provider list.now file.now octets) below.old.items
+        below.new.items) }
+    ensures held { WhereMemory result (AddsHeldFile P.Provider list.now file.now octets outcome.old outcome.new) }
+    ensures why { SettlesFile P.Provider list.now file.now octets result }
     ensures rejections { WhereMemory result (outcome.new.rejections.items ≡ outcome.old.rejections.items) }
 {
     let name = file.file();
@@ -213,16 +212,15 @@ fn add_files<'a, 'p, P: PreparingProvider>(
     below: &mut Vec<ResourceCert<'p, P>>,
     outcome: &mut Outcome,
 ) -> Result<(), AllocError>
-    ensures said { IfOk result (λ _. AddsFiles P.rsa_of P.ecdsa_of P.sha1_of P.sha256_of list.now files.now
-        octets.items (found below.old outcome.old) (found below.new outcome.new)) }
+    ensures said { IfOk result (λ _. AddsFiles P.Provider list.now files.now octets.items (found below.old outcome.old)
+        (found below.new outcome.new)) }
     ensures sisters { IfOk result (λ _. AreSistersBelow list.now.issuer list.now.at below.old.items
         below.new.items) }
-    ensures children { IfOk result (λ _. AddsChildren P.rsa_of P.ecdsa_of P.sha1_of P.sha256_of list.now files.now
-        octets.items below.old.items below.new.items) }
-    ensures held { IfOk result (λ _. AddsHeldFiles P.rsa_of P.ecdsa_of P.sha1_of P.sha256_of list.now files.now
-        octets.items outcome.old outcome.new) }
-    ensures rejected { IfOk result (λ _. RejectsAll P.rsa_of P.ecdsa_of P.sha1_of P.sha256_of list.now folder.now
-        files.now octets.items outcome.old outcome.new) }
+    ensures children { IfOk result (λ _. AddsChildren P.Provider list.now files.now octets.items below.old.items
+        below.new.items) }
+    ensures held { IfOk result (λ _. AddsHeldFiles P.Provider list.now files.now octets.items outcome.old outcome.new) }
+    ensures rejected { IfOk result (λ _. RejectsAll P.Provider list.now folder.now files.now octets.items outcome.old
+        outcome.new) }
 {
     let mut rest = files;
     'octets: for one in octets {
@@ -252,15 +250,15 @@ fn add_point<'p, S: Snapshot, P: PreparingProvider>(
     outcome: &mut Outcome,
 ) -> Result<(), Stop>
     requires { HoldsAt issuer.now.period at }
-    ensures said { AddsPoint P.rsa_of P.ecdsa_of P.sha1_of P.sha256_of (S.holds snapshot.now) issuer.now at
-        (found below.old outcome.old) (found below.new outcome.new) result }
+    ensures said { AddsPoint P.Provider (S.holds snapshot.now) issuer.now at (found below.old outcome.old)
+        (found below.new outcome.new) result }
     ensures sisters { WhereMemory result (AreSistersBelow issuer.now at below.old.items below.new.items) }
-    ensures children { WhereMemory result (AddsBelow P.rsa_of P.ecdsa_of P.sha1_of P.sha256_of (S.holds snapshot.now)
-        issuer.now at below.old.items below.new.items) }
-    ensures held { WhereMemory result (AddsHeldOf P.rsa_of P.ecdsa_of P.sha1_of P.sha256_of (S.holds snapshot.now)
-        issuer.now at outcome.old outcome.new) }
-    ensures rejected { SettlesPoint P.rsa_of P.ecdsa_of P.sha1_of P.sha256_of (S.holds snapshot.now) issuer.now at
-        outcome.old.rejections.items outcome.new.rejections.items result }
+    ensures children { WhereMemory result (AddsBelow P.Provider (S.holds snapshot.now) issuer.now at below.old.items
+        below.new.items) }
+    ensures held { WhereMemory result (AddsHeldOf P.Provider (S.holds snapshot.now) issuer.now at outcome.old
+        outcome.new) }
+    ensures rejected { SettlesPoint P.Provider (S.holds snapshot.now) issuer.now at outcome.old.rejections.items
+        outcome.new.rejections.items result }
     ensures same { IfErr result (UnlessMemory (outcome.new.rejections.items ≡ outcome.old.rejections.items)) }
 {
     let publication = Publication::of(alloc, snapshot, issuer)?;
@@ -315,21 +313,21 @@ pub(crate) fn visit<'p, S: Snapshot, P: PreparingProvider>(
     outcome: &mut Outcome,
 ) -> Result<(), AllocError>
     requires { HoldsAt issuer.now.period at }
-    ensures origins { AddsOrigins P.rsa_of P.ecdsa_of P.sha1_of P.sha256_of (S.holds snapshot.now) issuer.now at
-        outcome.old.origins.items outcome.new.origins.items result }
-    ensures providers { AddsProviders P.rsa_of P.ecdsa_of P.sha1_of P.sha256_of (S.holds snapshot.now) issuer.now at
-        outcome.old.providers.items outcome.new.providers.items result }
-    ensures routers { AddsRouters P.rsa_of P.ecdsa_of P.sha1_of P.sha256_of (S.holds snapshot.now) issuer.now at
-        outcome.old.routers.items outcome.new.routers.items result }
-    ensures below { AddsAuthorities P.rsa_of P.ecdsa_of P.sha1_of P.sha256_of (S.holds snapshot.now) issuer.now at
-        below.old.items below.new.items result }
+    ensures origins { AddsOrigins P.Provider (S.holds snapshot.now) issuer.now at outcome.old.origins.items
+        outcome.new.origins.items result }
+    ensures providers { AddsProviders P.Provider (S.holds snapshot.now) issuer.now at outcome.old.providers.items
+        outcome.new.providers.items result }
+    ensures routers { AddsRouters P.Provider (S.holds snapshot.now) issuer.now at outcome.old.routers.items
+        outcome.new.routers.items result }
+    ensures below { AddsAuthorities P.Provider (S.holds snapshot.now) issuer.now at below.old.items below.new.items
+        result }
     ensures sisters { IfOk result (λ _. AreSistersBelow issuer.now at below.old.items below.new.items) }
-    ensures children { IfOk result (λ _. AddsBelow P.rsa_of P.ecdsa_of P.sha1_of P.sha256_of (S.holds snapshot.now)
-        issuer.now at below.old.items below.new.items) }
-    ensures held { IfOk result (λ _. AddsHeldOf P.rsa_of P.ecdsa_of P.sha1_of P.sha256_of (S.holds snapshot.now)
-        issuer.now at outcome.old outcome.new) }
-    ensures rejected { IfOk result (λ _. RejectsIn P.rsa_of P.ecdsa_of P.sha1_of P.sha256_of (S.holds snapshot.now)
-        issuer.now at outcome.old outcome.new) }
+    ensures children { IfOk result (λ _. AddsBelow P.Provider (S.holds snapshot.now) issuer.now at below.old.items
+        below.new.items) }
+    ensures held { IfOk result (λ _. AddsHeldOf P.Provider (S.holds snapshot.now) issuer.now at outcome.old
+        outcome.new) }
+    ensures rejected { IfOk result (λ _. RejectsIn P.Provider (S.holds snapshot.now) issuer.now at outcome.old
+        outcome.new) }
 {
     match add_point(alloc, snapshot, issuer, at, below, outcome) {
         Ok(()) => Ok(()),

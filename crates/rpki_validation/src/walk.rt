@@ -80,8 +80,8 @@ fn look_at<'p, S: Snapshot, P: PreparingProvider>(
     outcome: &mut Outcome,
 ) -> Result<(), AllocError>
     requires { HoldsAt issuer.now.period at }
-    ensures looks { IfOk result (λ _. LooksAt P.rsa_of P.ecdsa_of P.sha1_of P.sha256_of (S.holds snapshot.now) at
-        is_named issuer.now waiting.old waiting.new outcome.old outcome.new) }
+    ensures looks { IfOk result (λ _. LooksAt P.Provider (S.holds snapshot.now) at is_named issuer.now waiting.old
+        waiting.new outcome.old outcome.new) }
     ensures waiting { IfOk result (λ _. WaitBelow issuer.now at waiting.old waiting.new) }
 {
     let mut below = Vec::new(alloc);
@@ -102,8 +102,7 @@ fn walk<'p, S: Snapshot, P: PreparingProvider>(
     requires period { HoldsAt anchor.period at }
     requires own { anchor.period ≡ anchor.cert.tbs.validity }
     requires depth { anchor.depth ≡ 0 }
-    ensures { IfOk result (TellsBelow P.rsa_of P.ecdsa_of P.sha1_of P.sha256_of (S.holds snapshot.now) at
-        anchor.entry) }
+    ensures { IfOk result (TellsBelow P.Provider (S.holds snapshot.now) at anchor.entry) }
 {
     let mut outcome = Outcome::new(alloc);
     let mut looked = Looked::new(alloc);
@@ -142,8 +141,7 @@ pub fn validate<'p, S: Snapshot, P: PreparingProvider>(
     terms: Terms<'p>,
     at: Time,
 ) -> Result<Outcome, Stop>
-    ensures { Validates P.rsa_of P.ecdsa_of P.sha1_of P.sha256_of (terms_in terms.entry) provider.entry.now at
-        (S.holds snapshot.now) uris.now result }
+    ensures { Validates P.Provider (terms_in terms.entry) provider.entry.now at (S.holds snapshot.now) uris.now result }
 {
     let anchor = anchor_of(alloc, snapshot, provider, uris, terms, at)?;
     let outcome = walk(alloc, snapshot, anchor, at)?;

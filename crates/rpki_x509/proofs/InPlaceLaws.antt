@@ -1,5 +1,5 @@
 -- Readers in place: of a part, of what is in it, and of parts in sequence.
-use Rattle.std.proofs.Common.{◌≡◌, ℕ, true, false, List, Option, None, Some, subst}
+use Rattle.std.proofs.Common.{ℕ, true, false, List, subst}
 use Rattle.rpki_der.specs.declared.error.DecodeError.{DecodeError}
 use Rattle.rpki_der.specs.declared.error.DecodeError.TheVariants.{OutOfMemory}
 use Rattle.rpki_der.specs.TagName.{TagName}
@@ -9,7 +9,6 @@ use Rattle.rpki_der.specs.Parts.{Then}
 use Rattle.rpki_der.proofs.InsideLaws.{unless-memory}
 use Rattle.rpki_der.proofs.LeavesLaws.{contents-no-memory}
 use Rattle.rpki_der.proofs.ComposedLaws.{nothing-whole}
-use Rattle.rpki_x509.specs.InPlace.{IsWholeOf}
 
 -- an error of a reader that takes no memory
 pub refused : {V : Type 0} (G : V → List ℕ → Type 0) (K : List ℕ → DecodeError → Type 0) (s r : List ℕ)
@@ -42,19 +41,6 @@ module _ {V : Type 0} (t : TagName) (C : V → List ℕ → Type 0) where
       → Refuses (SpellsLeaf t true C) s
   not-inside s c r a none v q h =
       let e = a.only h.spelled.contents q (value-of s v q h) in none v (subst (C v) e.0 h.spelled.spelled)
-
-  -- all of s
-  pub whole-outside : (s : List ℕ) → SpellsNothing (SpellsContents t true) s → SpellsNothing (SpellsLeaf t true C) s
-  whole-outside s none v h = none h.contents h.value
-
-  pub whole-inside : {X : Type 0} (view : X → V) (s c : List ℕ) → SpellsContents t true c s
-      → ((d : List ℕ) → SpellsContents t true d s → d ≡ c) → (o : Option X) → IsWholeOf view C c o
-      → IsWholeOf view (SpellsLeaf t true C) s o
-  whole-inside view s c value one (Some x) h = (
-    record { contents = c; value = value; spelled = h.0 },
-    λ w k. h.1 w (subst (C w) (one k.contents k.value) k.spelled),
-  )
-  whole-inside view s c value one None h = λ v k. h v (subst (C v) (one k.contents k.value) k.spelled)
 
 -- ---- a part in front of others
 

@@ -299,9 +299,6 @@ and-true true = refl
 and-true false = refl
 
 module _ (R : NamedParts → PayloadParts → Bool → Type 0) (locators : List NamedParts) where
-  pub found-start : IsUpTo R locators locators [] true
-  found-start = λ more others h. h
-
   pub found-step : (rest : List NamedParts) (l : NamedParts) (found : List PayloadParts) (all : Bool)
       (p : PayloadParts) (one : Bool) → IsUpTo R locators (l ∷ rest) found all → R l p one
       → IsUpTo R locators rest (found ++ p ∷ []) (all && one)

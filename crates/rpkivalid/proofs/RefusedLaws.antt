@@ -17,12 +17,6 @@ IsRefusedUpTo files folder strictness question name all rest text =
     → AreRefused files folder strictness question name all (text ++ more)
 
 module _ (folder : List ℕ) (strictness : Strictness) (question : Question) (name : List ℕ) (all : List Rejection) where
-  pub refused-start : (holds : Holds) (text : List ℕ) → text ≡ []
-      → IfSome holds (λ files. IsRefusedUpTo files folder strictness question name all all text)
-  refused-start None text none = tt
-  refused-start (Some files) text none = λ more h.
-      subst (λ (t : List ℕ). AreRefused files folder strictness question name all (t ++ more)) (sym none) h
-
   pub refused-step : (holds : Holds) (rest : List Rejection) (r : Rejection) (text : List ℕ) (said : List RouteOrigin)
       → IfSome holds (λ files. IsRefusedUpTo files folder strictness question name all (r ∷ rest) text)
       → IfSome holds (λ files. SaysAt files folder strictness r.uri said)

@@ -4,7 +4,7 @@ use Rattle.std.specs.List.{Contains, flat_map}
 use Rattle.std.specs.List.Sorted.{IsStrictlySortedBy}
 use Rattle.std.specs.declared.cmp.Ordering.{Ordering}
 use Rattle.jiff.specs.Types.{DateTime}
-use Rattle.rpki.specs.Provider.{Check}
+use Rattle.rpki.specs.Checkers.{Models}
 use Rattle.rpki.specs.PublicKey.{KeyParts, key_octets}
 use Rattle.rpki_contents.specs.Aspa.{AspaParts}
 use Rattle.rpki_locator.specs.declared.anchor_uri.AnchorUri.{AnchorUri}
@@ -28,10 +28,8 @@ use Rattle.rpkivalid.specs.Paths.{copy_in}
 
 -- what paths are checked against under a locator with this key: the provider's signatures and digests, the rules that
 -- are asked strictly, so many authorities below the trust anchor, and the moment
-abbrev pub basis_with : {X : Type 0} → (X → Check) → (X → Check) → (X → List ℕ → List ℕ) → (X → List ℕ → List ℕ) → X
-    → (strictness : Strictness) → DateTime → ℕ → KeyParts → Basis
-basis_with rsa ecdsa sha1 sha256 provider strictness at depth key =
-    basis_by rsa ecdsa sha1 sha256 (terms_of key strictness depth) provider at
+abbrev pub basis_with : {X : Type 0} → Models X → X → (strictness : Strictness) → DateTime → ℕ → KeyParts → Basis
+basis_with models provider strictness at depth key = basis_by models (terms_of key strictness depth) provider at
 
 -- ---- payloads as routers are given them
 

@@ -20,9 +20,12 @@ use Rattle.rpkivalid.specs.Words.{memory_text}
 
 -- signatures are RSA's (RFC 8017 8.2.2), over SHA-256, and none is ECDSA's; digests are SHA-1 and SHA-256
 abbrev pub rpki_basis : Strictness → DateTime → ℕ → KeyParts → Basis
-rpki_basis =
-    basis_with {X = Unit {0}} (λ _ bits message signature. IsSignatureBy bits (sha256 message) signature) (λ _ _ _ _. ⊥)
-    (λ _ octets. sha1 octets) (λ _ octets. sha256 octets) tt
+rpki_basis = basis_with {X = Unit {0}} (record {
+  rsa_of = λ _ bits message signature. IsSignatureBy bits (sha256 message) signature;
+  ecdsa_of = λ _ _ _ _. ⊥;
+  sha1_of = λ _ octets. sha1 octets;
+  sha256_of = λ _ octets. sha256 octets;
+}) tt
 
 -- what is made in memory of what the words ask for: the help, the version, a run; or what is wrong with the words,
 -- which is told

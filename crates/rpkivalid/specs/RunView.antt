@@ -1,7 +1,7 @@
 -- What clauses see of a run.
+use Rattle.rpki.specs.Checkers.{Models}
 use Rattle.std.specs.Prelude.{ℕ, List, Option}
 use Rattle.jiff.specs.Types.{DateTime}
-use Rattle.rpki.specs.Provider.{Check}
 use Rattle.rpki_payloads.specs.Payloads.{PayloadParts}
 use Rattle.rpkivalid.specs.declared.denial.Denial.{Denial}
 use Rattle.rpkivalid.specs.declared.request.Request.{Request}
@@ -58,20 +58,20 @@ pub record IsWrittenBy (clock : Option (Option DateTime)) (request : Request) (s
   pub text : IsWritten clock (asked_of request) shown written.text.items
   pub metrics : AreMetrics clock (asked_of request).metrics shown written.metrics.items
 
-module _ {X : Type 0} (rsa ecdsa : X → Check) (sha1 sha256 : X → List ℕ → List ℕ) (provider : X) (holds : Holds)
+module _ {X : Type 0} (models : Models X) (provider : X) (holds : Holds)
   where
     -- what is found under the locators that are asked for
     abbrev pub ShowsBy : DateTime → ℕ → Request → Shown → Type 0
     ShowsBy at depth request s =
-        IsShown (basis_with rsa ecdsa sha1 sha256 provider request.strictness at depth) holds (asked_of request)
+        IsShown (basis_with models provider request.strictness at depth) holds (asked_of request)
         (shown_by s)
 
     -- the run of a request, by a provider's signatures and digests
     abbrev pub RunsOf : Option (Option DateTime) → Request → Ran → Type 0
     RunsOf clock request ran =
-        IsRunOf (basis_with rsa ecdsa sha1 sha256 provider request.strictness) holds clock (asked_of request)
+        IsRunOf (basis_with models provider request.strictness) holds clock (asked_of request)
         (ran_by ran)
 
     -- that of what is asked
     abbrev pub RunsAs : Option (Option DateTime) → Asked → Ran → Type 0
-    RunsAs clock a ran = IsRunOf (basis_with rsa ecdsa sha1 sha256 provider a.strictness) holds clock a (ran_by ran)
+    RunsAs clock a ran = IsRunOf (basis_with models provider a.strictness) holds clock a (ran_by ran)

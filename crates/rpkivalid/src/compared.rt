@@ -55,8 +55,7 @@ fn ours_of<S: Sources, P: PreparingProvider>(
     depth: u32,
 ) -> Result<Ours, Denial>
     ensures order { IfOk result (λ ours. AreInOrder ours.vrps.items) }
-    ensures found { IfOk result (AreOursBy P.rsa_of P.ecdsa_of P.sha1_of P.sha256_of crypto.now (S.holds host.now) at
-        depth request.now) }
+    ensures found { IfOk result (AreOursBy P.Provider crypto.now (S.holds host.now) at depth request.now) }
     ensures denied { IfErr result (IsUnfoundBy (S.holds host.now) request.now) }
 {
     let shown = shown_under(alloc, request, host, crypto, at, depth)?;
@@ -78,8 +77,8 @@ fn why<S: Sources, P: PreparingProvider>(
     at: Time,
     depth: u32,
 ) -> Result<Vec<u8>, Denial>
-    ensures told { IfOk result (λ text. IsWhyBy P.rsa_of P.ecdsa_of P.sha1_of P.sha256_of crypto.now
-        (S.holds host.now) at depth request.now alone text.items) }
+    ensures told { IfOk result (λ text. IsWhyBy P.Provider crypto.now (S.holds host.now) at depth request.now alone
+        text.items) }
     ensures denied { IfErr result (IsUnfoundBy (S.holds host.now) request.now) }
 {
     if alone.as_slice().is_empty() {
@@ -124,8 +123,7 @@ pub fn compare<S: Sources, P: PreparingProvider>(
     at: Time,
     depth: u32,
 ) -> Result<Compared, Denial>
-    ensures compared { IfOk result (Compares P.rsa_of P.ecdsa_of P.sha1_of P.sha256_of crypto.now (S.holds host.now)
-        at depth request.now file.now) }
+    ensures compared { IfOk result (Compares P.Provider crypto.now (S.holds host.now) at depth request.now file.now) }
     ensures denied { IfErr result (IsUncomparedBy (S.holds host.now) request.now file.now) }
 {
     let theirs = listed_in(alloc, host, file)?;

@@ -48,8 +48,8 @@ fn object_under<S: Sources, P: PreparingProvider>(
     uri: &Rsync,
     named: &Named,
 ) -> Result<(Vec<u8>, bool), AllocError>
-    ensures { IfOk result (IsObjectToldBy P.rsa_of P.ecdsa_of P.sha1_of P.sha256_of provider.now
-        (S.holds sources.now) folder.now strictness at depth uri.now named.now) }
+    ensures { IfOk result (IsObjectToldBy P.Provider provider.now (S.holds sources.now) folder.now strictness at depth
+        uri.now named.now) }
 {
     let path = object_path(alloc, folder, &uri.view())?;
     let others = Without {
@@ -102,8 +102,8 @@ fn refused_under<S: Sources, P: PreparingProvider>(
     question: &Question,
     named: &Named,
 ) -> Result<(Vec<u8>, bool), AllocError>
-    ensures { IfOk result (IsRefusedBy P.rsa_of P.ecdsa_of P.sha1_of P.sha256_of provider.now (S.holds sources.now)
-        folder.now strictness at depth question.now named.now) }
+    ensures { IfOk result (IsRefusedBy P.Provider provider.now (S.holds sources.now) folder.now strictness at depth
+        question.now named.now) }
 {
     let found = walk_of(
         alloc, sources, folder, provider, strictness, depth, at, named,
@@ -125,8 +125,8 @@ fn told_under<S: Sources, P: PreparingProvider>(
     question: &Question,
     named: &Named,
 ) -> Result<(Vec<u8>, bool), AllocError>
-    ensures { IfOk result (IsToldBy P.rsa_of P.ecdsa_of P.sha1_of P.sha256_of provider.now (S.holds sources.now)
-        folder.now strictness at depth question.now named.now) }
+    ensures { IfOk result (IsToldBy P.Provider provider.now (S.holds sources.now) folder.now strictness at depth
+        question.now named.now) }
 {
     match question {
         Question::Object(uri) => object_under(
@@ -164,8 +164,8 @@ fn told_under_all<S: Sources, P: PreparingProvider>(
     question: &Question,
     locators: &[Named],
 ) -> Result<Explained, AllocError>
-    ensures told { IfOk result (AreToldBy P.rsa_of P.ecdsa_of P.sha1_of P.sha256_of provider.now (S.holds sources.now)
-        folder.now strictness at depth question.now locators.now) }
+    ensures told { IfOk result (AreToldBy P.Provider provider.now (S.holds sources.now) folder.now strictness at depth
+        question.now locators.now) }
     ensures report { IfOk result (λ e. e.report.items ≡ []) }
 {
     let mut text = Vec::new(alloc);
@@ -199,8 +199,7 @@ pub fn tell<S: Sources, P: PreparingProvider>(
     at: Time,
     depth: u32,
 ) -> Result<Explained, Denial>
-    ensures told { IfOk result (Tells P.rsa_of P.ecdsa_of P.sha1_of P.sha256_of crypto.now (S.holds host.now)
-        at depth request.now question.now) }
+    ensures told { IfOk result (Tells P.Provider crypto.now (S.holds host.now) at depth request.now question.now) }
     ensures report { IfOk result (λ e. e.report.items ≡ []) }
     ensures denied { IfErr result (IsUnfoundBy (S.holds host.now) request.now) }
 {
@@ -230,8 +229,7 @@ fn route_text<S: Sources, P: PreparingProvider>(
     at: Time,
     depth: u32,
 ) -> Result<Explained, Denial>
-    ensures told { IfOk result (TellsRoute P.rsa_of P.ecdsa_of P.sha1_of P.sha256_of crypto.now (S.holds host.now)
-        at depth request.now route) }
+    ensures told { IfOk result (TellsRoute P.Provider crypto.now (S.holds host.now) at depth request.now route) }
     ensures denied { IfErr result (IsUnfoundBy (S.holds host.now) request.now) }
 {
     let shown = shown_under(alloc, request, host, crypto, at, depth)?;
@@ -255,8 +253,7 @@ pub fn explain<S: Sources, P: PreparingProvider>(
     at: Time,
     depth: u32,
 ) -> Result<Explained, Denial>
-    ensures told { IfOk result (Explains P.rsa_of P.ecdsa_of P.sha1_of P.sha256_of crypto.now (S.holds host.now) at
-        depth request.now question.now) }
+    ensures told { IfOk result (Explains P.Provider crypto.now (S.holds host.now) at depth request.now question.now) }
     ensures denied { IfErr result (IsUnfoundBy (S.holds host.now) request.now) }
 {
     let told = tell(alloc, question, request, host, crypto, at, depth)?;

@@ -39,10 +39,10 @@ fn found_under<S: Sources, P: PreparingProvider>(
     at: Time,
     named: &Named,
 ) -> Result<Under, AllocError>
-    ensures found { IfOk result (IsFoundBy P.rsa_of P.ecdsa_of P.sha1_of P.sha256_of provider.now (S.holds sources.now)
-        folder.now strictness at depth named.now) }
-    ensures told { IfOk result (IsReportedBy P.rsa_of P.ecdsa_of P.sha1_of P.sha256_of provider.now
-        (S.holds sources.now) folder.now strictness at depth named.now) }
+    ensures found { IfOk result (IsFoundBy P.Provider provider.now (S.holds sources.now) folder.now strictness at depth
+        named.now) }
+    ensures told { IfOk result (IsReportedBy P.Provider provider.now (S.holds sources.now) folder.now strictness at
+        depth named.now) }
 {
     let cache = Cache {
         sources,
@@ -126,10 +126,10 @@ pub fn found_under_all<S: Sources, P: PreparingProvider>(
     at: Time,
     locators: &[Named],
 ) -> Result<Found, AllocError>
-    ensures found { IfOk result (AreFoundBy P.rsa_of P.ecdsa_of P.sha1_of P.sha256_of provider.now
-        (S.holds sources.now) folder.now strictness at depth locators.now) }
-    ensures told { IfOk result (AreReportedBy P.rsa_of P.ecdsa_of P.sha1_of P.sha256_of provider.now
-        (S.holds sources.now) folder.now strictness at depth locators.now) }
+    ensures found { IfOk result (AreFoundBy P.Provider provider.now (S.holds sources.now) folder.now strictness at depth
+        locators.now) }
+    ensures told { IfOk result (AreReportedBy P.Provider provider.now (S.holds sources.now) folder.now strictness at
+        depth locators.now) }
 {
     let mut payloads = Vec::new(alloc);
     let mut report = Vec::new(alloc);

@@ -212,8 +212,7 @@ fn answer_at<S: Sources, P: PreparingProvider>(
     requires depth { IsDepth (asked_of request.now).depth depth }
     requires compare { (asked_of request.now).compare ≡ None }
     requires question { IsQuestion (asked_of request.now).explain (asked_of request.now).number None }
-    ensures ran { IfOk result (RunsOf P.rsa_of P.ecdsa_of P.sha1_of P.sha256_of crypto.now (S.holds host.now)
-        (S.clock host.now) request.now) }
+    ensures ran { IfOk result (RunsOf P.Provider crypto.now (S.holds host.now) (S.clock host.now) request.now) }
     ensures denied { IfErr result (Denies (S.holds host.now) (S.clock host.now) request.now) }
 {
     let shown = shown_under(alloc, request, host, crypto, at, depth)?;
@@ -249,8 +248,7 @@ fn explained_at<S: Sources, P: PreparingProvider>(
     requires depth { IsDepth (asked_of request.now).depth depth }
     requires compare { (asked_of request.now).compare ≡ None }
     requires question { IsQuestion (asked_of request.now).explain (asked_of request.now).number (Some question.now) }
-    ensures ran { IfOk result (RunsOf P.rsa_of P.ecdsa_of P.sha1_of P.sha256_of crypto.now (S.holds host.now)
-        (S.clock host.now) request.now) }
+    ensures ran { IfOk result (RunsOf P.Provider crypto.now (S.holds host.now) (S.clock host.now) request.now) }
     ensures denied { IfErr result (Denies (S.holds host.now) (S.clock host.now) request.now) }
 {
     let explained = explain(alloc, question, request, host, crypto, at, depth)?;
@@ -275,8 +273,7 @@ fn reply_at<S: Sources, P: PreparingProvider>(
     requires moment { IsMomentOf (S.clock host.now) (asked_of request.now).moment at }
     requires depth { IsDepth (asked_of request.now).depth depth }
     requires compare { (asked_of request.now).compare ≡ None }
-    ensures ran { IfOk result (RunsOf P.rsa_of P.ecdsa_of P.sha1_of P.sha256_of crypto.now (S.holds host.now)
-        (S.clock host.now) request.now) }
+    ensures ran { IfOk result (RunsOf P.Provider crypto.now (S.holds host.now) (S.clock host.now) request.now) }
     ensures denied { IfErr result (Denies (S.holds host.now) (S.clock host.now) request.now) }
 {
     let asked = question_of(alloc, request.explain, request.number)?;
@@ -299,8 +296,7 @@ fn comparison_at<S: Sources, P: PreparingProvider>(
     requires moment { IsMomentOf (S.clock host.now) (asked_of request.now).moment at }
     requires depth { IsDepth (asked_of request.now).depth depth }
     requires compare { (asked_of request.now).compare ≡ Some file.now }
-    ensures ran { IfOk result (RunsOf P.rsa_of P.ecdsa_of P.sha1_of P.sha256_of crypto.now (S.holds host.now)
-        (S.clock host.now) request.now) }
+    ensures ran { IfOk result (RunsOf P.Provider crypto.now (S.holds host.now) (S.clock host.now) request.now) }
     ensures denied { IfErr result (Denies (S.holds host.now) (S.clock host.now) request.now) }
 {
     let compared = compare(alloc, file, request, host, crypto, at, depth)?;
@@ -325,8 +321,7 @@ fn response_at<S: Sources, P: PreparingProvider>(
 ) -> Result<Ran, Denial>
     requires moment { IsMomentOf (S.clock host.now) (asked_of request.now).moment at }
     requires depth { IsDepth (asked_of request.now).depth depth }
-    ensures ran { IfOk result (RunsOf P.rsa_of P.ecdsa_of P.sha1_of P.sha256_of crypto.now (S.holds host.now)
-        (S.clock host.now) request.now) }
+    ensures ran { IfOk result (RunsOf P.Provider crypto.now (S.holds host.now) (S.clock host.now) request.now) }
     ensures denied { IfErr result (Denies (S.holds host.now) (S.clock host.now) request.now) }
 {
     match request.compare {
@@ -342,8 +337,7 @@ fn answer_of<S: Sources, P: PreparingProvider>(
     host: &S,
     crypto: &P,
 ) -> Result<Ran, Denial>
-    ensures ran { IfOk result (RunsOf P.rsa_of P.ecdsa_of P.sha1_of P.sha256_of crypto.now (S.holds host.now)
-        (S.clock host.now) request.now) }
+    ensures ran { IfOk result (RunsOf P.Provider crypto.now (S.holds host.now) (S.clock host.now) request.now) }
     ensures denied { IfErr result (Denies (S.holds host.now) (S.clock host.now) request.now) }
 {
     match moment_at(host, request.moment) {
@@ -362,8 +356,7 @@ fn answered<S: Sources, P: PreparingProvider>(
     host: &S,
     crypto: &P,
 ) -> Result<Ran, AllocError>
-    ensures { IfOk result (RunsOf P.rsa_of P.ecdsa_of P.sha1_of P.sha256_of crypto.now (S.holds host.now)
-        (S.clock host.now) request.now) }
+    ensures { IfOk result (RunsOf P.Provider crypto.now (S.holds host.now) (S.clock host.now) request.now) }
 {
     match answer_of(alloc, request, host, crypto) {
         Ok(ran) => Ok(ran),
@@ -381,8 +374,7 @@ fn respond<S: Sources, P: PreparingProvider>(
 ) -> Result<Ran, AllocError>
     ensures help { WantsHelp matches.now → IfOk result (GivesBy HELP.now) }
     ensures version { WantsVersion matches.now → IfOk result (GivesBy VERSION.now) }
-    ensures run { Asks matches.now result (RunsAs P.rsa_of P.ecdsa_of P.sha1_of P.sha256_of crypto.now
-        (S.holds host.now) (S.clock host.now)) }
+    ensures run { Asks matches.now result (RunsAs P.Provider crypto.now (S.holds host.now) (S.clock host.now)) }
     ensures usage { WantsNothing matches.now → IfOk result (ComplainsBy (complaint_of words.now)) }
 {
     if is_given(matches, "help") {
@@ -420,8 +412,7 @@ pub fn run<S: Sources, P: PreparingProvider>(
 ) -> Result<Ran, AllocError>
     ensures help { AskHelp words.now → IfOk result (GivesBy HELP.now) }
     ensures version { AskVersion words.now → IfOk result (GivesBy VERSION.now) }
-    ensures run { AskRun words.now result (RunsAs P.rsa_of P.ecdsa_of P.sha1_of P.sha256_of crypto.now
-        (S.holds host.now) (S.clock host.now)) }
+    ensures run { AskRun words.now result (RunsAs P.Provider crypto.now (S.holds host.now) (S.clock host.now)) }
     ensures usage { AskNothing words.now → IfOk result (ComplainsBy (complaint_of words.now)) }
 {
     match matched(alloc, words) {

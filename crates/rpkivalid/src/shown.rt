@@ -40,8 +40,7 @@ pub fn shown_under<S: Sources, P: PreparingProvider>(
     at: Time,
     depth: u32,
 ) -> Result<Shown, Denial>
-    ensures shown { IfOk result (ShowsBy P.rsa_of P.ecdsa_of P.sha1_of P.sha256_of crypto.now (S.holds host.now) at
-        depth request.now) }
+    ensures shown { IfOk result (ShowsBy P.Provider crypto.now (S.holds host.now) at depth request.now) }
     ensures denied { IfErr result (IsUnfoundBy (S.holds host.now) request.now) }
 {
     let locators = locators_in(alloc, host, request.locators)?;

@@ -35,8 +35,8 @@ pub fn walk_of<S: Sources, P: PreparingProvider>(
     at: Time,
     named: &Named,
 ) -> Result<Walk, AllocError>
-    ensures { IfOk result (IsWalkBy P.rsa_of P.ecdsa_of P.sha1_of P.sha256_of provider.now (S.holds sources.now)
-        folder.now strictness at depth named.now) }
+    ensures { IfOk result (IsWalkBy P.Provider provider.now (S.holds sources.now) folder.now strictness at depth
+        named.now) }
 {
     let cache = Cache {
         sources,

@@ -12,7 +12,7 @@ mod view;
 pub use common_name::PublicKeyCn;
 pub use format::PublicKeyFormatEncoder;
 pub use key_identifier::{KeyIdentifier, KeyIdentifierSliceError, ParseKeyIdentifierError};
-pub use public_key::PublicKey;
+pub use public_key::{PublicKey, PublicKeyEncoder};
 pub use rsa_public_key::RsaPublicKey;
 pub use verification::SignatureVerificationError;
 pub use view::PublicKeyView;

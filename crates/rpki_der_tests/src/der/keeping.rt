@@ -156,3 +156,45 @@ fn keepers_tell_what_they_can_keep(rt: HostRuntime) -> Result<(), AllocError> {
     }
     Ok(())
 }
+
+/// Octets, a part of them and a rest; whether the rest are the last of the octets, whether the part is right before as
+/// many octets as the rest has, and whether it is right before the rest.
+const PLACES: &[(&[u8], &[u8], &[u8], bool, bool, bool)] = &[
+    (&[1, 2, 3], &[2], &[3], true, true, true),
+    (&[1, 2, 3], &[1, 2], &[3], true, true, true),
+    (&[1, 2, 3], &[1, 2, 3], &[], true, true, true),
+    (&[1, 2, 3], &[], &[3], true, true, true),
+    (&[], &[], &[], true, true, true),
+    (&[1, 2, 3], &[1], &[3], true, false, false),
+    (&[1, 2, 3], &[2], &[2, 3], true, false, false),
+    (&[1, 2, 3], &[0, 1, 2, 3], &[], true, false, false),
+    (&[1, 2, 3], &[2], &[4], false, true, false),
+    (&[1, 2, 3], &[1], &[1, 2], false, true, false),
+    (&[3], &[], &[2, 3], false, false, false),
+    (&[], &[1], &[], true, false, false),
+];
+
+#[test]
+fn places_of_parts_are_told(rt: HostRuntime) -> Result<(), AllocError> {
+    for (octets, part, rest, is_end, is_there, stands) in PLACES {
+        let section = Section {
+            octets: part,
+            following: rest.len(),
+        };
+        let all = Constructed::from_slice(octets);
+        let after = Constructed::from_slice(rest);
+        assert!(rt;
+            Section::is_end(octets, rest) == *is_end,
+            "{octets:?} end with {rest:?}"
+        );
+        assert!(rt;
+            section.is_of(octets) == *is_there,
+            "{part:?} is in {octets:?}"
+        );
+        assert!(rt;
+            all.stands_before(part, &after) == *stands,
+            "{part:?} is before {rest:?} in {octets:?}"
+        );
+    }
+    Ok(())
+}

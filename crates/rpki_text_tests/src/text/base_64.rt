@@ -1,7 +1,7 @@
 //! Base 64.
 
 use super::shown;
-use rpki_text::util::base_64::{
+use rpki_text::util::base64::{
     Base64Error, DecodeError, DecodeSliceError, Serde, Slurm, Xml, XmlDecodeError,
 };
 use std::alloc::Global;

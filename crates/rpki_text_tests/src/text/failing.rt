@@ -2,7 +2,7 @@
 
 use rpki_der::{PrimitiveContent, Values};
 use rpki_text::uri::{Https, Rsync};
-use rpki_text::util::base_64::Slurm;
+use rpki_text::util::base64::Slurm;
 use std::alloc::Global;
 use std::io;
 use std::io::{ErrorKind, Write};

@@ -2,6 +2,7 @@
 
 ghost use Rattle.std.specs.Prelude.{◌↔◌, IsOk};
 ghost use Rattle.rpki.specs.Provider.{VerifiesBy};
+ghost use Rattle.rpki.specs.Checkers.{checkers_of};
 
 use super::{PublicKey, PublicKeyFormat};
 use crate::crypto::{Provider, Signature, SignatureAlgorithm};
@@ -19,8 +20,8 @@ impl PublicKey {
         message: &[u8],
         signature: &Signature<Alg>,
     ) -> Result<(), SignatureVerificationError>
-        ensures { IsOk result ↔ VerifiesBy (P.rsa_of provider.now) (P.ecdsa_of provider.now) Alg.format self.now
-            message.now signature.now }
+        ensures { IsOk result ↔ VerifiesBy (checkers_of P.Provider provider.now) Alg.format self.now message.now
+            signature.now }
     {
         let format = self.algorithm();
         if signature.algorithm().public_key_format() != format {

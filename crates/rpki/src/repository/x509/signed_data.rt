@@ -3,6 +3,7 @@
 ghost use Rattle.std.specs.Prelude.{◌≡◌, ◌<◌, ◌^◌, ◌↔◌, IfOk, IsOk};
 ghost use Rattle.rpki_der.specs.Prelude.{left, Takes, TakesWhole, AreValues, IsValue, bits_contents, bits_of};
 ghost use Rattle.rpki.specs.Provider.{VerifiesBy};
+ghost use Rattle.rpki.specs.Checkers.{checkers_of};
 ghost use Rattle.rpki.specs.Signature.{signature_of};
 ghost use Rattle.rpki.specs.SignedData.{SignedParts, parts_of, IsSignedContents, SpellsSigned, written_signed};
 ghost use Rattle.rpki.specs.SignedData.{normal_parts, IsWrittenAgain, DiffersInCountAlone, IsShortSigned};
@@ -166,8 +167,8 @@ impl<Alg: SignatureAlgorithm> SignedData<Alg> {
         provider: &P,
         key: &PublicKey,
     ) -> Result<(), SignatureVerificationError>
-        ensures { IsOk result ↔ VerifiesBy (P.rsa_of provider.now) (P.ecdsa_of provider.now) Alg.format key.now
-            self.now.signed (signature_in self.now) }
+        ensures { IsOk result ↔ VerifiesBy (checkers_of P.Provider provider.now) Alg.format key.now self.now.signed
+            (signature_in self.now) }
     {
         key.verify(provider, self.signed.as_slice(), &self.signature)
     }

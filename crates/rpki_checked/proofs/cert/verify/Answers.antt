@@ -13,7 +13,7 @@ pub returns-in-Ok-verify_ca-clause-valid : goal.returns-in-Ok-verify_ca-clause-v
 returns-in-Ok-verify_ca-clause-valid g c =
     let p = g.P.Provider in
     let h = c.in-Ok-verify_ca.ensures in
-    below p.rsa_of p.ecdsa_of p.sha1_of c.args.issuer.now c.in-Ok.cert _ h.cert h.ok h.path h.within h.period h.terms
+    below p c.args.issuer.now c.in-Ok.cert _ h.cert h.ok h.path h.within h.period h.terms
     h.depth h.asked h.provider
 
 pub returns-in-Err-verify_ca-clause-err : goal.returns-in-Err-verify_ca-clause-err

@@ -1,4 +1,5 @@
-use Rattle.rpki_valid.specs.Verified.{checkers_by, terms_in}
+use Rattle.rpki.specs.Checkers.{checkers_of}
+use Rattle.rpki_valid.specs.Verified.{terms_in}
 use Rattle.rpki_checked.specs.Checked.{IsUnfound}
 use Rattle.rpki_checked.proofs.AuthorityLaws.{one-cert, top}
 use Rattle.rpki_checked.proofs.cert.verify_top.Goals as goal
@@ -13,7 +14,7 @@ returns-in-Ok-verify_ta-clause-one g c =
 pub returns-in-Ok-verify_ta-clause-valid : goal.returns-in-Ok-verify_ta-clause-valid
 returns-in-Ok-verify_ta-clause-valid g c =
     let p = g.P.Provider in
-    let by = checkers_by p.rsa_of p.ecdsa_of p.sha1_of c.args.provider.now in
+    let by = checkers_of p c.args.provider.now in
     let h = c.in-Ok-verify_ta.ensures in
     top (terms_in c.args.terms) by c.args.at c.in-Ok.cert _ h.cert h.ok h.period h.terms h.depth h.asked
 

@@ -1,7 +1,8 @@
 use Rattle.std.proofs.Common.{◌≡◌, ◌≢◌, ◌∷◌, ◌++◌, [], refl, arith, length-append}
 use Rattle.rpki_contents.proofs.InPlaceLaws.{left-some, left-none}
 use Rattle.rpki_der.specs.Prelude.{AtMember}
-use Rattle.rpki_contents.proofs.FilesLaws.{at-start, one-more, all-behind, nothing-here, shorter, unless}
+use Rattle.rpki_der.proofs.ReadingLaws.{UnlessMemory-from}
+use Rattle.rpki_contents.proofs.FilesLaws.{at-start, one-more, all-behind, nothing-here, shorter}
 use Rattle.rpki_contents.proofs.files.count_files.Goals as goal
 
 pub files-init : goal.files-init
@@ -34,7 +35,7 @@ returns-in-Err c =
     let some : c.files.rest.now ≢ [] = left-some c.files.rest.now _ c.is_empty.ensures c.files-test.true in
     let none = c.in-Err.ensures.err in (
       so.1.nothing (nothing-here c.files.rest.now some none.0),
-      so.1.error c.in-Err.e (AtMember some (unless c.in-Err.e none.0) none.1),
+      so.1.error c.in-Err.e (AtMember some (UnlessMemory-from c.in-Err.e none.0) none.1),
     )
 
 pub returns : goal.returns

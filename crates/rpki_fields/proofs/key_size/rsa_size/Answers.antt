@@ -2,7 +2,7 @@ use Rattle.std.proofs.Common.{inl, inr}
 use Rattle.std.proofs.lemmas.Result.{IfOk-weaker}
 use Rattle.rpki_der.specs.Reading.{SpellsNothing}
 use Rattle.rpki.specs.RsaPublicKey.{SpellsRsaNumbers}
-use Rattle.rpki_fields.proofs.MemoryLaws.{unless-taken}
+use Rattle.rpki_der.proofs.ReadingLaws.{unless-memory}
 use Rattle.rpki_fields.proofs.key_size.rsa_size.Goals as goal
 
 pub returns-in-Ok : goal.returns-in-Ok
@@ -19,5 +19,5 @@ returns-in-Ok c =
 pub returns-in-Err : goal.returns-in-Err
 returns-in-Err c =
     let h = c.in-Err.ensures in
-    let none : SpellsNothing SpellsRsaNumbers c.args.bits.now = unless-taken c.in-Err.field-0 _ h.1.other h.0 in
+    let none : SpellsNothing SpellsRsaNumbers c.args.bits.now = unless-memory c.in-Err.field-0 h.1.other h.0 in
     IfOk-weaker c.from_slice.result _ _ (λ text e. inr (none, e)) c.from_slice.ensures.items

@@ -1,5 +1,5 @@
 use Rattle.std.proofs.Common.{◌≡◌, true, false}
-use Rattle.rpki_payloads.proofs.MemberLaws.{unless-memory}
+use Rattle.rpki_der.proofs.ReadingLaws.{unless-memory}
 use Rattle.rpki_payloads.proofs.members.is_key.Goals.{in-Ok, in-Err+in-OutOfMemory, in-Err+in_default}
 use Rattle.rpki_payloads.proofs.members.is_key.Goals as goal
 

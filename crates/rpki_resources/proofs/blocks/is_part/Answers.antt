@@ -1,6 +1,6 @@
 use Rattle.std.proofs.Common.{refl}
-use Rattle.rpki_resources.proofs.BlocksLaws.{outer-passed, inner-passed, found-before, found-behind, found-none}
-use Rattle.rpki_resources.proofs.BlocksLaws.{all-found, empty}
+use Rattle.rpki_resources.proofs.BlocksLaws.{outer-passed, outers-passed, inner-passed, found-before, found-behind}
+use Rattle.rpki_resources.proofs.BlocksLaws.{found-none, all-found, empty}
 use Rattle.rpki_resources.proofs.blocks.is_part.Goals as goal
 
 pub pairs-preserved-then-outer-inner : goal.pairs-preserved-then-outer-inner
@@ -9,7 +9,13 @@ pairs-preserved-then-outer-inner c =
     c.in-Some-split_first.others.now c.in-Some.later.now c.in-Some-split_first.outer.now c.in-Some.inner.now
     c.in-Some.ensures.cases.0 c.in-Some-split_first.ensures.cases.0 c.pairs.invariant.same c.pairs.invariant.inners
     c.pairs.invariant.outers c.if-outer-inner.true in
-    record { inners = c.pairs.invariant.inners; outers = is.0; same = is.1 }
+    record {
+      inners = c.pairs.invariant.inners;
+      outers = c.from_number-outers.ensures.canonical;
+      same = outers-passed c.args.part.now c.args.whole.now c.pairs.inners.now c.in-Some-split_first.others.now
+          c.from_number-outers.result.now c.in-Some.later.now c.in-Some.inner.now c.in-Some.ensures.cases.0 is.1
+          c.pairs.invariant.inners c.from_number-outers.ensures.same;
+    }
 
 pub pairs-preserved : goal.pairs-preserved
 pairs-preserved c =

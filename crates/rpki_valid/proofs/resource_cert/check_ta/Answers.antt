@@ -1,5 +1,6 @@
 use Rattle.rpki_cert.specs.declared.profile.Profile.TheVariants.{Ta}
-use Rattle.rpki_valid.specs.Verified.{checkers_of, terms_of}
+use Rattle.rpki.specs.Checkers.{checkers_of}
+use Rattle.rpki_valid.specs.Verified.{terms_of}
 use Rattle.rpki_cert.proofs.RuleLaws.{has-policy, has-own}
 use Rattle.rpki_x509.proofs.TriedLaws.{tried-fault}
 use Rattle.rpki_valid.proofs.VerifiedLaws.{root-settles, root-else, root-off, root-other-key}
@@ -17,7 +18,7 @@ settle_anchor-requires g c =
 pub returns-in_err-inspect_ta : goal.returns-in_err-inspect_ta
 returns-in_err-inspect_ta g c =
     let p = c.args.provider.now in
-    let by = checkers_of (g.P.Provider.rsa_of p) (g.P.Provider.ecdsa_of p) (g.P.Provider.sha1_of p) in
+    let by = checkers_of g.P.Provider p in
     let terms = terms_of c.args.terms.key.now c.args.terms.strictness c.args.terms.deepest in
     tried-fault _ _ _ _ c.from_residual.ensures
     (root-else terms by c.args.at c.args.cert.now _ (rw c.tbs.ensures at c.in_err-inspect_ta.ensures))
@@ -25,7 +26,7 @@ returns-in_err-inspect_ta g c =
 pub returns-in_err-verify_anchor : goal.returns-in_err-verify_anchor
 returns-in_err-verify_anchor g c =
     let p = c.args.provider.now in
-    let by = checkers_of (g.P.Provider.rsa_of p) (g.P.Provider.ecdsa_of p) (g.P.Provider.sha1_of p) in
+    let by = checkers_of g.P.Provider p in
     let terms = terms_of c.args.terms.key.now c.args.terms.strictness c.args.terms.deepest in
     tried-fault _ _ _ _ c.from_residual-in_err-verify_anchor.ensures
     (root-off terms by c.args.at c.args.cert.now _ (rw c.tbs.ensures at c.in_ok-inspect_ta.ensures)
@@ -34,7 +35,7 @@ returns-in_err-verify_anchor g c =
 pub returns-in_err-verify_key : goal.returns-in_err-verify_key
 returns-in_err-verify_key g c =
     let p = c.args.provider.now in
-    let by = checkers_of (g.P.Provider.rsa_of p) (g.P.Provider.ecdsa_of p) (g.P.Provider.sha1_of p) in
+    let by = checkers_of g.P.Provider p in
     let terms = terms_of c.args.terms.key.now c.args.terms.strictness c.args.terms.deepest in
     tried-fault _ _ _ _ c.from_residual-in_err-verify_key.ensures
     (root-other-key terms by c.args.at c.args.cert.now _ (rw c.tbs.ensures at c.in_ok-inspect_ta.ensures)
@@ -43,7 +44,7 @@ returns-in_err-verify_key g c =
 pub returns : goal.returns
 returns g c =
     let p = c.args.provider.now in
-    let by = checkers_of (g.P.Provider.rsa_of p) (g.P.Provider.ecdsa_of p) (g.P.Provider.sha1_of p) in
+    let by = checkers_of g.P.Provider p in
     let terms = terms_of c.args.terms.key.now c.args.terms.strictness c.args.terms.deepest in
     root-settles terms by c.args.at c.args.cert.now c.settle_anchor.result
     (rw c.tbs.ensures at c.in_ok-inspect_ta.ensures) c.in_ok-verify_anchor.ensures c.in_ok-verify_key.ensures

@@ -6,13 +6,13 @@ use Rattle.rpki_validation.proofs.anchor.anchor_of.Goals as goal
 pub uris-init : goal.uris-init
 uris-init g c = λ published known.
     let p = g.P.Provider in
-    let b = basis_by p.rsa_of p.ecdsa_of p.sha1_of p.sha256_of (terms_in c.args.terms) c.args.provider.now c.args.at in
+    let b = basis_by p (terms_in c.args.terms) c.args.provider.now c.args.at in
     uris-start published b c.args.uris.now
 
 pub uris-preserved : goal.uris-preserved
 uris-preserved g c = λ published known.
     let p = g.P.Provider in
-    let b = basis_by p.rsa_of p.ecdsa_of p.sha1_of p.sha256_of (terms_in c.args.terms) c.args.provider.now c.args.at in
+    let b = basis_by p (terms_in c.args.terms) c.args.provider.now c.args.at in
     let stops = c.in-Err-Rejected.ensures.exactly published known in
     uris-step published b c.args.uris.now c.uris.rest.now c.in-Some.uri.now c.in-Some.following.now c.uris.last
     c.in-Some.ensures.cases.0 (c.uris.invariant published known) c.in-Err-Rejected.reason
@@ -21,13 +21,13 @@ uris-preserved g c = λ published known.
 pub returns-in-Ok-clause-exactly : goal.returns-in-Ok-clause-exactly
 returns-in-Ok-clause-exactly g c = λ published known.
     let p = g.P.Provider in
-    let b = basis_by p.rsa_of p.ecdsa_of p.sha1_of p.sha256_of (terms_in c.args.terms) c.args.provider.now c.args.at in
+    let b = basis_by p (terms_in c.args.terms) c.args.provider.now c.args.at in
     uris-found published b c.args.uris.now c.uris.rest.now c.in-Some.uri.now c.in-Some.following.now c.uris.last
     c.in-Some.ensures.cases.0 (c.uris.invariant published known) _ (c.in-Ok.ensures.exactly published known)
 
 pub returns-clause-exactly : goal.returns-clause-exactly
 returns-clause-exactly g c = λ published known.
     let p = g.P.Provider in
-    let b = basis_by p.rsa_of p.ecdsa_of p.sha1_of p.sha256_of (terms_in c.args.terms) c.args.provider.now c.args.at in
+    let b = basis_by p (terms_in c.args.terms) c.args.provider.now c.args.at in
     uris-end published b c.args.uris.now c.uris.rest.now c.uris.last c.in_default.ensures.cases
     (c.uris.invariant published known)

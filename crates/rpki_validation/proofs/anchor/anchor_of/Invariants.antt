@@ -10,7 +10,7 @@ abbrev pub invariant-uris : goal.invariant-uris
 invariant-uris g l =
     Where (g.S.Snapshot.holds l.snapshot)
     (λ published. IsAfter published
-    (basis_by g.P.Provider.rsa_of g.P.Provider.ecdsa_of g.P.Provider.sha1_of g.P.Provider.sha256_of (terms_in l.terms)
+    (basis_by g.P.Provider (terms_in l.terms)
     l.provider l.at)
     l.fn.uris l.rest l.last)
 

@@ -7,18 +7,16 @@ use Rattle.rpki_validation.proofs.issued.authority_of.Goals as goal
 pub returns-in_err-authority-clause-err : goal.returns-in_err-authority-clause-err
 returns-in_err-authority-clause-err g c =
     let s = c.args.list.now in
-    let v = verified_by g.P.Provider.rsa_of g.P.Provider.ecdsa_of g.P.Provider.sha1_of s.issuer in
-    let sha256 = g.P.Provider.sha256_of s.issuer.provider in
+    let v = verified_by g.P.Provider s.issuer in
     tried-error _ _ _ c.from_residual.ensures
-    (authority-refused v sha256 s.at c.in_err-authority.ensures.issued.period s.list c.args.cert _
+    (authority-refused v s.at c.in_err-authority.ensures.issued.period s.list c.args.cert _
     c.in_err-authority.ensures.err)
 
 pub returns-clause-ok : goal.returns-clause-ok
 returns-clause-ok g c =
     let s = c.args.list.now in
-    let v = verified_by g.P.Provider.rsa_of g.P.Provider.ecdsa_of g.P.Provider.sha1_of s.issuer in
-    let sha256 = g.P.Provider.sha256_of s.issuer.provider in
-    cert-found v sha256 s.at c.in_ok-authority.ensures.issued.period s.list c.args.cert Ca _
+    let v = verified_by g.P.Provider s.issuer in
+    cert-found v s.at c.in_ok-authority.ensures.issued.period s.list c.args.cert Ca _
     c.in_ok-authority.ensures.ok
 
 pub returns-clause-period : goal.returns-clause-period

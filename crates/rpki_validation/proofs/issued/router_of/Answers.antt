@@ -7,16 +7,14 @@ use Rattle.rpki_validation.proofs.issued.router_of.Goals as goal
 pub returns-in_err-resources-clause-exactly : goal.returns-in_err-resources-clause-exactly
 returns-in_err-resources-clause-exactly g c =
     let s = c.args.list.now in
-    let v = verified_by g.P.Provider.rsa_of g.P.Provider.ecdsa_of g.P.Provider.sha1_of s.issuer in
-    let sha256 = g.P.Provider.sha256_of s.issuer.provider in
+    let v = verified_by g.P.Provider s.issuer in
     tried-fault _ _ _ _ c.from_residual.ensures
-    (cert-refused v sha256 s.at c.in_err-resources.ensures.issued.period s.list c.args.cert Router _
+    (cert-refused v s.at c.in_err-resources.ensures.issued.period s.list c.args.cert Router _
     c.in_err-resources.ensures.exactly)
 
 pub returns-clause-exactly : goal.returns-clause-exactly
 returns-clause-exactly g c =
     let s = c.args.list.now in
-    let v = verified_by g.P.Provider.rsa_of g.P.Provider.ecdsa_of g.P.Provider.sha1_of s.issuer in
-    let sha256 = g.P.Provider.sha256_of s.issuer.provider in
-    cert-found v sha256 s.at c.in_ok-resources.ensures.issued.period s.list c.args.cert Router _
+    let v = verified_by g.P.Provider s.issuer in
+    cert-found v s.at c.in_ok-resources.ensures.issued.period s.list c.args.cert Router _
     c.in_ok-resources.ensures.exactly

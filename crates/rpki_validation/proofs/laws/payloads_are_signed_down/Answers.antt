@@ -5,14 +5,14 @@ use Rattle.rpki_validation.proofs.laws.payloads_are_signed_down.Goals as goal
 pub returns-clause-origins : goal.returns-clause-origins
 returns-clause-origins g c = λ published terms at uris v h.
     let p = g.P.Provider in
-    origin-down published (basis_by p.rsa_of p.ecdsa_of p.sha1_of p.sha256_of terms c.args._provider.now at) uris v h
+    origin-down published (basis_by p terms c.args._provider.now at) uris v h
 
 pub returns-clause-providers : goal.returns-clause-providers
 returns-clause-providers g c = λ published terms at uris v h.
     let p = g.P.Provider in
-    providers-down published (basis_by p.rsa_of p.ecdsa_of p.sha1_of p.sha256_of terms c.args._provider.now at) uris v h
+    providers-down published (basis_by p terms c.args._provider.now at) uris v h
 
 pub returns-clause-routers : goal.returns-clause-routers
 returns-clause-routers g c = λ published terms at uris x h.
     let p = g.P.Provider in
-    router-down published (basis_by p.rsa_of p.ecdsa_of p.sha1_of p.sha256_of terms c.args._provider.now at) uris x h
+    router-down published (basis_by p terms c.args._provider.now at) uris x h

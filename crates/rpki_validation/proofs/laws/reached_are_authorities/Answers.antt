@@ -6,4 +6,4 @@ pub returns : goal.returns
 returns g c = λ published terms at uris x h.
     let p = g.P.Provider in
     counts-is-authority published
-    (basis_by p.rsa_of p.ecdsa_of p.sha1_of p.sha256_of terms c.args._provider.now at) uris x h
+    (basis_by p terms c.args._provider.now at) uris x h

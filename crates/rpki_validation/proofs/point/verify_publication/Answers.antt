@@ -6,29 +6,26 @@ use Rattle.rpki_validation.proofs.point.verify_publication.Goals as goal
 pub returns-in_err-current-clause-exactly : goal.returns-in_err-current-clause-exactly
 returns-in_err-current-clause-exactly g c =
     let s = c.args.issuer.now in
-    let v = verified_by g.P.Provider.rsa_of g.P.Provider.ecdsa_of g.P.Provider.sha1_of s in
-    let sha256 = g.P.Provider.sha256_of s.provider in
+    let v = verified_by g.P.Provider s in
     let refused = rw c.list.ensures at c.in_err-current.ensures.err in
     tried-fault _ _ _ _ c.from_residual.ensures
-    (list-refused v sha256 c.args.at c.requires c.args.publication.now _ refused)
+    (list-refused v c.args.at c.requires c.args.publication.now _ refused)
 
 pub returns-in_err-process_manifest-clause-exactly : goal.returns-in_err-process_manifest-clause-exactly
 returns-in_err-process_manifest-clause-exactly g c =
     let s = c.args.issuer.now in
-    let v = verified_by g.P.Provider.rsa_of g.P.Provider.ecdsa_of g.P.Provider.sha1_of s in
-    let sha256 = g.P.Provider.sha256_of s.provider in
+    let v = verified_by g.P.Provider s in
     let issued = rw c.list.ensures at c.in_ok-current.ensures.issued in
     let wrong = rw (c.in_ok-current.ensures.ok, c.list.ensures, c.manifest.ensures) at
     c.in_err-process_manifest.ensures.exactly in
     tried-fault _ _ _ _ c.from_residual-in_err-process_manifest.ensures
-    (manifest-refused v sha256 c.args.at c.requires c.args.publication.now issued _ wrong)
+    (manifest-refused v c.args.at c.requires c.args.publication.now issued _ wrong)
 
 pub returns-clause-exactly : goal.returns-clause-exactly
 returns-clause-exactly g c =
     let s = c.args.issuer.now in
-    let v = verified_by g.P.Provider.rsa_of g.P.Provider.ecdsa_of g.P.Provider.sha1_of s in
-    let sha256 = g.P.Provider.sha256_of s.provider in
+    let v = verified_by g.P.Provider s in
     let issued = rw c.list.ensures at c.in_ok-current.ensures.issued in
     let held = rw (c.in_ok-current.ensures.ok, c.list.ensures, c.manifest.ensures) at
     c.in_ok-process_manifest.ensures.exactly in
-    publication-holds v sha256 c.args.at c.requires c.args.publication.now issued _ held
+    publication-holds v c.args.at c.requires c.args.publication.now issued _ held

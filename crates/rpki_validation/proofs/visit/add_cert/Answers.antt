@@ -27,21 +27,21 @@ pub returns-in_err-cert-clause-routers : goal.returns-in_err-cert-clause-routers
 returns-in_err-cert-clause-routers g c =
     let p = g.P.Provider in
     tried-memory _ _ _ c.from_residual.ensures
-    (unread-routers p.rsa_of p.ecdsa_of p.sha1_of p.sha256_of c.args.list.now c.args.octets _ _
+    (unread-routers p c.args.list.now c.args.octets _ _
     (values c.args.routers.now.items) c.in_err-cert.ensures)
 
 pub returns-in_err-cert-clause-below : goal.returns-in_err-cert-clause-below
 returns-in_err-cert-clause-below g c =
     let p = g.P.Provider in
     tried-memory _ _ _ c.from_residual.ensures
-    (unread-below p.rsa_of p.ecdsa_of p.sha1_of p.sha256_of c.args.list.now c.args.octets _ _
+    (unread-below p c.args.list.now c.args.octets _ _
     (holders c.args.below.now.items) c.in_err-cert.ensures)
 
 pub returns-in_err-is_authority-clause-routers : goal.returns-in_err-is_authority-clause-routers
 returns-in_err-is_authority-clause-routers g c =
     let p = g.P.Provider in
     tried-memory _ _ _ c.from_residual-in_err-is_authority.ensures
-    (memory-here _ _ (other-routers p.rsa_of p.ecdsa_of p.sha1_of p.sha256_of c.args.list.now c.args.octets
+    (memory-here _ _ (other-routers p c.args.list.now c.args.octets
     c.in_ok-cert.cert c.in_ok-cert.ensures (λ strict. (c.in_err-is_authority.ensures.err strict).0)
     (values c.args.routers.now.items)))
 
@@ -49,14 +49,14 @@ pub returns-in_err-is_authority-clause-below : goal.returns-in_err-is_authority-
 returns-in_err-is_authority-clause-below g c =
     let p = g.P.Provider in
     tried-memory _ _ _ c.from_residual-in_err-is_authority.ensures
-    (memory-here _ _ (other-below p.rsa_of p.ecdsa_of p.sha1_of p.sha256_of c.args.list.now c.args.octets
+    (memory-here _ _ (other-below p c.args.list.now c.args.octets
     c.in_ok-cert.cert c.in_ok-cert.ensures (λ strict. (c.in_err-is_authority.ensures.err strict).1)
     (holders c.args.below.now.items)))
 
 pub returns-then-branch-clause-routers : goal.returns-then-branch-clause-routers
 returns-then-branch-clause-routers g c =
     let p = g.P.Provider in
-    other-routers p.rsa_of p.ecdsa_of p.sha1_of p.sha256_of c.args.list.now c.args.octets c.in_ok-cert.cert
+    other-routers p c.args.list.now c.args.octets c.in_ok-cert.cert
     c.in_ok-cert.ensures
     (told-authority c.in_ok-cert.cert c.in_ok-is_authority.field-0 c.if-branch.true c.in_ok-is_authority.ensures.ok)
     (values c.args.routers.now.items)
@@ -67,10 +67,10 @@ returns-then-branch-clause-below g c =
     let old = c.args.below.now.items in
     let a = c.in_ok-authority.authority in
     subst
-    (λ (l : List Holder). AddsAuthoritiesHere p.rsa_of p.ecdsa_of p.sha1_of p.sha256_of c.args.list.now c.args.octets
+    (λ (l : List Holder). AddsAuthoritiesHere p c.args.list.now c.args.octets
     (holders old) l)
     (sym (ap (λ (l : List (Authority g.row.P.Denot)). holders l) c.in_ok-add_below.ensures.items ∙ holders-push old a))
-    (below-found p.rsa_of p.ecdsa_of p.sha1_of p.sha256_of c.args.list.now c.args.octets c.in_ok-cert.cert
+    (below-found p c.args.list.now c.args.octets c.in_ok-cert.cert
     c.in_ok-cert.ensures a c.in_ok-authority.ensures.cert c.in_ok-authority.ensures.ok (holders old))
 
 pub returns-then-branch-clause-sisters : goal.returns-then-branch-clause-sisters
@@ -88,7 +88,7 @@ returns-then-branch-clause-sisters g c =
       depth_is = c.in_ok-authority.ensures.depth;
       few = omega (
         arith,
-        may-issue p.rsa_of p.ecdsa_of p.sha1_of p.sha256_of c.args.list.now a c.add_below.ensures.verified
+        may-issue p c.args.list.now a c.add_below.ensures.verified
             c.in_ok-authority.ensures.period c.in_ok-authority.ensures.depth c.in_ok-authority.ensures.terms,
       );
     }))
@@ -97,10 +97,10 @@ pub returns-clause-routers : goal.returns-clause-routers
 returns-clause-routers g c =
     let p = g.P.Provider in
     let old = c.args.routers.now.items in
-    let found = routers-found p.rsa_of p.ecdsa_of p.sha1_of p.sha256_of c.args.list.now c.args.octets c.in_ok-cert.cert
+    let found = routers-found p c.args.list.now c.args.octets c.in_ok-cert.cert
     c.in_ok-cert.ensures c.in_ok-value.value c.in_ok-value.ensures.cert c.in_ok-value.ensures.exactly (values old) in
     subst
-    (λ (l : List Holder). AddsRoutersHere p.rsa_of p.ecdsa_of p.sha1_of p.sha256_of c.args.list.now c.args.octets
+    (λ (l : List Holder). AddsRoutersHere p c.args.list.now c.args.octets
     (values old) l)
     (sym (ap (λ (l : List (Payload Holder)). values l) c.in_ok-push.ensures.items
     ∙ values-push c.period_of-period.result old (c.in_ok-value.value ∷ []))) found
@@ -110,12 +110,12 @@ returns-clause-held g c =
     let p = g.P.Provider in
     let old = c.args.routers.now.items in
     let value = c.in_ok-value.value in
-    let Said = IsSaidHere p.rsa_of p.ecdsa_of p.sha1_of p.sha256_of c.args.list.now SaysRouterBy c.args.octets in
+    let Said = IsSaidHere p c.args.list.now SaysRouterBy c.args.octets in
     subst (λ (l : List (Payload Holder)). AddsOnly Said old l) (sym c.in_ok-push.ensures.items)
     (adds-one Said old (in_period c.period_of-period.result value) (
       value.cert,
       (
-        router-said p.rsa_of p.ecdsa_of p.sha1_of p.sha256_of c.args.list.now c.args.octets c.in_ok-cert.cert
+        router-said p c.args.list.now c.args.octets c.in_ok-cert.cert
             c.in_ok-cert.ensures value c.in_ok-value.ensures.cert c.in_ok-value.ensures.exactly,
         refl,
       ),
@@ -141,7 +141,7 @@ returns-then-branch-clause-held g c = adds-nothing _ c.args.routers.now.items
 pub returns-clause-below : goal.returns-clause-below
 returns-clause-below g c =
     let p = g.P.Provider in
-    other-below p.rsa_of p.ecdsa_of p.sha1_of p.sha256_of c.args.list.now c.args.octets c.in_ok-cert.cert
+    other-below p c.args.list.now c.args.octets c.in_ok-cert.cert
     c.in_ok-cert.ensures
     (told-router c.in_ok-cert.cert c.in_ok-is_authority.field-0 c.if-branch.false c.in_ok-is_authority.ensures.ok)
     (holders c.args.below.now.items)
@@ -150,7 +150,7 @@ pub returns-in_err-authority-clause-routers : goal.returns-in_err-authority-clau
 returns-in_err-authority-clause-routers g c =
     let p = g.P.Provider in
     tried-memory _ _ _ c.from_residual-in_err-authority.ensures
-    (memory-here _ _ (other-routers p.rsa_of p.ecdsa_of p.sha1_of p.sha256_of c.args.list.now c.args.octets
+    (memory-here _ _ (other-routers p c.args.list.now c.args.octets
     c.in_ok-cert.cert c.in_ok-cert.ensures
     (told-authority c.in_ok-cert.cert c.in_ok-is_authority.field-0 c.if-branch.true c.in_ok-is_authority.ensures.ok)
     (values c.args.routers.now.items)))
@@ -159,21 +159,21 @@ pub returns-in_err-authority-clause-below : goal.returns-in_err-authority-clause
 returns-in_err-authority-clause-below g c =
     let p = g.P.Provider in
     tried-memory _ _ _ c.from_residual-in_err-authority.ensures
-    (no-below p.rsa_of p.ecdsa_of p.sha1_of p.sha256_of c.args.list.now c.args.octets c.in_ok-cert.cert
+    (no-below p c.args.list.now c.args.octets c.in_ok-cert.cert
     c.in_ok-cert.ensures _ (holders c.args.below.now.items) c.in_err-authority.ensures.err)
 
 pub returns-in_err-value-clause-routers : goal.returns-in_err-value-clause-routers
 returns-in_err-value-clause-routers g c =
     let p = g.P.Provider in
     tried-memory _ _ _ c.from_residual-in_err-value.ensures
-    (no-routers p.rsa_of p.ecdsa_of p.sha1_of p.sha256_of c.args.list.now c.args.octets c.in_ok-cert.cert
+    (no-routers p c.args.list.now c.args.octets c.in_ok-cert.cert
     c.in_ok-cert.ensures _ _ (values c.args.routers.now.items) c.in_err-value.ensures.exactly)
 
 pub returns-in_err-value-clause-below : goal.returns-in_err-value-clause-below
 returns-in_err-value-clause-below g c =
     let p = g.P.Provider in
     tried-memory _ _ _ c.from_residual-in_err-value.ensures
-    (memory-here _ _ (other-below p.rsa_of p.ecdsa_of p.sha1_of p.sha256_of c.args.list.now c.args.octets
+    (memory-here _ _ (other-below p c.args.list.now c.args.octets
     c.in_ok-cert.cert c.in_ok-cert.ensures
     (told-router c.in_ok-cert.cert c.in_ok-is_authority.field-0 c.if-branch.false c.in_ok-is_authority.ensures.ok)
     (holders c.args.below.now.items)))
@@ -185,10 +185,10 @@ returns-then-branch-clause-children g c =
     let p = g.P.Provider in
     let old = c.args.below.now.items in
     let a = c.in_ok-authority.authority in
-    let Child = IsChildHere p.rsa_of p.ecdsa_of p.sha1_of p.sha256_of c.args.list.now c.args.octets in
+    let Child = IsChildHere p c.args.list.now c.args.octets in
     subst (λ (l : List (Authority g.row.P.Denot)). AddsOnly Child old l) (sym c.in_ok-add_below.ensures.items)
     (adds-one Child old a (
-      authority-said p.rsa_of p.ecdsa_of p.sha1_of p.sha256_of c.args.list.now c.args.octets c.in_ok-cert.cert
+      authority-said p c.args.list.now c.args.octets c.in_ok-cert.cert
           c.in_ok-cert.ensures a c.in_ok-authority.ensures.cert c.in_ok-authority.ensures.ok,
       subst (λ (x : CertParts). IsPeriodUnder (CountsAt c.args.list.now) x a.period)
           (sym c.in_ok-authority.ensures.cert) c.in_ok-authority.ensures.holds,
@@ -200,13 +200,13 @@ pub returns-in_err-cert-clause-why : goal.returns-in_err-cert-clause-why
 returns-in_err-cert-clause-why g c =
     let p = g.P.Provider in
     tried-fault _ _ _ _ c.from_residual.ensures
-    (unread-cert p.rsa_of p.ecdsa_of p.sha1_of p.sha256_of c.args.list.now c.args.octets _ c.in_err-cert.ensures)
+    (unread-cert p c.args.list.now c.args.octets _ c.in_err-cert.ensures)
 
 pub returns-in_err-is_authority-clause-why : goal.returns-in_err-is_authority-clause-why
 returns-in_err-is_authority-clause-why g c =
     let p = g.P.Provider in
     tried-fault _ _ _ _ c.from_residual-in_err-is_authority.ensures
-    (wrong-constraints p.rsa_of p.ecdsa_of p.sha1_of p.sha256_of c.args.list.now c.args.octets c.in_ok-cert.cert
+    (wrong-constraints p c.args.list.now c.args.octets c.in_ok-cert.cert
     c.in_ok-cert.ensures _ (λ strict. (c.in_err-is_authority.ensures.err strict).0)
     (λ strict. (c.in_err-is_authority.ensures.err strict).1) c.in_err-is_authority.ensures.reason)
 
@@ -214,7 +214,7 @@ pub returns-in_err-authority-clause-why : goal.returns-in_err-authority-clause-w
 returns-in_err-authority-clause-why g c =
     let p = g.P.Provider in
     tried-fault _ _ _ _ c.from_residual-in_err-authority.ensures
-    (no-authority p.rsa_of p.ecdsa_of p.sha1_of p.sha256_of c.args.list.now c.args.octets c.in_ok-cert.cert
+    (no-authority p c.args.list.now c.args.octets c.in_ok-cert.cert
     c.in_ok-cert.ensures _
     (told-authority c.in_ok-cert.cert c.in_ok-is_authority.field-0 c.if-branch.true c.in_ok-is_authority.ensures.ok)
     c.in_err-authority.ensures.err)
@@ -223,7 +223,7 @@ pub returns-in_err-value-clause-why : goal.returns-in_err-value-clause-why
 returns-in_err-value-clause-why g c =
     let p = g.P.Provider in
     tried-fault _ _ _ _ c.from_residual-in_err-value.ensures
-    (no-router p.rsa_of p.ecdsa_of p.sha1_of p.sha256_of c.args.list.now c.args.octets c.in_ok-cert.cert
+    (no-router p c.args.list.now c.args.octets c.in_ok-cert.cert
     c.in_ok-cert.ensures _
     (told-router c.in_ok-cert.cert c.in_ok-is_authority.field-0 c.if-branch.false c.in_ok-is_authority.ensures.ok)
     c.in_err-value.ensures.exactly)
@@ -231,14 +231,14 @@ returns-in_err-value-clause-why g c =
 pub returns-then-branch-clause-why : goal.returns-then-branch-clause-why
 returns-then-branch-clause-why g c =
     let p = g.P.Provider in
-    authority-counts p.rsa_of p.ecdsa_of p.sha1_of p.sha256_of c.args.list.now c.args.octets c.in_ok-cert.cert
+    authority-counts p c.args.list.now c.args.octets c.in_ok-cert.cert
     c.in_ok-cert.ensures c.in_ok-authority.authority c.in_ok-authority.ensures.cert c.in_ok-authority.ensures.ok
-    (may-issue p.rsa_of p.ecdsa_of p.sha1_of p.sha256_of c.args.list.now c.in_ok-authority.authority
+    (may-issue p c.args.list.now c.in_ok-authority.authority
     c.add_below.ensures.verified c.in_ok-authority.ensures.period c.in_ok-authority.ensures.depth
     c.in_ok-authority.ensures.terms)
 
 pub returns-clause-why : goal.returns-clause-why
 returns-clause-why g c =
     let p = g.P.Provider in
-    router-counts p.rsa_of p.ecdsa_of p.sha1_of p.sha256_of c.args.list.now c.args.octets c.in_ok-cert.cert
+    router-counts p c.args.list.now c.args.octets c.in_ok-cert.cert
     c.in_ok-cert.ensures c.in_ok-value.value c.in_ok-value.ensures.cert c.in_ok-value.ensures.exactly

@@ -15,7 +15,7 @@ returns-then-ends_with-clause-said g c =
     let p = g.P.Provider in
     let roa = rw c.file-name.ensures.name at (ends-so _ _ c.ends_with.ensures.value c.if-ends_with.true) in
     where-memory _ _ c.add_origins.result
-    (origins-file p.rsa_of p.ecdsa_of p.sha1_of p.sha256_of c.args.list.now c.args.file.now c.args.octets roa
+    (origins-file p c.args.list.now c.args.file.now c.args.octets roa
     (found c.args.below.now c.args.outcome.now) (values c.add_origins.new.origins.items)) c.add_origins.ensures.said
 
 pub returns-then-ends_with-2-clause-said : goal.returns-then-ends_with-2-clause-said
@@ -24,7 +24,7 @@ returns-then-ends_with-2-clause-said g c =
     let none = rw c.file-name.ensures.name at (ends-otherwise _ _ c.ends_with.ensures.value c.if-ends_with.false) in
     let asa = rw c.file-name.ensures.name at (ends-so _ _ c.ends_with-2.ensures.value c.if-ends_with-2.true) in
     where-memory _ _ c.add_providers.result
-    (providers-file p.rsa_of p.ecdsa_of p.sha1_of p.sha256_of c.args.list.now c.args.file.now c.args.octets none asa
+    (providers-file p c.args.list.now c.args.file.now c.args.octets none asa
     (found c.args.below.now c.args.outcome.now) (values c.add_providers.new.providers.items))
     c.add_providers.ensures.said
 
@@ -36,7 +36,7 @@ returns-then-ends_with-3-clause-said g c =
     (ends-otherwise _ _ c.ends_with-2.ensures.value c.if-ends_with-2.false) in
     let cer = rw c.file-name.ensures.name at (ends-so _ _ c.ends_with-3.ensures.value c.if-ends_with-3.true) in
     where-both _ _ _ c.add_cert.result
-    (λ routers below. cert-file p.rsa_of p.ecdsa_of p.sha1_of p.sha256_of c.args.list.now c.args.file.now
+    (λ routers below. cert-file p c.args.list.now c.args.file.now
     c.args.octets none other cer (found c.args.below.now c.args.outcome.now) _ refl refl routers below)
     c.add_cert.ensures.routers c.add_cert.ensures.below
 
@@ -48,7 +48,7 @@ returns-clause-said g c =
     (ends-otherwise _ _ c.ends_with-2.ensures.value c.if-ends_with-2.false) in
     let never = rw c.file-name.ensures.name at
     (ends-otherwise _ _ c.ends_with-3.ensures.value c.if-ends_with-3.false) in
-    other-file p.rsa_of p.ecdsa_of p.sha1_of p.sha256_of c.args.list.now c.args.file.now c.args.octets none other never
+    other-file p c.args.list.now c.args.file.now c.args.octets none other never
     (found c.args.below.now c.args.outcome.now)
 
 pub returns-then-ends_with-clause-sisters : goal.returns-then-ends_with-clause-sisters
@@ -130,21 +130,21 @@ pub returns-then-ends_with-clause-why : goal.returns-then-ends_with-clause-why
 returns-then-ends_with-clause-why g c =
     let p = g.P.Provider in
     let roa = rw c.file-name.ensures.name at (ends-so _ _ c.ends_with.ensures.value c.if-ends_with.true) in
-    origins-settled p.rsa_of p.ecdsa_of p.sha1_of p.sha256_of c.args.list.now c.args.file.now c.args.octets
+    origins-settled p c.args.list.now c.args.file.now c.args.octets
     c.add_origins.result roa c.add_origins.ensures.why
 
 pub returns-then-ends_with-2-clause-why : goal.returns-then-ends_with-2-clause-why
 returns-then-ends_with-2-clause-why g c =
     let p = g.P.Provider in
     let asa = rw c.file-name.ensures.name at (ends-so _ _ c.ends_with-2.ensures.value c.if-ends_with-2.true) in
-    providers-settled p.rsa_of p.ecdsa_of p.sha1_of p.sha256_of c.args.list.now c.args.file.now c.args.octets
+    providers-settled p c.args.list.now c.args.file.now c.args.octets
     c.add_providers.result asa c.add_providers.ensures.why
 
 pub returns-then-ends_with-3-clause-why : goal.returns-then-ends_with-3-clause-why
 returns-then-ends_with-3-clause-why g c =
     let p = g.P.Provider in
     let cer = rw c.file-name.ensures.name at (ends-so _ _ c.ends_with-3.ensures.value c.if-ends_with-3.true) in
-    cert-settled p.rsa_of p.ecdsa_of p.sha1_of p.sha256_of c.args.list.now c.args.file.now c.args.octets
+    cert-settled p c.args.list.now c.args.file.now c.args.octets
     c.add_cert.result cer c.add_cert.ensures.why
 
 pub returns-clause-why : goal.returns-clause-why
@@ -155,7 +155,7 @@ returns-clause-why g c =
     (ends-otherwise _ _ c.ends_with-2.ensures.value c.if-ends_with-2.false) in
     let never = rw c.file-name.ensures.name at
     (ends-otherwise _ _ c.ends_with-3.ensures.value c.if-ends_with-3.false) in
-    other-settled p.rsa_of p.ecdsa_of p.sha1_of p.sha256_of c.args.list.now c.args.file.now c.args.octets none other
+    other-settled p c.args.list.now c.args.file.now c.args.octets none other
     never
 
 -- ---- nothing is noted

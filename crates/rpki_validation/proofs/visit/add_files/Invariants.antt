@@ -17,14 +17,14 @@ invariant-octets g l =
       ends : (goal.iterator-octets g).is_finite l.one-iterator;
       count : into_iter_len l.one-iterator ≡ length (into_iter_items l.one-iterator);
       sisters : AreSistersBelow l.list.issuer l.list.at l.fn.below.items l.below.items;
-      said : AreLeft p.rsa_of p.ecdsa_of p.sha1_of p.sha256_of l.list l.fn.files l.rest l.fn.octets.items
+      said : AreLeft p l.list l.fn.files l.rest l.fn.octets.items
           (into_iter_items l.one-iterator) (found l.fn.below l.fn.outcome) (found l.below l.outcome);
-      children : AddsUpTo (IsChildOf p.rsa_of p.ecdsa_of p.sha1_of p.sha256_of l.list) l.fn.files l.rest
+      children : AddsUpTo (IsChildOf p l.list) l.fn.files l.rest
           l.fn.octets.items (into_iter_items l.one-iterator) l.fn.below.items l.below.items;
-      held : HeldUpTo p.rsa_of p.ecdsa_of p.sha1_of p.sha256_of l.list l.fn.files l.fn.octets.items l.rest
+      held : HeldUpTo p l.list l.fn.files l.fn.octets.items l.rest
           (into_iter_items l.one-iterator) l.fn.outcome l.outcome;
-      rejected : NotesUpTo (IsRightHere p.rsa_of p.ecdsa_of p.sha1_of p.sha256_of l.list)
-          (IsNotedHere p.rsa_of p.ecdsa_of p.sha1_of p.sha256_of l.list l.folder) l.fn.files l.rest
+      rejected : NotesUpTo (IsRightHere p l.list)
+          (IsNotedHere p l.list l.folder) l.fn.files l.rest
           l.fn.octets.items (into_iter_items l.one-iterator) l.fn.outcome.rejections.items
           l.outcome.rejections.items;
     }

@@ -21,7 +21,7 @@ pub returns-in_err-roa-clause-said : goal.returns-in_err-roa-clause-said
 returns-in_err-roa-clause-said g c =
     let p = g.P.Provider in
     tried-memory _ _ _ c.from_residual.ensures
-    (no-origins p.rsa_of p.ecdsa_of p.sha1_of p.sha256_of c.args.list.now c.args.octets _ _
+    (no-origins p c.args.list.now c.args.octets _ _
     (values c.args.origins.now.items) c.in_err-roa.ensures)
 
 pub returns-in_err-roa-clause-held : goal.returns-in_err-roa-clause-held
@@ -38,10 +38,10 @@ returns-clause-said g c =
     let rest = c.origins.ensures ∙ ap (λ (x : AttestationParts). origins x) c.content.ensures in
     let new = c.in_ok-push_origins.ensures
     ∙ ap (λ (l : List RouteOrigin). old ++ map (in_period c.period_of-period.result) l) rest in
-    let found = origins-found p.rsa_of p.ecdsa_of p.sha1_of p.sha256_of c.args.list.now c.args.octets c.in_ok-roa.roa
+    let found = origins-found p c.args.list.now c.args.octets c.in_ok-roa.roa
     c.in_ok-roa.ensures (values old) in
     subst
-    (λ (l : List RouteOrigin). AddsOriginsHere p.rsa_of p.ecdsa_of p.sha1_of p.sha256_of c.args.list.now c.args.octets
+    (λ (l : List RouteOrigin). AddsOriginsHere p c.args.list.now c.args.octets
     (values old) l)
     (sym (ap (λ (l : List (Payload RouteOrigin)). values l) new
     ∙ values-push c.period_of-period.result old all)) found
@@ -56,7 +56,7 @@ returns-clause-held g c =
     let cert = c.cert.ensures ∙ ap (λ (x : ObjectParts). x.cert) c.object.ensures in
     let period = subst (λ (x : CertParts). IsPeriodUnder (CountsAt c.args.list.now) x c.period_of-period.result) cert
     c.period_of-period.ensures in
-    let Said = IsSaidHere p.rsa_of p.ecdsa_of p.sha1_of p.sha256_of c.args.list.now SaysOriginBy c.args.octets in
+    let Said = IsSaidHere p c.args.list.now SaysOriginBy c.args.octets in
     subst (λ (l : List (Payload RouteOrigin)). AddsOnly Said old l) (sym new)
     (adds-mapped c.period_of-period.result Said old (origins c.in_ok-roa.roa.content)
     (λ v in_all e. (

@@ -17,7 +17,7 @@ returns-in_err-publication-clause-said g c = λ published known.
     let p = g.P.Provider in
     let old = found c.args.below.now c.args.outcome.now in
     tried-memory _ _ _ c.from_residual.ensures
-    (stop-publication p.rsa_of p.ecdsa_of p.sha1_of p.sha256_of published c.args.issuer.now c.args.at _ _ old
+    (stop-publication p published c.args.issuer.now c.args.at _ _ old
     (c.in_err-publication.ensures published known))
 
 pub returns-in_err-list-clause-said : goal.returns-in_err-list-clause-said
@@ -25,7 +25,7 @@ returns-in_err-list-clause-said g c = λ published known.
     let p = g.P.Provider in
     let old = found c.args.below.now c.args.outcome.now in
     tried-memory _ _ _ c.from_residual-in_err-list.ensures
-    (stop-moment p.rsa_of p.ecdsa_of p.sha1_of p.sha256_of published c.args.issuer.now c.args.at
+    (stop-moment p published c.args.issuer.now c.args.at
     c.in_ok-publication.publication (c.in_ok-publication.ensures published known) _ _ old
     c.in_err-list.ensures.exactly)
 
@@ -41,7 +41,7 @@ returns-in_err-octets-clause-said g c = λ published known.
       c.manifest.ensures,
     ) at (c.in_err-octets.ensures published known) in
     tried-memory _ _ _ c.from_residual-in_err-octets.ensures
-    (stop-files p.rsa_of p.ecdsa_of p.sha1_of p.sha256_of published c.args.issuer.now c.args.at
+    (stop-files p published c.args.issuer.now c.args.at
     c.in_ok-publication.publication (c.in_ok-publication.ensures published known) _ _ old none)
 
 pub returns-clause-said : goal.returns-clause-said
@@ -57,7 +57,7 @@ returns-clause-said g c = λ published known.
     ) at (c.in_ok-octets.ensures published known) in
     let said = rw (c.file_list-files.ensures.files, c.content.ensures, c.manifest.ensures) at
     c.in_ok-add_files.ensures.said in
-    point-files p.rsa_of p.ecdsa_of p.sha1_of p.sha256_of published c.args.issuer.now c.args.at
+    point-files p published c.args.issuer.now c.args.at
     c.in_ok-publication.publication (c.in_ok-publication.ensures published known) c.in_ok-list.ensures.exactly
     c.in_ok-octets.octets.items all.holds old _ c.in_ok-list.list c.in_ok-list.ensures.list said
 
@@ -79,14 +79,14 @@ pub returns-in_err-publication-clause-rejected : goal.returns-in_err-publication
 returns-in_err-publication-clause-rejected g c = λ published known.
     let p = g.P.Provider in
     tried-fault _ _ _ _ c.from_residual.ensures
-    (not-there p.rsa_of p.ecdsa_of p.sha1_of p.sha256_of published c.args.issuer.now c.args.at _
+    (not-there p published c.args.issuer.now c.args.at _
     (c.in_err-publication.ensures published known))
 
 pub returns-in_err-list-clause-rejected : goal.returns-in_err-list-clause-rejected
 returns-in_err-list-clause-rejected g c = λ published known.
     let p = g.P.Provider in
     tried-fault _ _ _ _ c.from_residual-in_err-list.ensures
-    (not-at-moment p.rsa_of p.ecdsa_of p.sha1_of p.sha256_of published c.args.issuer.now c.args.at
+    (not-at-moment p published c.args.issuer.now c.args.at
     c.in_ok-publication.publication (c.in_ok-publication.ensures published known) _ c.in_err-list.ensures.exactly)
 
 pub returns-in_err-octets-clause-rejected : goal.returns-in_err-octets-clause-rejected
@@ -101,7 +101,7 @@ returns-in_err-octets-clause-rejected g c = λ published known.
       c.manifest.ensures,
     ) at (c.in_err-octets.ensures published known) in
     tried-fault _ _ _ _ c.from_residual-in_err-octets.ensures
-    (not-whole p.rsa_of p.ecdsa_of p.sha1_of p.sha256_of published issuer c.args.at
+    (not-whole p published issuer c.args.at
     c.in_ok-publication.publication (c.in_ok-publication.ensures published known) c.in_ok-list.ensures.exactly _ none)
 
 pub returns-in_err-add_files-clause-rejected : goal.returns-in_err-add_files-clause-rejected
@@ -140,12 +140,12 @@ returns-clause-rejected g c = λ published known.
       c.content.ensures,
       c.manifest.ensures,
     ) at (c.in_ok-octets.ensures published known) in
-    files-rejected p.rsa_of p.ecdsa_of p.sha1_of p.sha256_of published issuer c.args.at point
+    files-rejected p published issuer c.args.at point
     (c.in_ok-publication.ensures published known) c.in_ok-list.ensures.exactly os all.holds c.in_ok-list.list
     c.in_ok-list.ensures.list old new
-    (subst (λ (fs : List ListedFile). RejectsFiles p.rsa_of p.ecdsa_of p.sha1_of p.sha256_of c.in_ok-list.list
+    (subst (λ (fs : List ListedFile). RejectsFiles p c.in_ok-list.list
     point.folder fs os old new) files
-    (subst (λ (f : List ℕ). RejectsFiles p.rsa_of p.ecdsa_of p.sha1_of p.sha256_of c.in_ok-list.list f
+    (subst (λ (f : List ℕ). RejectsFiles p c.in_ok-list.list f
     c.file_list-files.result.now os old new) c.folder-folder.ensures c.in_ok-add_files.ensures.rejected))
 
 -- ---- what is below it
@@ -168,10 +168,10 @@ returns-clause-children g c = λ published known.
       c.content.ensures,
       c.manifest.ensures,
     ) at (c.in_ok-octets.ensures published known) in
-    children-below p.rsa_of p.ecdsa_of p.sha1_of p.sha256_of published issuer c.args.at point
+    children-below p published issuer c.args.at point
     (c.in_ok-publication.ensures published known) c.in_ok-list.ensures.exactly os all.holds c.in_ok-list.list
     c.in_ok-list.ensures.list old new
-    (subst (λ (fs : List ListedFile). AddsChildren p.rsa_of p.ecdsa_of p.sha1_of p.sha256_of c.in_ok-list.list fs os old
+    (subst (λ (fs : List ListedFile). AddsChildren p c.in_ok-list.list fs os old
     new) files c.in_ok-add_files.ensures.children)
 
 pub returns-in_err-add_files-clause-children : goal.returns-in_err-add_files-clause-children
@@ -180,19 +180,19 @@ returns-in_err-add_files-clause-children g c = tried-memory _ _ _ c.from_residua
 pub returns-in_err-publication-clause-children : goal.returns-in_err-publication-clause-children
 returns-in_err-publication-clause-children g c =
     let p = g.P.Provider in
-    below-never p.rsa_of p.ecdsa_of p.sha1_of p.sha256_of (g.S.Snapshot.holds c.args.snapshot.now)
+    below-never p (g.S.Snapshot.holds c.args.snapshot.now)
     c.args.issuer.now c.args.at _ c.args.below.now.items
 
 pub returns-in_err-list-clause-children : goal.returns-in_err-list-clause-children
 returns-in_err-list-clause-children g c =
     let p = g.P.Provider in
-    below-never p.rsa_of p.ecdsa_of p.sha1_of p.sha256_of (g.S.Snapshot.holds c.args.snapshot.now)
+    below-never p (g.S.Snapshot.holds c.args.snapshot.now)
     c.args.issuer.now c.args.at _ c.args.below.now.items
 
 pub returns-in_err-octets-clause-children : goal.returns-in_err-octets-clause-children
 returns-in_err-octets-clause-children g c =
     let p = g.P.Provider in
-    below-never p.rsa_of p.ecdsa_of p.sha1_of p.sha256_of (g.S.Snapshot.holds c.args.snapshot.now)
+    below-never p (g.S.Snapshot.holds c.args.snapshot.now)
     c.args.issuer.now c.args.at _ c.args.below.now.items
 
 -- ---- payloads in their periods
@@ -215,10 +215,10 @@ returns-clause-held g c = λ published known.
       c.content.ensures,
       c.manifest.ensures,
     ) at (c.in_ok-octets.ensures published known) in
-    files-held p.rsa_of p.ecdsa_of p.sha1_of p.sha256_of published issuer c.args.at point
+    files-held p published issuer c.args.at point
     (c.in_ok-publication.ensures published known) c.in_ok-list.ensures.exactly os all.holds c.in_ok-list.list
     c.in_ok-list.ensures.list old new
-    (subst (λ (fs : List ListedFile). AddsHeldFiles p.rsa_of p.ecdsa_of p.sha1_of p.sha256_of c.in_ok-list.list fs os
+    (subst (λ (fs : List ListedFile). AddsHeldFiles p c.in_ok-list.list fs os
     old new) files c.in_ok-add_files.ensures.held)
 
 pub returns-in_err-add_files-clause-held : goal.returns-in_err-add_files-clause-held
@@ -227,17 +227,17 @@ returns-in_err-add_files-clause-held g c = tried-memory _ _ _ c.from_residual-in
 pub returns-in_err-publication-clause-held : goal.returns-in_err-publication-clause-held
 returns-in_err-publication-clause-held g c =
     let p = g.P.Provider in
-    held-never p.rsa_of p.ecdsa_of p.sha1_of p.sha256_of (g.S.Snapshot.holds c.args.snapshot.now)
+    held-never p (g.S.Snapshot.holds c.args.snapshot.now)
     c.args.issuer.now c.args.at _ c.args.outcome.now
 
 pub returns-in_err-list-clause-held : goal.returns-in_err-list-clause-held
 returns-in_err-list-clause-held g c =
     let p = g.P.Provider in
-    held-never p.rsa_of p.ecdsa_of p.sha1_of p.sha256_of (g.S.Snapshot.holds c.args.snapshot.now)
+    held-never p (g.S.Snapshot.holds c.args.snapshot.now)
     c.args.issuer.now c.args.at _ c.args.outcome.now
 
 pub returns-in_err-octets-clause-held : goal.returns-in_err-octets-clause-held
 returns-in_err-octets-clause-held g c =
     let p = g.P.Provider in
-    held-never p.rsa_of p.ecdsa_of p.sha1_of p.sha256_of (g.S.Snapshot.holds c.args.snapshot.now)
+    held-never p (g.S.Snapshot.holds c.args.snapshot.now)
     c.args.issuer.now c.args.at _ c.args.outcome.now

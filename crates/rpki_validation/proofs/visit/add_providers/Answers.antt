@@ -19,7 +19,7 @@ pub returns-in_err-value-clause-said : goal.returns-in_err-value-clause-said
 returns-in_err-value-clause-said g c =
     let p = g.P.Provider in
     tried-memory _ _ _ c.from_residual.ensures
-    (no-providers p.rsa_of p.ecdsa_of p.sha1_of p.sha256_of c.args.list.now c.args.octets _ _
+    (no-providers p c.args.list.now c.args.octets _ _
     (values c.args.providers.now.items) c.in_err-value.ensures)
 
 pub returns-in_err-value-clause-held : goal.returns-in_err-value-clause-held
@@ -33,10 +33,10 @@ returns-clause-said g c =
     let p = g.P.Provider in
     let old = c.args.providers.now.items in
     let value = c.in_ok-value.value in
-    let found = providers-found p.rsa_of p.ecdsa_of p.sha1_of p.sha256_of c.args.list.now c.args.octets value
+    let found = providers-found p c.args.list.now c.args.octets value
     c.in_ok-value.ensures (values old) in
     subst
-    (λ (l : List (TypedParts AspaParts)). AddsProvidersHere p.rsa_of p.ecdsa_of p.sha1_of p.sha256_of c.args.list.now
+    (λ (l : List (TypedParts AspaParts)). AddsProvidersHere p c.args.list.now
     c.args.octets (values old) l)
     (sym (ap (λ (l : List (Payload (TypedParts AspaParts))). values l) c.in_ok-push.ensures.items
     ∙ values-push c.period_of-period.result old (value ∷ []))) found
@@ -47,7 +47,7 @@ returns-clause-held g c =
     let old = c.args.providers.now.items in
     let value = c.in_ok-value.value in
     let cert = c.cert.ensures ∙ ap (λ (x : ObjectParts). x.cert) c.object.ensures in
-    let Said = IsSaidHere p.rsa_of p.ecdsa_of p.sha1_of p.sha256_of c.args.list.now SaysProvidersBy c.args.octets in
+    let Said = IsSaidHere p c.args.list.now SaysProvidersBy c.args.octets in
     subst (λ (l : List (Payload (TypedParts AspaParts))). AddsOnly Said old l) (sym c.in_ok-push.ensures.items)
     (adds-one Said old (in_period c.period_of-period.result value) (
       value.object.cert,

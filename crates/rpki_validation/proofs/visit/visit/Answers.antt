@@ -24,10 +24,10 @@ returns-in-Err-Rejected-clause-rejected g c =
     let new = c.reject_point.new.rejections.items in
     let same = rw c.in-Err-Rejected.field-0-is at c.in-Err-Rejected.ensures.same in
     ok-map (AddsNote (IsPointNote issuer.cert.tbs c.in-Err-Rejected.reason) now new)
-    (RejectsOf p.rsa_of p.ecdsa_of p.sha1_of p.sha256_of known issuer c.args.at old new) c.reject_point.result
+    (RejectsOf p known issuer c.args.at old new) c.reject_point.result
     (λ note published e.
     let why = rw c.in-Err-Rejected.field-0-is at c.in-Err-Rejected.ensures.rejected published e in
-    point-rejected p.rsa_of p.ecdsa_of p.sha1_of p.sha256_of published issuer c.args.at c.in-Err-Rejected.reason why.0
+    point-rejected p published issuer c.args.at c.in-Err-Rejected.reason why.0
     why.1 now old new same note) c.reject_point.ensures
 
 pub returns-in-Err-Rejected-clause-held : goal.returns-in-Err-Rejected-clause-held

@@ -11,7 +11,7 @@ returns-clause-looks g c =
     let visit = c.in_ok-visit.ensures in
     ok-map _ _ c.add_all.result (λ x adds published known.
     let held = visit.held published known in
-    looks-one published (basis_of p.rsa_of p.ecdsa_of p.sha1_of p.sha256_of issuer c.args.at) c.args.is_named issuer
+    looks-one published (basis_of p issuer c.args.at) c.args.is_named issuer
     c.args.at refl c.in_ok-place.place (c.in_ok-place.ensures published known) c.new-below.result.items
     c.visit.new.below.items c.new-below.ensures.items c.args.waiting.now c.add_all.new.waiting c.args.outcome.now
     c.visit.new.outcome (visit.origins published known) (visit.providers published known)

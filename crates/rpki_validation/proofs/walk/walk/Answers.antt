@@ -16,7 +16,7 @@ turns-init g c =
     record {
       sisters = start-sisters anchor c.args.at c.add.new.self c.requires.period c.requires.depth adds;
       walked = λ published known uris sole.
-          walked-start published (basis_of p.rsa_of p.ecdsa_of p.sha1_of p.sha256_of anchor c.args.at) uris anchor sole
+          walked-start published (basis_of p anchor c.args.at) uris anchor sole
           c.new-looked.result c.new-outcome.result c.add.new.self c.new-looked.ensures.named
           c.new-looked.ensures.places c.new-outcome.ensures.origins c.new-outcome.ensures.providers
           c.new-outcome.ensures.routers c.new-outcome.ensures.rejections c.requires.depth c.requires.own adds;
@@ -25,7 +25,7 @@ turns-init g c =
 pub returns-in_default : goal.returns-in_default
 returns-in_default g c = λ published known uris sole.
     let p = g.P.Provider in
-    walked-all published (basis_of p.rsa_of p.ecdsa_of p.sha1_of p.sha256_of c.args.anchor c.args.at) uris c.args.anchor
+    walked-all published (basis_of p c.args.anchor c.args.at) uris c.args.anchor
     sole c.turns.waiting c.turns.looked c.turns.outcome (c.turns.invariant.walked published known uris sole)
     c.in_default.ensures.none
 
@@ -40,7 +40,7 @@ turns-preserved g c =
     let p = g.P.Provider in
     let anchor = c.args.anchor in
     let at = c.args.at in
-    let basis = basis_of p.rsa_of p.ecdsa_of p.sha1_of p.sha256_of anchor at in
+    let basis = basis_of p anchor at in
     let a = c.in-Some.authority in
     let b = c.in-Some.is_named in
     let old = c.turns.waiting in
@@ -60,7 +60,7 @@ turns-preserved g c =
             walked = λ published known uris sole.
                 looked-at published basis uris anchor sole a old rest c.turns.looked c.insert.new.self c.turns.outcome
                 w.look_at.new.waiting w.look_at.new.outcome b
-                (looks-under p.rsa_of p.ecdsa_of p.sha1_of p.sha256_of published at anchor.terms anchor.provider b a
+                (looks-under p published at anchor.terms anchor.provider b a
                 rest w.look_at.new.waiting c.turns.outcome w.look_at.new.outcome sister.terms_are sister.provider_is
                 (looks.looks published known)) sister.terms_are
                 (deep-sisters anchor.terms anchor.provider at a b old rest first before.sisters w.look_at.new.waiting

@@ -15,7 +15,7 @@ abbrev pub invariant-turns : goal.invariant-turns
 invariant-turns g l =
     let p = g.P.Provider in
     let anchor = l.fn.anchor in
-    let basis = basis_of p.rsa_of p.ecdsa_of p.sha1_of p.sha256_of anchor l.at in
+    let basis = basis_of p anchor l.at in
     record {
       sisters : (e : Entry g.row.P.Denot) → Contains l.waiting e
           → IsSister anchor.terms anchor.provider l.at e.1.depth e.1;

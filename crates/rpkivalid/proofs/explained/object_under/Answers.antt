@@ -9,8 +9,7 @@ use Rattle.rpkivalid.proofs.explained.object_under.Goals as goal
 pub returns : goal.returns
 returns g c =
     let by = g.P.Provider in
-    let basis = basis_with by.rsa_of by.ecdsa_of by.sha1_of by.sha256_of c.args.provider.now c.args.strictness c.args.at
-    c.args.depth in
+    let basis = basis_with by c.args.provider.now c.args.strictness c.args.at c.args.depth in
     record {
       found = c.in_ok-found.found;
       found_is = c.in_ok-found.ensures;

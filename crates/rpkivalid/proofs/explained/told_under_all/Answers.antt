@@ -9,8 +9,7 @@ use Rattle.rpkivalid.proofs.explained.told_under_all.Goals as goal
 
 pub locators-preserved : goal.locators-preserved
 locators-preserved g c =
-    let basis = basis_with g.P.Provider.rsa_of g.P.Provider.ecdsa_of g.P.Provider.sha1_of g.P.Provider.sha256_of
-    c.args.provider.now c.args.strictness c.args.at c.args.depth in
+    let basis = basis_with g.P.Provider c.args.provider.now c.args.strictness c.args.at c.args.depth in
     let R = IsToldOf (g.S.Sources.holds c.args.sources.now) c.args.folder.now c.args.strictness basis
     c.args.question.now in
     let all = map named_of c.args.locators.now in
@@ -22,8 +21,7 @@ locators-preserved g c =
 
 pub returns-clause-told : goal.returns-clause-told
 returns-clause-told g c =
-    let basis = basis_with g.P.Provider.rsa_of g.P.Provider.ecdsa_of g.P.Provider.sha1_of g.P.Provider.sha256_of
-    c.args.provider.now c.args.strictness c.args.at c.args.depth in
+    let basis = basis_with g.P.Provider c.args.provider.now c.args.strictness c.args.at c.args.depth in
     let R = IsToldOf (g.S.Sources.holds c.args.sources.now) c.args.folder.now c.args.strictness basis
     c.args.question.now in
     told-end R (map named_of c.args.locators.now) (map named_of c.locators.rest.now) c.locators.text.items

@@ -8,8 +8,8 @@ use Rattle.rpkivalid.proofs.explained.told_under_all.Given as goal
 -- this text is what is said under the locators in front of the rest
 abbrev pub invariant-locators : goal.invariant-locators
 invariant-locators g l =
-    IsToldUpTo (IsToldOf (g.S.Sources.holds l.sources) l.folder l.strictness (basis_with g.P.Provider.rsa_of
-    g.P.Provider.ecdsa_of g.P.Provider.sha1_of g.P.Provider.sha256_of l.provider l.strictness l.at l.depth) l.question)
+    IsToldUpTo (IsToldOf (g.S.Sources.holds l.sources) l.folder l.strictness
+    (basis_with g.P.Provider l.provider l.strictness l.at l.depth) l.question)
     (map named_of l.locators) (map named_of l.rest) l.text.items l.have_anchors
 
 abbrev pub decreases-locators : goal.decreases-locators

@@ -25,8 +25,7 @@ returns-in_ok-payloads-in-Ok-clause-found g c =
     let told = c.in_ok-payloads-in-Ok.ensures in
     let named = told.name ∙ c.as_str-in-Ok.ensures.value ∙ sym c.as_str.ensures.value in
     found-valid (g.S.Sources.holds c.args.sources.now) c.args.folder.now
-    (basis_with g.P.Provider.rsa_of g.P.Provider.ecdsa_of g.P.Provider.sha1_of g.P.Provider.sha256_of
-    c.args.provider.now c.args.strictness c.args.at c.args.depth)
+    (basis_with g.P.Provider c.args.provider.now c.args.strictness c.args.at c.args.depth)
     (named_of c.args.named.now) payloads _ _ c.as_str.ensures.value c.as_slice-uris.ensures.value named
     c.in-Ok.outcome.origins.items (values c.in-Ok.outcome.providers.items) (values c.in-Ok.outcome.routers.items)
     (subst (λ (o : List (Payload RouteOrigin)). AreOrigins (values o) payloads.vrps) c.as_slice-in-Ok.ensures.value
@@ -56,8 +55,7 @@ returns-in_ok-payloads-in-Err-Rejected-clause-found g c =
     let told = c.in_ok-payloads-in-Err-Rejected.ensures in
     let named = told.name ∙ c.as_str-in-Err-Rejected-2.ensures.value ∙ sym c.as_str.ensures.value in
     found-none (g.S.Sources.holds c.args.sources.now) c.args.folder.now
-    (basis_with g.P.Provider.rsa_of g.P.Provider.ecdsa_of g.P.Provider.sha1_of g.P.Provider.sha256_of
-    c.args.provider.now c.args.strictness c.args.at c.args.depth)
+    (basis_with g.P.Provider c.args.provider.now c.args.strictness c.args.at c.args.depth)
     (named_of c.args.named.now) payloads _ _ c.as_str.ensures.value c.as_slice-uris.ensures.value named told.vrps
     told.timed told.pairs told.keys
     (λ published k. let h = rw c.in-Err-Rejected.field-0-is at c.in-Err-Rejected.ensures published k in h.0)

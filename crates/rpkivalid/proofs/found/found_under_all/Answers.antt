@@ -14,8 +14,7 @@ locators-init g c =
 
 pub locators-preserved : goal.locators-preserved
 locators-preserved g c =
-    let basis = basis_with g.P.Provider.rsa_of g.P.Provider.ecdsa_of g.P.Provider.sha1_of g.P.Provider.sha256_of
-    c.args.provider.now c.args.strictness c.args.at c.args.depth in
+    let basis = basis_with g.P.Provider c.args.provider.now c.args.strictness c.args.at c.args.depth in
     let R = IsFoundIn (g.S.Sources.holds c.args.sources.now) c.args.folder.now basis in
     let T = IsReportIn (g.S.Sources.holds c.args.sources.now) c.args.folder.now basis in
     let all = map named_of c.args.locators.now in
@@ -34,18 +33,16 @@ locators-preserved g c =
 
 pub returns-clause-found : goal.returns-clause-found
 returns-clause-found g c =
-    let R = IsFoundIn (g.S.Sources.holds c.args.sources.now) c.args.folder.now (basis_with g.P.Provider.rsa_of
-    g.P.Provider.ecdsa_of g.P.Provider.sha1_of g.P.Provider.sha256_of c.args.provider.now c.args.strictness c.args.at
-    c.args.depth) in
+    let R = IsFoundIn (g.S.Sources.holds c.args.sources.now) c.args.folder.now
+    (basis_with g.P.Provider c.args.provider.now c.args.strictness c.args.at c.args.depth) in
     found-end R (map named_of c.args.locators.now) (map named_of c.locators.rest.now) c.locators.payloads.items
     c.locators.have_anchors (length-map c.locators.rest.now named_of ∙ c.in_default.ensures.cases)
     c.locators.invariant.0
 
 pub returns-clause-told : goal.returns-clause-told
 returns-clause-told g c =
-    let T = IsReportIn (g.S.Sources.holds c.args.sources.now) c.args.folder.now (basis_with g.P.Provider.rsa_of
-    g.P.Provider.ecdsa_of g.P.Provider.sha1_of g.P.Provider.sha256_of c.args.provider.now c.args.strictness c.args.at
-    c.args.depth) in
+    let T = IsReportIn (g.S.Sources.holds c.args.sources.now) c.args.folder.now
+    (basis_with g.P.Provider c.args.provider.now c.args.strictness c.args.at c.args.depth) in
     told-end T (map named_of c.args.locators.now) (map named_of c.locators.rest.now) c.locators.report.items
     c.locators.have_anchors (length-map c.locators.rest.now named_of ∙ c.in_default.ensures.cases)
     c.locators.invariant.1

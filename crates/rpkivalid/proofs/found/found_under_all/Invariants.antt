@@ -9,11 +9,11 @@ use Rattle.rpkivalid.proofs.found.found_under_all.Given as goal
 -- these payloads are those under the locators in front of the rest, of which this is told
 abbrev pub invariant-locators : goal.invariant-locators
 invariant-locators g l =
-    IsUpTo (IsFoundIn (g.S.Sources.holds l.sources) l.folder (basis_with g.P.Provider.rsa_of g.P.Provider.ecdsa_of
-    g.P.Provider.sha1_of g.P.Provider.sha256_of l.provider l.strictness l.at l.depth)) (map named_of l.locators)
+    IsUpTo (IsFoundIn (g.S.Sources.holds l.sources) l.folder
+    (basis_with g.P.Provider l.provider l.strictness l.at l.depth)) (map named_of l.locators)
     (map named_of l.rest) l.payloads.items l.have_anchors
-    × IsToldUpTo (IsReportIn (g.S.Sources.holds l.sources) l.folder (basis_with g.P.Provider.rsa_of
-    g.P.Provider.ecdsa_of g.P.Provider.sha1_of g.P.Provider.sha256_of l.provider l.strictness l.at l.depth))
+    × IsToldUpTo (IsReportIn (g.S.Sources.holds l.sources) l.folder
+    (basis_with g.P.Provider l.provider l.strictness l.at l.depth))
     (map named_of l.locators) (map named_of l.rest) l.report.items l.have_anchors
 
 abbrev pub decreases-locators : goal.decreases-locators

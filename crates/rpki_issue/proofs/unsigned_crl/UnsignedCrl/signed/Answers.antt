@@ -1,5 +1,6 @@
 use Rattle.std.proofs.Common.{ℕ, List, sym, subst, IfOk}
 use Rattle.rpki_der.specs.Prelude.{IsValue}
+use Rattle.rpki.specs.Checkers.{checkers_of}
 use Rattle.rpki_crl.specs.Crl.{list_of}
 use Rattle.rpki_crl.specs.EncodedCrl.{list_octets, normal_list}
 use Rattle.rpki_crl.proofs.ListValueLaws.{list-value}
@@ -15,10 +16,9 @@ sign-requires g c =
 
 pub returns-clause-ok : goal.returns-clause-ok
 returns-clause-ok g c =
-    let rsa = g.P.Provider.rsa_of c.args.provider.now in
-    let ecdsa = g.P.Provider.ecdsa_of c.args.provider.now in
+    let by = checkers_of g.P.Provider c.args.provider.now in
     let made : ListToSign = record { octets = c.self.inside.octets; list = list_of c.self.inside.list } in
     let key = c.args.key.now in
     let value = c.args.signature in
-    subst (λ (m : ListToSign). IfOk c.sign.result (λ w. IsIssuedList rsa ecdsa key m value w)) c.self.view_is
-    (issued-list rsa ecdsa key made value c.sign.result c.self.invariant c.sign.ensures.ok)
+    subst (λ (m : ListToSign). IfOk c.sign.result (λ w. IsIssuedList by key m value w)) c.self.view_is
+    (issued-list by key made value c.sign.result c.self.invariant c.sign.ensures.ok)

@@ -1,4 +1,5 @@
 use Rattle.std.proofs.Common.{sym, subst, ap, ◌∙◌, refl}
+use Rattle.rpki.specs.Checkers.{checkers_of}
 use Rattle.rpki.specs.PublicKey.{KeyParts}
 use Rattle.rpki_attributes.specs.SignedAttributes.{AttributeValues, values_known}
 use Rattle.rpki_cert.specs.Cert.{TbsParts}
@@ -14,10 +15,10 @@ returns-in-Err-verify-clause-err g c =
     let key = c.subject_public_key_info-key.ensures ∙ ap (λ (t : TbsParts). t.key) c.tbs.ensures in
     let message = c.as_slice.ensures ∙ ap (λ (m : ObjectToSign). m.message) c.self.view_is in
     let value = ap (λ s. s.value) c.new-signature.ensures in
-    signature-refused (p.rsa_of provider) (p.ecdsa_of provider) (p.sha1_of provider) c.args.self c.args.certificate.now
+    signature-refused (checkers_of p provider) c.args.self c.args.certificate.now
     c.args.signature cert c.in-Ok.ensures.ok (λ h.
     let verified = c.in-Err-verify.ensures.1
-    (moved (p.rsa_of provider) (p.ecdsa_of provider) cert.tbs.key c.subject_public_key_info-key.result.now
+    (moved (checkers_of p provider) cert.tbs.key c.subject_public_key_info-key.result.now
     c.args.self.message c.as_slice.result.now c.args.signature c.new-signature.result.value (sym key) (sym message)
     (sym value) h) in
     let none : ⊥ = cc in
@@ -33,14 +34,14 @@ returns-in-Ok-write_object-clause-ok g c =
     let message = c.as_slice.ensures ∙ ap (λ (m : ObjectToSign). m.message) c.self.view_is in
     let value = ap (λ s. s.value) c.new-signature.ensures in
     let said = ap (λ (m : ObjectToSign). m.attributes) c.self.view_is in
-    let same = built-same (p.rsa_of provider) (p.ecdsa_of provider) (p.sha1_of provider) c.args.self
+    let same = built-same (checkers_of p provider) c.args.self
     c.args.certificate.now c.args.signature cert one (values_known c.self.inside.attributes) c.self.inside.content.now
     c.key_identifier.result c.as_slice-2.result.now said (ap (λ (m : ObjectToSign). m.content) c.self.view_is)
     (c.key_identifier.ensures.value ∙ ap (λ (k : KeyParts). p.sha1_of provider k.bits.octets) key)
     (c.as_slice-2.ensures ∙ c.value.ensures ∙ value) in
-    object-issued (p.rsa_of provider) (p.ecdsa_of provider) (p.sha1_of provider) c.args.self c.args.certificate.now
+    object-issued (checkers_of p provider) c.args.self c.args.certificate.now
     c.args.signature cert one _ same c.in-Ok-write_object.made
-    (moved (p.rsa_of provider) (p.ecdsa_of provider) c.subject_public_key_info-key.result.now cert.tbs.key
+    (moved (checkers_of p provider) c.subject_public_key_info-key.result.now cert.tbs.key
     c.as_slice.result.now c.args.self.message c.new-signature.result.value c.args.signature key message value
     (c.in-Ok-verify.ensures.0 refl))
     c.in-Ok-write_object.ensures.ok c.in-Ok-write_object.ensures.read
@@ -55,10 +56,10 @@ returns-clause-err g c =
     let key = c.subject_public_key_info-key.ensures ∙ ap (λ (t : TbsParts). t.key) c.tbs.ensures in
     let value = ap (λ s. s.value) c.new-signature.ensures in
     let said = ap (λ (m : ObjectToSign). m.attributes) c.self.view_is in
-    let same = built-same (p.rsa_of provider) (p.ecdsa_of provider) (p.sha1_of provider) c.args.self
+    let same = built-same (checkers_of p provider) c.args.self
     c.args.certificate.now c.args.signature cert one (values_known c.self.inside.attributes) c.self.inside.content.now
     c.key_identifier.result c.as_slice-2.result.now said (ap (λ (m : ObjectToSign). m.content) c.self.view_is)
     (c.key_identifier.ensures.value ∙ ap (λ (k : KeyParts). p.sha1_of provider k.bits.octets) key)
     (c.as_slice-2.ensures ∙ c.value.ensures ∙ value) in
-    build-refused (p.rsa_of provider) (p.ecdsa_of provider) (p.sha1_of provider) c.args.self c.args.certificate.now
+    build-refused (checkers_of p provider) c.args.self c.args.certificate.now
     c.args.signature cert one _ same c.in-Err-write_object.e c.in-Err-write_object.ensures.err

@@ -1,10 +1,11 @@
 use Rattle.std.proofs.Common.{◌≡◌, true, false, sym, refl, ◌∙◌}
-use Rattle.rpki_text.proofs.TextLaws.{false-unless, same_text-length, same_text-front, same_text-other}
+use Rattle.std.proofs.lemmas.Bool.{false_from_ne_true}
+use Rattle.rpki_text.proofs.TextLaws.{same_text-length, same_text-front, same_text-other}
 use Rattle.rpki_text.proofs.uri.characters.same_but_case.Goals as goal
 
 pub returns-then-text-other : goal.returns-then-text-other
 returns-then-text-other c =
-    sym (false-unless _ (λ e. let l = same_text-length c.args.len c.args.text.now c.args.other.now e in
+    sym (false_from_ne_true _ (λ e. let l = same_text-length c.args.len c.args.text.now c.args.other.now e in
     c.if-text-other.true l))
 
 pub returns-then-eq_ignore_ascii_case : goal.returns-then-eq_ignore_ascii_case

@@ -15,7 +15,7 @@ returns-in_err-resources-clause-err g c = tried-error _ _ _ c.from_residual-in_e
 pub of_parts-requires : goal.of_parts-requires
 of_parts-requires g c = λ m h.
     let s = c.args.self.now in
-    let v = verified_by g.P.Provider.rsa_of g.P.Provider.ecdsa_of g.P.Provider.sha1_of s.issuer in
+    let v = verified_by g.P.Provider s.issuer in
     let holds = (rw (c.validity.ensures, c.tbs.ensures) at c.trim-period.ensures.holds m).0 h in
     let above = (c.period.ensures m).0 holds.0 in
     rw (

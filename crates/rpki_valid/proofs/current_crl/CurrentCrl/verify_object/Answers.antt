@@ -6,16 +6,14 @@ use Rattle.rpki_valid.proofs.current_crl.CurrentCrl.verify_object.Goals as goal
 
 pub returns-in_err-verify_object_signature-clause-exactly : goal.returns-in_err-verify_object_signature-clause-exactly
 returns-in_err-verify_object_signature-clause-exactly g c =
-    let v = verified_by g.P.Provider.rsa_of g.P.Provider.ecdsa_of g.P.Provider.sha1_of c.args.self.now.issuer in
-    let sha256 = g.P.Provider.sha256_of c.args.self.now.issuer.provider in
+    let v = verified_by g.P.Provider c.args.self.now.issuer in
     let unsigned = rw (c.provider.ensures, c.issuer.ensures.value) at c.in_err-verify_object_signature.ensures in
     tried-fault _ _ _ _ c.from_residual.ensures
-    (not-signed (Some c.args.self.now.list) sha256 v c.args.self.now.at c.args.object.now _ unsigned)
+    (not-signed (Some c.args.self.now.list) v c.args.self.now.at c.args.object.now _ unsigned)
 
 pub returns-clause-exactly : goal.returns-clause-exactly
 returns-clause-exactly g c =
-    let v = verified_by g.P.Provider.rsa_of g.P.Provider.ecdsa_of g.P.Provider.sha1_of c.args.self.now.issuer in
-    let sha256 = g.P.Provider.sha256_of c.args.self.now.issuer.provider in
+    let v = verified_by g.P.Provider c.args.self.now.issuer in
     let signed = rw (c.provider.ensures, c.issuer.ensures.value) at c.in_ok-verify_object_signature.ensures in
     let cert = rw c.cert.ensures at c.verify_ee.ensures.exactly in
-    cert-decides (Some c.args.self.now.list) sha256 v c.args.self.now.at c.args.object.now _ signed cert
+    cert-decides (Some c.args.self.now.list) v c.args.self.now.at c.args.object.now _ signed cert

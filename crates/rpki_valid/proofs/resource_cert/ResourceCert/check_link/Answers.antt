@@ -16,19 +16,19 @@ verify_path-requires g c =
 
 pub returns-clause-exactly : goal.returns-clause-exactly
 returns-clause-exactly g c =
-    let v = verified_by g.P.Provider.rsa_of g.P.Provider.ecdsa_of g.P.Provider.sha1_of c.args.self.now in
+    let v = verified_by g.P.Provider c.args.self.now in
     profile-then c.args.profile (option_copied c.args.list) v c.args.at c.args.cert.now c.verify_path.result
     (rw (c.tbs.ensures, c.strictness.ensures) at c.in_ok-inspect.ensures) c.verify_path.ensures.exactly
 
 pub returns-clause-within : goal.returns-clause-within
 returns-clause-within g c =
-    let v = verified_by g.P.Provider.rsa_of g.P.Provider.ecdsa_of g.P.Provider.sha1_of c.args.self.now in
+    let v = verified_by g.P.Provider c.args.self.now in
     within-then c.args.profile (option_copied c.args.list) v c.args.at c.args.cert.now c.verify_path.result
     c.verify_path.ensures.exactly
 
 pub returns-in_err-inspect-clause-exactly : goal.returns-in_err-inspect-clause-exactly
 returns-in_err-inspect-clause-exactly g c =
-    let v = verified_by g.P.Provider.rsa_of g.P.Provider.ecdsa_of g.P.Provider.sha1_of c.args.self.now in
+    let v = verified_by g.P.Provider c.args.self.now in
     tried-fault _ _ _ _ c.from_residual.ensures
     (profile-else c.args.profile (option_copied c.args.list) v c.args.at c.args.cert.now _
     (rw (c.tbs.ensures, c.strictness.ensures) at c.in_err-inspect.ensures))

@@ -13,7 +13,7 @@ returns-in_err-resources-clause-err g c = tried-error _ _ _ c.from_residual-in_e
 
 pub of_parts-requires : goal.of_parts-requires
 of_parts-requires g c = λ m h.
-    let v = verified_by g.P.Provider.rsa_of g.P.Provider.ecdsa_of g.P.Provider.sha1_of c.args.self.now in
+    let v = verified_by g.P.Provider c.args.self.now in
     let holds = rw (c.period.ensures, c.validity.ensures, c.tbs.ensures) at c.trim-period.ensures.holds m in
     let both = holds.0 h in
     rw (c.provider-provider.ensures, c.terms-terms.ensures) (unlisted-at v c.args.at m c.args.cert None

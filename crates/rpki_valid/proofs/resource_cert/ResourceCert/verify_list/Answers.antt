@@ -5,7 +5,7 @@ use Rattle.rpki_valid.proofs.resource_cert.ResourceCert.verify_list.Goals as goa
 
 pub returns-in_err-verify_signature : goal.returns-in_err-verify_signature
 returns-in_err-verify_signature g c =
-    let v = verified_by g.P.Provider.rsa_of g.P.Provider.ecdsa_of g.P.Provider.sha1_of c.args.self.now in
+    let v = verified_by g.P.Provider c.args.self.now in
     let holds = rw c.period.ensures at c.in_ok-verify_period.ensures in
     let signed = rw (
       c.with_key-provider.ensures,
@@ -22,7 +22,7 @@ returns-in_err-verify_signature g c =
 
 pub returns-in_err-verify_out : goal.returns-in_err-verify_out
 returns-in_err-verify_out g c =
-    let v = verified_by g.P.Provider.rsa_of g.P.Provider.ecdsa_of g.P.Provider.sha1_of c.args.self.now in
+    let v = verified_by g.P.Provider c.args.self.now in
     let holds = rw c.period.ensures at c.in_ok-verify_period.ensures in
     let signed = rw (
       c.with_key-provider.ensures,

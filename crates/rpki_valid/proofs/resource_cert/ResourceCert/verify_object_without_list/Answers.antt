@@ -6,16 +6,14 @@ use Rattle.rpki_valid.proofs.resource_cert.ResourceCert.verify_object_without_li
 
 pub returns-in_err-verify_object_signature-clause-exactly : goal.returns-in_err-verify_object_signature-clause-exactly
 returns-in_err-verify_object_signature-clause-exactly g c =
-    let v = verified_by g.P.Provider.rsa_of g.P.Provider.ecdsa_of g.P.Provider.sha1_of c.args.self.now in
-    let sha256 = g.P.Provider.sha256_of c.args.self.now.provider in
+    let v = verified_by g.P.Provider c.args.self.now in
     let unsigned = rw c.provider.ensures at c.in_err-verify_object_signature.ensures in
     tried-fault _ _ _ _ c.from_residual.ensures
-    (not-signed None sha256 v c.args.at c.args.object.now _ unsigned)
+    (not-signed None v c.args.at c.args.object.now _ unsigned)
 
 pub returns-clause-exactly : goal.returns-clause-exactly
 returns-clause-exactly g c =
-    let v = verified_by g.P.Provider.rsa_of g.P.Provider.ecdsa_of g.P.Provider.sha1_of c.args.self.now in
-    let sha256 = g.P.Provider.sha256_of c.args.self.now.provider in
+    let v = verified_by g.P.Provider c.args.self.now in
     let signed = rw c.provider.ensures at c.in_ok-verify_object_signature.ensures in
     let cert = rw c.cert.ensures at c.verify_ee_without_list.ensures.exactly in
-    cert-decides None sha256 v c.args.at c.args.object.now _ signed cert
+    cert-decides None v c.args.at c.args.object.now _ signed cert

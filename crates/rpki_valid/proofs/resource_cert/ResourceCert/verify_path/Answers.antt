@@ -6,14 +6,14 @@ use Rattle.rpki_valid.proofs.resource_cert.ResourceCert.verify_path.Goals as goa
 
 pub returns-in_err-verify_period-clause-exactly : goal.returns-in_err-verify_period-clause-exactly
 returns-in_err-verify_period-clause-exactly g c =
-    let v = verified_by g.P.Provider.rsa_of g.P.Provider.ecdsa_of g.P.Provider.sha1_of c.args.self.now in
+    let v = verified_by g.P.Provider c.args.self.now in
     tried-fault _ _ _ _ c.from_residual.ensures
     (off-period (option_copied c.args.list) v c.args.at c.args.cert.now _ (rw c.period.ensures at
     c.in_err-verify_period.ensures))
 
 pub returns-in_err-verify_issued_by-clause-exactly : goal.returns-in_err-verify_issued_by-clause-exactly
 returns-in_err-verify_issued_by-clause-exactly g c =
-    let v = verified_by g.P.Provider.rsa_of g.P.Provider.ecdsa_of g.P.Provider.sha1_of c.args.self.now in
+    let v = verified_by g.P.Provider c.args.self.now in
     let holds = rw c.period.ensures at c.in_ok-verify_period.ensures in
     let issued = rw (c.with_key-provider.ensures, c.tbs-issuer.ensures, c.cert-authority.ensures.value)
     at c.in_err-verify_issued_by.ensures in
@@ -22,7 +22,7 @@ returns-in_err-verify_issued_by-clause-exactly g c =
 
 pub returns-in_err-verify_unrevoked-clause-exactly : goal.returns-in_err-verify_unrevoked-clause-exactly
 returns-in_err-verify_unrevoked-clause-exactly g c =
-    let v = verified_by g.P.Provider.rsa_of g.P.Provider.ecdsa_of g.P.Provider.sha1_of c.args.self.now in
+    let v = verified_by g.P.Provider c.args.self.now in
     let holds = rw c.period.ensures at c.in_ok-verify_period.ensures in
     let issued = rw (c.with_key-provider.ensures, c.tbs-issuer.ensures, c.cert-authority.ensures.value)
     at c.in_ok-verify_issued_by.ensures in
@@ -32,7 +32,7 @@ returns-in_err-verify_unrevoked-clause-exactly g c =
 
 pub returns-clause-exactly : goal.returns-clause-exactly
 returns-clause-exactly g c =
-    let v = verified_by g.P.Provider.rsa_of g.P.Provider.ecdsa_of g.P.Provider.sha1_of c.args.self.now in
+    let v = verified_by g.P.Provider c.args.self.now in
     let holds = rw c.period.ensures at c.in_ok-verify_period.ensures in
     let issued = rw (c.with_key-provider.ensures, c.tbs-issuer.ensures, c.cert-authority.ensures.value)
     at c.in_ok-verify_issued_by.ensures in

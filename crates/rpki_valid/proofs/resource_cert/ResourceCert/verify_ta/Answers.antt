@@ -1,7 +1,8 @@
 use Rattle.rpki_der.proofs.TriedLaws.{tried-error}
 use Rattle.std.proofs.Common.{Some}
 use Rattle.rpki_valid.specs.declared.staleness.Staleness.TheVariants.{Refused}
-use Rattle.rpki_valid.specs.Verified.{checkers_of, holder, terms_of}
+use Rattle.rpki.specs.Checkers.{checkers_of}
+use Rattle.rpki_valid.specs.Verified.{holder, terms_of}
 use Rattle.rpki_valid.proofs.VerifiedLaws.{root-at}
 use Rattle.rpki_valid.proofs.resource_cert.ResourceCert.verify_ta.Goals as goal
 
@@ -11,7 +12,7 @@ returns-in_err-resources-clause-err g c = tried-error _ _ _ c.from_residual.ensu
 pub of_parts-requires : goal.of_parts-requires
 of_parts-requires g c = λ m h.
     let p = c.args.provider.now in
-    let by = checkers_of (g.P.Provider.rsa_of p) (g.P.Provider.ecdsa_of p) (g.P.Provider.sha1_of p) in
+    let by = checkers_of g.P.Provider p in
     let terms = terms_of c.args.terms.key.now c.args.terms.strictness c.args.terms.deepest in
     root-at terms (Some Refused) by c.args.at m (holder c.args.cert c.in_ok-resources.resources)
     c.in_ok-resources.ensures

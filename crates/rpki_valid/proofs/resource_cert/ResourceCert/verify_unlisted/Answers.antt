@@ -4,6 +4,6 @@ use Rattle.rpki_valid.proofs.resource_cert.ResourceCert.verify_unlisted.Goals as
 
 pub returns-clause-path : goal.returns-clause-path
 returns-clause-path g c =
-    let v = verified_by g.P.Provider.rsa_of g.P.Provider.ecdsa_of g.P.Provider.sha1_of c.args.self.now in
+    let v = verified_by g.P.Provider c.args.self.now in
     unlisted-of c.args.profile v c.args.at c.args.cert.now c.check_link.result c.check_link.ensures.verified
     c.check_link.ensures.exactly

@@ -11,10 +11,10 @@ use Rattle.base64.specs.declared.decode.DecodeAllocError.{DecodeAllocError}
 use Rattle.base64.specs.declared.decode.DecodeAllocError.TheVariants.{DecodeError as Failed, OutOfMemory as NoMemory}
 use Rattle.base64.specs.Engines.{standard, url_safe_no_pad_indifferent}
 use Rattle.base64.specs.GeneralPurpose.{decode_of, encode_of}
-use Rattle.rpki_text.specs.declared.util.base_64.Base64Error.{Base64Error}
-use Rattle.rpki_text.specs.declared.util.base_64.Base64Error.TheVariants.{Refused, OutOfMemory}
-use Rattle.rpki_text.specs.declared.util.base_64.SlurmDisplay.{SlurmDisplay}
-use Rattle.rpki_text.specs.declared.util.base_64.XmlDecodeError.{XmlDecodeError}
+use Rattle.rpki_base64.specs.declared.flavours.Base64Error.{Base64Error}
+use Rattle.rpki_base64.specs.declared.flavours.Base64Error.TheVariants.{Refused, OutOfMemory}
+use Rattle.rpki_base64.specs.declared.flavours.SlurmDisplay.{SlurmDisplay}
+use Rattle.rpki_base64.specs.declared.flavours.XmlDecodeError.{XmlDecodeError}
 
 -- no space, tab, line feed, form feed or carriage return
 abbrev pub is_no_white_space : ℕ → Bool

@@ -2,7 +2,7 @@
 use Rattle.std.proofs.Common.{◌≡◌, ℕ, Bool, true, false, List, [], ◌∷◌, ◌++◌, ◌+◌, ◌∙◌, take, drop, refl, ap}
 use Rattle.std.proofs.Common.{append_assoc, sym, suc, subst, arith}
 use Rattle.std.specs.List.{prefix_len}
-use Rattle.rpki_text.specs.Base64Text.{is_no_white_space, without_white_space}
+use Rattle.rpki_base64.specs.Base64Text.{is_no_white_space, without_white_space}
 
 -- s is the line before its first white space, and what follows that
 abbrev pub IsSplit : List ℕ → Type 0

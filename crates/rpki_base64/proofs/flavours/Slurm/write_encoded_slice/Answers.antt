@@ -5,8 +5,8 @@ use Rattle.std.specs.Slice.Iter.{chunks_rest}
 use Rattle.base64.specs.Engines.{url_safe_no_pad_indifferent}
 use Rattle.base64.specs.GeneralPurpose.{encode_of}
 use Rattle.base64.proofs.EngineFacts.{encoded_prefix}
-use Rattle.rpki_text.proofs.Base64Laws.{chunk-first, appends-append, appends-taken, all-encoded}
-use Rattle.rpki_text.proofs.util.base_64.Slurm.write_encoded_slice.Goals as goal
+use Rattle.rpki_base64.proofs.Base64Laws.{chunk-first, appends-append, appends-taken, all-encoded}
+use Rattle.rpki_base64.proofs.flavours.Slurm.write_encoded_slice.Goals as goal
 
 pub loop-chunk-preserved : goal.loop-chunk-preserved
 loop-chunk-preserved g c =

@@ -3,7 +3,7 @@ use Rattle.std.specs.Io.KnownBytes.{Appends}
 use Rattle.std.specs.Slice.Iter.{chunks_rest, chunks_size}
 use Rattle.base64.specs.Engines.{url_safe_no_pad_indifferent}
 use Rattle.base64.specs.GeneralPurpose.{encode_of}
-use Rattle.rpki_text.proofs.util.base_64.Slurm.write_encoded_slice.Given as goal
+use Rattle.rpki_base64.proofs.flavours.Slurm.write_encoded_slice.Given as goal
 
 abbrev pub invariant-loop-chunk : goal.invariant-loop-chunk
 invariant-loop-chunk g l =

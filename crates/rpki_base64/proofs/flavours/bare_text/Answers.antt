@@ -1,9 +1,9 @@
 use Rattle.std.proofs.Common.{ℕ, List, ◌∙◌, drop, ap, sym}
 use Rattle.std.proofs.lemmas.List.{nil_from_length}
 use Rattle.std.proofs.lemmas.List.Sums.{prefix_len-le-length}
-use Rattle.rpki_text.specs.Base64Text.{is_no_white_space, without_white_space}
-use Rattle.rpki_text.proofs.WhiteSpaceLaws.{goes-on}
-use Rattle.rpki_text.proofs.util.base_64.bare_text.Goals as goal
+use Rattle.rpki_base64.specs.Base64Text.{is_no_white_space, without_white_space}
+use Rattle.rpki_base64.proofs.WhiteSpaceLaws.{goes-on}
+use Rattle.rpki_base64.proofs.flavours.bare_text.Goals as goal
 
 pub split_at-requires : goal.split_at-requires
 split_at-requires c = rw c.line_len.ensures (prefix_len-le-length is_no_white_space c.lines.rest.now)

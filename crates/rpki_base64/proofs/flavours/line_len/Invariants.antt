@@ -1,7 +1,7 @@
 use Rattle.std.proofs.Common.{◌≡◌, ◌≤◌, ◌+◌, ◌-◌, length, drop}
 use Rattle.std.specs.List.{prefix_len}
-use Rattle.rpki_text.specs.Base64Text.{is_no_white_space}
-use Rattle.rpki_text.proofs.util.base_64.line_len.Given as goal
+use Rattle.rpki_base64.specs.Base64Text.{is_no_white_space}
+use Rattle.rpki_base64.proofs.flavours.line_len.Given as goal
 
 abbrev pub invariant-octets : goal.invariant-octets
 invariant-octets l =

@@ -9,9 +9,9 @@ ghost use Rattle.std.specs.Str.{is_utf8};
 ghost use Rattle.base64.specs.Engines.{standard, url_safe_no_pad_indifferent};
 ghost use Rattle.base64.specs.GeneralPurpose.{encode_of, decode_of, decode_slice_of, decoded_bytes_of};
 ghost use Rattle.base64.specs.Decode.{IsWrittenOver};
-ghost use Rattle.rpki_text.specs.Base64Text.{without_white_space, is_no_white_space};
-ghost use Rattle.rpki_text.specs.Base64Text.{xml_decode_of, xml_bytes_decode_of, no_text_error};
-ghost use Rattle.rpki_text.specs.Base64Text.{base64_error_text, xml_cause, slurm_text, IsBase64Failure};
+ghost use Rattle.rpki_base64.specs.Base64Text.{without_white_space, is_no_white_space};
+ghost use Rattle.rpki_base64.specs.Base64Text.{xml_decode_of, xml_bytes_decode_of, no_text_error};
+ghost use Rattle.rpki_base64.specs.Base64Text.{base64_error_text, xml_cause, slurm_text, IsBase64Failure};
 
 use base64::DecodeAllocError;
 use base64::display::Base64Display;
@@ -224,7 +224,7 @@ impl fmt::Display for SlurmDisplay<'_> {
 
 impl From<DecodeAllocError> for Base64Error {
     ghost use Rattle.std.specs.Prelude.{◌≡◌};
-    ghost use Rattle.rpki_text.specs.Base64Text.{base64_error};
+    ghost use Rattle.rpki_base64.specs.Base64Text.{base64_error};
 
     ghost from_gives = { λ x e. e ≡ base64_error x };
 

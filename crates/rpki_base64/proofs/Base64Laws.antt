@@ -6,21 +6,20 @@ use Rattle.std.specs.Io.KnownBytes.{Appends}
 use Rattle.std.specs.Str.{is_utf8}
 use Rattle.std.specs.Str.Lossy.{utf8_valid_len}
 use Rattle.std.proofs.lemmas.Str.{IsUtf8-from_is_utf8, is_utf8-from_IsUtf8}
-use Rattle.std.proofs.lemmas.Bool.{cases_lt}
+use Rattle.std.proofs.lemmas.Bool.{cases_lt, false_from_ne_true}
 use Rattle.std.proofs.lemmas.List.{nil_from_length}
 use Rattle.base64.specs.declared.decode.DecodeError.TheVariants.{InvalidByte}
 use Rattle.base64.specs.declared.engine.general_purpose.GeneralPurpose.{GeneralPurpose}
 use Rattle.base64.specs.GeneralPurpose.{encode_of}
 use Rattle.base64.proofs.EngineFacts.{encode_of-nil, encode_of-append}
-use Rattle.rpki_text.specs.Base64Text.{xml_decode_of, xml_bytes_decode_of}
-use Rattle.rpki_text.proofs.TextLaws.{false-unless}
+use Rattle.rpki_base64.specs.Base64Text.{xml_decode_of, xml_bytes_decode_of}
 
 pub xml-bytes-text : (bytes : List ℕ) → IsUtf8 bytes → xml_bytes_decode_of bytes ≡ xml_decode_of bytes
 xml-bytes-text bytes h = rw (is_utf8-from_IsUtf8 bytes h) refl
 
 pub xml-bytes-other : (bytes : List ℕ) → (IsUtf8 bytes → ⊥) → (n : ℕ) → n ≡ utf8_valid_len bytes
     → xml_bytes_decode_of bytes ≡ Err (InvalidByte n (slice_index bytes n))
-xml-bytes-other bytes h n e = rw (false-unless (is_utf8 bytes) (λ k. h (IsUtf8-from_is_utf8 bytes k)), e) refl
+xml-bytes-other bytes h n e = rw (false_from_ne_true (is_utf8 bytes) (λ k. h (IsUtf8-from_is_utf8 bytes k)), e) refl
 
 -- a chunk is 768 octets, or the last
 pub chunk-first : (e : GeneralPurpose) (all chunk rest : List ℕ) → all ≡ chunk ++ rest

@@ -1,9 +1,9 @@
 use Rattle.std.proofs.Common.{◌≡◌, true, sym, ap, ◌∙◌}
 use Rattle.std.specs.Str.{is_utf8}
 use Rattle.std.proofs.lemmas.Str.{is_utf8-from_IsUtf8}
-use Rattle.rpki_text.specs.Base64Text.{xml_decode_of}
-use Rattle.rpki_text.proofs.Base64Laws.{xml-bytes-text, xml-bytes-other}
-use Rattle.rpki_text.proofs.util.base_64.Xml.decode_bytes.Goals as goal
+use Rattle.rpki_base64.specs.Base64Text.{xml_decode_of}
+use Rattle.rpki_base64.proofs.Base64Laws.{xml-bytes-text, xml-bytes-other}
+use Rattle.rpki_base64.proofs.flavours.Xml.decode_bytes.Goals as goal
 
 pub returns-in-Ok-clause-ok : goal.returns-in-Ok-clause-ok
 returns-in-Ok-clause-ok c =

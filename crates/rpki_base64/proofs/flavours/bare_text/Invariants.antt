@@ -1,6 +1,6 @@
 use Rattle.std.proofs.Common.{◌≡◌, ◌++◌, length}
-use Rattle.rpki_text.specs.Base64Text.{without_white_space}
-use Rattle.rpki_text.proofs.util.base_64.bare_text.Given as goal
+use Rattle.rpki_base64.specs.Base64Text.{without_white_space}
+use Rattle.rpki_base64.proofs.flavours.bare_text.Given as goal
 
 abbrev pub invariant-lines : goal.invariant-lines
 invariant-lines l = l.bare.items ++ without_white_space l.rest ≡ without_white_space l.text

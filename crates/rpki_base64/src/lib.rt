@@ -1,0 +1,9 @@
+//! Octets as base 64 text (RFC 4648 sections 4 and 5), in the three flavours of the RPKI's protocols.
+#![tactic(auto)]
+
+mod flavours;
+pub mod laws;
+
+pub use flavours::{
+    Base64Error, DecodeError, DecodeSliceError, Serde, Slurm, SlurmDisplay, Xml, XmlDecodeError,
+};
