@@ -1,7 +1,9 @@
 """Words that rpkicert is given: options in any order, and what is wrong with them."""
 import os
 import re
+import signal
 import subprocess
+from functools import partial
 
 from makers import authority
 from programs import TOP, ran
@@ -15,6 +17,8 @@ FILE, NO_FILE = object(), "no file"
 UNKNOWN, NO_VALUE, VALUE = "unknown option: {}", "{} takes a value", "{} takes no value"
 TWICE, LAX = "{} is given twice", "--lax is for --check and --profile"
 LISTED = "--crl is for --issuer"
+# What becomes of a run whose standard output can't be written.
+UNWRITTEN = (2, b"rpkicert: standard output: cannot be written\n")
 PROFILE = "--profile takes auto, ta, ca, ee, detached or router, not {}"
 WRONG = [
     ([], NO_FILE), (["--json"], NO_FILE), (["--check"], NO_FILE), (["--profile", "ca"], NO_FILE), (["--"], NO_FILE),
@@ -78,11 +82,27 @@ def words(program, folder):
         yield f"not UTF-8 {asked}", ran(program, *asked), (2, b"", b"rpkicert: an argument is not UTF-8\n")
     behind = [path] * 20000 + ["--other"]
     yield "an option behind many files", ran(program, *behind), (2, b"", b"rpkicert: unknown option: --other\n" + USAGE)
+
+
+def unwritten(program, folder):
+    """Standard output that is full, or has no reader, is told; where standard error is full nothing more is written."""
+    path, lost = authority.paths(folder)["ta"] + ".der", os.path.join(folder, "lost")
+    ignore = partial(signal.signal, signal.SIGPIPE, signal.SIG_IGN)
     with open("/dev/full", "wb") as full:
-        done = subprocess.run([program, path], stdout=full, stderr=subprocess.PIPE, timeout=60)
-        yield "a full disk", (done.returncode, done.stderr), (2, b"")
-        done = subprocess.run([program, "--version"], stdout=full, stderr=subprocess.PIPE, timeout=60)
-        yield "a full disk and the version", (done.returncode, done.stderr), (2, b"")
+        for asked in [path], ["--check", path, path], ["-r", path], ["--version"], ["--help"]:
+            done = subprocess.run([program, *asked], stdout=full, stderr=subprocess.PIPE, timeout=60)
+            yield f"a full disk {asked}", (done.returncode, done.stderr), UNWRITTEN
+            reader, stream = os.pipe()
+            os.close(reader)
+            done = subprocess.run([program, *asked], stdout=stream, stderr=subprocess.PIPE, preexec_fn=ignore, timeout=60)
+            os.close(stream)
+            yield f"a pipe without a reader {asked}", (done.returncode, done.stderr), UNWRITTEN
+            done = subprocess.run([program, *asked], stdout=full, stderr=full, timeout=60)
+            yield f"both full {asked}", done.returncode, 2
+        verdict = ran(program, "--json", path).output
+        for asked, output in (["--json", path, lost, path], verdict), (["--json", lost, path], b""), (["--other"], b""):
+            done = subprocess.run([program, *asked], stdout=subprocess.PIPE, stderr=full, timeout=60)
+            yield f"faults that are full {asked}", (done.returncode, done.stdout), (2, output)
 
 
-TABLES = [words]
+TABLES = [words, unwritten]

@@ -2,9 +2,10 @@
 import json
 import os
 import shutil
+import stat
 
 from fields import verdict
-from files import FOLDER
+from files import FOLDER, MOST
 from makers import authority
 from programs import octets_of, ran, write
 
@@ -65,14 +66,45 @@ def recursive(program, folder):
     line = f"{broken}: cannot be read: No such file or directory\n".encode()
     yield "a link to nothing", (status, line in output), (2, True)
     os.remove(broken)
-    special = os.path.join(top, "zz")
-    for name, put in [("a FIFO", lambda: os.mkfifo(special)),
-                      ("a link to a device", lambda: os.symlink("/dev/zero", special))]:
-        put()
-        status, output, _ = ran(program, "-r", "--check", top)
-        line = f"{special}: cannot be read: Not a regular file\n".encode()
-        yield f"{name} in a folder", (status, line in output), (2, True)
-        os.remove(special)
+
+
+def filled(octets):
+    return lambda path: write(os.path.dirname(path), os.path.basename(path), octets)
+
+
+def linked(target):
+    return lambda path: os.symlink(target, path)
+
+
+def as_socket(path):
+    os.mknod(path, stat.S_IFSOCK | 0o600)
+
+
+def as_hole(path):
+    filled(b"")(path)
+    os.truncate(path, 1 << 40)
+
+
+def hostile(program, folder):
+    """Whatever stands in a folder, the run ends, it is told what can't be read, and the files around it are shown."""
+    anchor = octets_of(authority.paths(folder)["ta"] + ".der")
+    top, outside = made(os.path.join(folder, "copy"), {"a.cer": anchor, "z.cer": anchor}), write(folder, "out", anchor)
+    path, special, large = os.path.join(top, "m"), "cannot be read: Not a regular file", f"larger than {MOST} octets"
+    for name, put, status, said in (
+            ("a FIFO", os.mkfifo, 2, special), ("a socket", as_socket, 2, special),
+            ("a link to what never ends", linked("/dev/zero"), 2, special),
+            ("a link to a FIFO", linked("/proc/self/fd/0"), 2, special),
+            ("a link to a folder", linked(top), 2, f"cannot be read: {FOLDER}"),
+            ("a link to nothing", linked("none"), 2, "cannot be read: No such file or directory"),
+            ("a link to itself", linked("m"), 2, "cannot be read"),
+            ("a link through a file", linked("a.cer/x"), 2, "cannot be read"),
+            ("a link to a file elsewhere", linked(outside), 0, "OK"),
+            ("no octet", filled(b""), 1, "empty"), ("an octet too many", filled(bytes(MOST + 1)), 2, large),
+            ("a hole of a terabyte", as_hole, 2, large)):
+        put(path)
+        lines = "".join(f"{top}/{it}\n" for it in ("a.cer: OK", f"m: {said}", "z.cer: OK"))
+        yield f"{name} in a folder", ran(program, "-r", "--check", top), (status, lines.encode(), b"")
+        os.remove(path)
 
 
 def unreadable(program, folder):
@@ -106,4 +138,4 @@ def many(program, folder):
     yield "a name with a line feed", ran(program, "-r", "--check", path), ran(program, "--check", path)
 
 
-TABLES = [recursive, unreadable, many]
+TABLES = [recursive, hostile, unreadable, many]

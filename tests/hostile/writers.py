@@ -6,7 +6,7 @@ call, the other six what they are given; of each six the first three fail once, 
 from der import NULL, bits, sequence, tlv
 from programs import run
 from vectors import (
-    CONSTRAINTS, COMMON_NAME, ECDSA_SIGNATURE, KEY, KEY_IDENTIFIER, NAME, P256_KEY, RSA_KEY, RSA_SIGNATURE, SHA256,
+    CONSTRAINTS, CONSTRAINTS_NOT_CRITICAL, COMMON_NAME, ECDSA_SIGNATURE, KEY, KEY_IDENTIFIER, NAME, P256_KEY, RSA_KEY, RSA_SIGNATURE, SHA256,
     SHA256_IDENTIFIER, SIGNED, SUBJECT, VALIDITY,
 )
 
@@ -32,6 +32,7 @@ ENCODERS = [
     ("triple", NAME, NAME + NULL + NAME),
     ("some", NAME, NAME),
     ("none", NAME, b""),
+    ("each", NAME, NAME + NAME + NAME),
     ("digest", b"", SHA256),
     ("digest_set", b"", tlv(0x31, SHA256)),
     ("digest_identifier", b"", SHA256_IDENTIFIER),
@@ -45,8 +46,11 @@ ENCODERS = [
     ("subject", KEY, SUBJECT),
     ("key_identifier", KEY, tlv(0x04, KEY_IDENTIFIER)),
     ("name", NAME, NAME),
+    ("name_octets", NAME, NAME),
     ("signed", SIGNED, SIGNED),
     ("extension", bytes.fromhex("3000"), CONSTRAINTS),
+    ("extension_read", CONSTRAINTS, CONSTRAINTS),
+    ("extension_read", CONSTRAINTS_NOT_CRITICAL, CONSTRAINTS_NOT_CRITICAL),
     ("rsync_string", RSYNC, tlv(0x16, RSYNC)),
     ("rsync_name", RSYNC, tlv(0x86, RSYNC)),
     ("https_string", HTTPS, tlv(0x16, HTTPS)),

@@ -3,7 +3,10 @@ clock."""
 import contextlib
 import datetime
 import os
+import re
+import resource
 import shutil
+import signal
 import stat
 import subprocess
 import threading
@@ -11,6 +14,7 @@ import threading
 from counting import holds
 from programs import octets_of
 from repositories import AT, TITLES, below, edit, file_of, payloads
+from shim import compiled
 
 # How many octets a file of a copy has at most.
 MOST = 16_777_216
@@ -60,6 +64,11 @@ def folder_out_of_the_copy(path, room):
     os.symlink(outside, os.path.dirname(path))
 
 
+def through_a_file(path, _):
+    shutil.rmtree(os.path.dirname(path))
+    edit(os.path.dirname(path), b"no folder")
+
+
 def within_the_copy(path, _):
     shutil.move(path, path + ".kept")
     os.symlink(os.path.basename(path) + ".kept", path)
@@ -70,6 +79,7 @@ COPIES = [
     ("a folder", as_folder, REST, "not read: a folder"),
     ("a file that is too large", as_large, REST, "not read: too large"),
     ("the largest file, of other octets", as_largest, REST, None),
+    ("a path through a file", through_a_file, REST, None),
     ("a link to what never ends", linked_to("/dev/zero"), REST, "not read: no regular file"),
     ("a link that leads nowhere", linked_to("none"), REST, None),
     ("a link to itself", linked_to("r0.roa"), REST, "not read: a loop of links"),
@@ -116,6 +126,20 @@ def unreadable(program, maker):
     holds("no permission: the others count", (ended.returncode, seen) == (0, REST), (ended.returncode, faults[:300]))
     due = f"rpkivalid: {object_of(folder)}: cannot be read: permission denied\n"
     holds("no permission: told", due in faults, faults[:300])
+
+
+def failing(program, maker):
+    """A file of which the system fails to read, as of a process's memory, in a mount of the test's own: that is told, and
+    is the run's status, since no one who publishes can choose it."""
+    apart = ["unshare", "--map-root-user", "--mount"]
+    if subprocess.run([*apart, "true"], stderr=subprocess.DEVNULL, check=False).returncode != 0:
+        return
+    folder = maker.changed(None)
+    bound = [*apart, "sh", "-c", 'mount --bind "/proc/$$/mem" "$0" && exec "$@"', object_of(folder)]
+    ended = subprocess.run([*bound, *program.words(folder)], capture_output=True, check=False)
+    seen, faults = ended.stdout.decode().split("\n"), ended.stderr.decode()
+    holds("a file that fails: the others count", (ended.returncode, seen) == (1, REST), (ended.returncode, faults[:300]))
+    holds("a file that fails: told", f"rpkivalid: {object_of(folder)}: cannot be read\n" in faults, faults[:300])
 
 
 class Place:
@@ -192,6 +216,35 @@ def refused_outputs(program, maker):
         holds(name, (status, printed) == (2, "") and f"{said}\n" in faults, (status, faults))
         kept = [octets_of(here.at(it)) for it in ("one", "two")]
         holds(f"{name}: all is as it was", (kept, here.left()) == ([b"one", b"two"], left), here.left())
+
+
+def flushed(program, maker):
+    """Each file is on the disk before it takes its place, and its folder is after that."""
+    here = Place(program, maker, "flushed")
+    notes, flush = here.at("notes"), compiled("flush.c", maker.room)
+    status, _, faults = program.run(here.folder, "--output", here.at("list"), "--metrics", here.at("metrics"),
+                                    LD_PRELOAD=flush, NOTES=notes)
+    seen = re.sub(r"\.\d+\.\d+\.new\b", ".new", octets_of(notes).decode()).split("\n") if status == 0 else []
+    both = [(f"{here.at(it)}.new", here.at(it)) for it in ("list", "metrics")]
+    renamed = [line for new, old in reversed(both) for line in (f"rename {new} {old}", f"flush {here.room}")]
+    holds("flushed, then renamed", seen == [*(f"flush {new}" for new, _ in both), *renamed, ""], (status, seen, faults))
+
+
+def full_disk(program, maker):
+    """A file that can't be written to its end: the old one stays, nothing stays beside it, and it is told."""
+    here = Place(program, maker, "disk")
+
+    def bounded():
+        signal.signal(signal.SIGXFSZ, signal.SIG_IGN)
+        resource.setrlimit(resource.RLIMIT_FSIZE, (40, 40))
+    for words in ["--output"], ["--metrics"], ["--metrics", here.at("other"), "--output"]:
+        edit(here.at("old"), b"before")
+        asked = program.words(here.folder, *words, here.at("old"))
+        ended = subprocess.run(asked, capture_output=True, check=False, preexec_fn=bounded)
+        told = ended.stderr.decode().endswith("cannot be written\n")
+        holds(f"a disk that is full, {words}", (ended.returncode, ended.stdout, told) == (2, b"", True), ended)
+        holds(f"a disk that is full, {words}: all is as it was",
+              (octets_of(here.at("old")), here.left()) == (b"before", ["old"]), here.left())
 
 
 def special_outputs(program, maker):
@@ -278,4 +331,5 @@ def least(program, maker):
             holds(f"--least {number}: told", octets_of(file) == b"before" and said in faults, faults[-200:])
 
 
-EDGES = [hostile, unreadable, plain_outputs, refused_outputs, special_outputs, at_once, clock, least]
+EDGES = [hostile, unreadable, failing, plain_outputs, refused_outputs, flushed, full_disk,
+         special_outputs, at_once, clock, least]

@@ -1,8 +1,8 @@
 //! What a run has made is written; or it is told why it isn't.
 
-ghost use Rattle.std.specs.Prelude.{◌≡◌, true, false};
+ghost use Rattle.std.specs.Prelude.{◌≡◌, None, true, false};
 ghost use Rattle.rpki_cli.specs.Delivered.{IsDelivered, parts_of};
-ghost use Rattle.rpki_cli.specs.Given.{IsGiven, name_in, name_of, named};
+ghost use Rattle.rpki_cli.specs.Given.{IsGiven, name_in, name_of, named, unwritten};
 ghost use Rattle.rpki_cli.specs.Ready.{AreApart, outputs_in};
 ghost use Rattle.rpki_cli.specs.Reported.{IsLogged, IsReported, IsUnlogged, IsUnreported};
 ghost use Rattle.rpki_cli.specs.World.{IsSaid};
@@ -53,6 +53,15 @@ pub fn denied<M: Machine>(m: &mut M, program: &str, name: &str, why: &str) -> u8
 {
     let _ = m.complain(program, name, why);
     2
+}
+
+/// Tells that not all of a text could be written to standard output, and returns the exit status 2.
+pub fn unprinted<M: Machine>(m: &mut M, program: &str) -> u8
+    ensures known { M.knows m.old → M.knows m.new }
+    ensures status { result ≡ 2 }
+    ensures told { M.knows m.old → IsSaid (M.world m.old) (M.world m.new) program.now (name_of None) unwritten }
+{
+    denied(m, program, STANDARD_OUTPUT, UNWRITTEN)
 }
 
 /// The name of the output, which is standard output where no file is named.

@@ -3,7 +3,8 @@
 -- Texts around certificates, what objects are checked against, which profile is chosen, which rule is broken first,
 -- which are, findings: PemLaws, RequirementsLaws, ChosenLaws, ViolationLaws, BrokenLaws, OutcomeLaws. What words ask
 -- for, what is wrong with them, what is seen of a file and of a run, and what it is checked against: RequestLaws,
--- ComplaintLaws, SeenLaws, RunLaws, SettledLaws. The files under those that are named: UnderLaws.
+-- ComplaintLaws, SeenLaws, RunLaws, SettledLaws. The files under those that are named, the
+-- program's arguments: UnderLaws, ProgramLaws.
 -- That octets have one text, and inputs one answer: OneAnswerLaws.
 
 pub mod PemLaws
@@ -19,3 +20,4 @@ pub mod SettledLaws
 pub mod RequestLaws
 pub mod OneAnswerLaws
 pub mod UnderLaws
+pub mod ProgramLaws

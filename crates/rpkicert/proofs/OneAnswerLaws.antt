@@ -2,7 +2,6 @@
 use Rattle.std.proofs.Common.{◌≡◌, ℕ, suc, List, [], ◌∷◌, refl, sym, ap, subst, ◌∙◌, inl, inr, arith}
 use Rattle.std.proofs.lemmas.Bool.{false≢true}
 use Rattle.std.proofs.lemmas.List.Elements.{All-tail}
-use Rattle.std.specs.Io.KnownBytes.{Appends}
 use Rattle.std.specs.Prelude.{◌⊎◌, codes, Bool, true, false, is_some, Option, Some, None, Result, Ok, Err, IsSome}
 use Rattle.std.specs.Prelude.{IfSome}
 use Rattle.rpki_fields.specs.ObjectType.{kind_of}
@@ -38,11 +37,12 @@ use Rattle.rpkicert.specs.Run.{list_in, list_or, IsListOf}
 use Rattle.rpkicert.specs.Run.{AreKnown, IsClockKnown, IsKnown, EndsWellWith}
 use Rattle.rpkicert.specs.Run.IsRunOf.{Held, Denied}
 use Rattle.rpkicert.specs.Values.{ToldParts}
-use Rattle.rpkicert.specs.Words.{Prints}
+use Rattle.rpkicert.specs.Words.{Complains, Writes}
 use Rattle.rpki_fields.proofs.OneObjectLaws.{one-of, none-of}
 use Rattle.rpki_fields.proofs.OneSheetLaws.{one-sheet}
 use Rattle.rpki_fields.proofs.LocatorLaws.{one-locator-sheet}
 use Rattle.rpki_cert.specs.Cert.{TbsParts}
+use Rattle.rpki_cli.specs.World.{World}
 use Rattle.rpki_crl.specs.Crl.{CrlParts}
 use Rattle.jiff.specs.Types.{DateTime}
 use Rattle.jiff.specs.Words.{civil_nanos}
@@ -508,44 +508,39 @@ one-terms holds clock a t u known g h =
 
 the-same-files : (holds : Holds) (a : Asked) (terms : TermParts) (all : List OutputParts) → AreKnown holds a.files
     → AreSeen (Sees holds a.check a.form terms) a.files all → 0 ≡ worst all
-    → (old new was is : Option (List ℕ)) → IsRun (Sees holds a.check a.form terms) a.files old new was is 0
-    → Appends old new (outputs all) × Appends was is (faults all)
-the-same-files holds a terms all known seen z old new was is (Whole others g o f y) =
-    let e = one-all holds a.check a.form terms a.files others all known g seen (sym y) (sym z) in (
-      subst (λ (w : List OutputParts). Appends old new (outputs w)) (sym e) o,
-      subst (λ (w : List OutputParts). Appends was is (faults w)) (sym e) f,
-    )
-the-same-files holds a terms all known seen z old new was is (Cut front rest others parts g cut y) =
+    → (old new : World) → IsRun (Sees holds a.check a.form terms) a.files old new 0
+    → Writes old new (outputs all) (faults all)
+the-same-files holds a terms all known seen z old new (Whole others g w y) =
+    let e = one-all holds a.check a.form terms a.files others all known g seen (sym y) (sym z) in
+    subst (λ (x : List OutputParts). Writes old new (outputs x) (faults x)) (sym e) w
+the-same-files holds a terms all known seen z old new (Cut front rest name others s mid parts g k w cut y) =
     absurd (let e = y in omega arith)
 
 -- what is denied ends with the status 2
-denied : {P : Type 0} (old new : Option (List ℕ)) (text : List ℕ) → Prints old new text 2 0 → P
-denied old new text (inl h) = absurd (let e = h.1 in omega arith)
-denied old new text (inr h) = absurd (let e = h.1 in omega arith)
+denied : {P : Type 0} (old new : World) (text : List ℕ) → Complains old new text 0 → P
+denied old new text h = absurd (let e = h.1 in omega arith)
 
 the-same : (holds : Holds) (clock : Clock) (a : Asked) (terms : TermParts) (all : List OutputParts)
     → IsKnown holds clock a → AreRequirements holds clock a terms
     → AreSeen (Sees holds a.check a.form terms) a.files all → 0 ≡ worst all
-    → (old new was is : Option (List ℕ)) → IsRunOf holds clock old new was is 0 a
-    → Appends old new (outputs all) × Appends was is (faults all)
-the-same holds clock a terms all known are seen z old new was is (Held others h g) =
-    the-same-files holds a terms all known.files seen z old new was is
-    (subst (λ (t : TermParts). IsRun (Sees holds a.check a.form t) a.files old new was is 0)
+    → (old new : World) → IsRunOf holds clock old new 0 a → Writes old new (outputs all) (faults all)
+the-same holds clock a terms all known are seen z old new (Held others h g) =
+    the-same-files holds a terms all known.files seen z old new
+    (subst (λ (t : TermParts). IsRun (Sees holds a.check a.form t) a.files old new 0)
     (one-terms holds clock a terms others known are h) g)
-the-same holds clock a terms all known are seen z old new was is (Denied text h g p) = denied was is text p
+the-same holds clock a terms all known are seen z old new (Denied text h p) = denied old new text p
 
 held-output : (holds : Holds) (clock : Clock) (a : Asked) (terms : TermParts) → IsKnown holds clock a
     → AreRequirements holds clock a terms
-    → (old new was is : Option (List ℕ)) → IsRun (Sees holds a.check a.form terms) a.files old new was is 0
+    → (old new : World) → IsRun (Sees holds a.check a.form terms) a.files old new 0
     → (output : List ℕ) × (said : List ℕ) × EndsWellWith holds clock a output said
-held-output holds clock a terms known are old new was is (Whole all g o f y) =
+held-output holds clock a terms known are old new (Whole all g w y) =
     (outputs all, faults all, the-same holds clock a terms all known are g y)
-held-output holds clock a terms known are old new was is (Cut front rest all parts g cut y) =
+held-output holds clock a terms known are old new (Cut front rest name all s mid parts g k w cut y) =
     absurd (let e = y in omega arith)
 
 pub one-output : (holds : Holds) (clock : Clock) (a : Asked) → IsKnown holds clock a
-    → (old new was is : Option (List ℕ)) → IsRunOf holds clock old new was is 0 a
+    → (old new : World) → IsRunOf holds clock old new 0 a
     → (output : List ℕ) × (said : List ℕ) × EndsWellWith holds clock a output said
-one-output holds clock a known old new was is (Held terms h g) =
-    held-output holds clock a terms known h old new was is g
-one-output holds clock a known old new was is (Denied text h g p) = denied was is text p
+one-output holds clock a known old new (Held terms h g) = held-output holds clock a terms known h old new g
+one-output holds clock a known old new (Denied text h p) = denied old new text p

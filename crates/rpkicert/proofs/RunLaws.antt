@@ -1,13 +1,12 @@
 -- What is seen of files, in sequence.
 use Rattle.std.proofs.Common.{◌≡◌, ℕ, ◌+◌, ◌<◌, ◌≤◌, List, [], ◌∷◌, ◌++◌, length, get_or, take, drop, map, refl, sym}
-use Rattle.std.proofs.Common.{ap, subst, ◌∙◌, append_assoc, inl, inr, arith}
+use Rattle.std.proofs.Common.{ap, subst, ◌∙◌, append_assoc, arith}
 use Rattle.std.proofs.lemmas.List.{append-nil, take_more, take_all, take-append-drop, map-append}
-use Rattle.std.specs.Prelude.{◌⊎◌, Option, max}
-use Rattle.std.specs.Io.KnownBytes.{Appends}
-use Rattle.std.proofs.KnownBytes.{Appends-trans}
-use Rattle.rpki_der.specs.Written.{AppendsBeginning, AppendsCut}
-use Rattle.rpkicert.specs.Output.{OutputParts, AreSeen, outputs, faults, worst, AreCut, IsRun}
+use Rattle.std.specs.Prelude.{max}
+use Rattle.rpki_cli.specs.World.{World, IsPrinted, IsTold}
+use Rattle.rpkicert.specs.Output.{OutputParts, AreSeen, outputs, faults, worst, IsRun}
 use Rattle.rpkicert.specs.Output.IsRun.{Whole, Cut}
+use Rattle.rpkicert.specs.Words.{IsCut, Writes}
 
 -- one more
 seen-more : (P : List ℕ → OutputParts → Type 0) (names : List (List ℕ)) (all : List OutputParts) (name : List ℕ)
@@ -33,13 +32,55 @@ worst-more [] s = omega arith
 worst-more (t ∷ ts) s = let e = worst-more ts s in omega (arith, e)
 
 -- what was seen of the files so far
-pub record HaveSeen (P : List ℕ → OutputParts → Type 0) (names : List (List ℕ)) (old new was is : Option (List ℕ))
-    (status : ℕ) : Type 0 where
-  pub all : List OutputParts
-  pub seen : AreSeen P names all
-  pub output : Appends old new (outputs all)
-  pub faults_are : Appends was is (faults all)
-  pub status_is : status ≡ worst all
+pub record HaveSeen (P : List ℕ → OutputParts → Type 0) (names : List (List ℕ)) (old new : World) (status : ℕ) : Type 0
+  where
+    pub all : List OutputParts
+    pub seen : AreSeen P names all
+    pub written : Writes old new (outputs all) (faults all)
+    pub status_is : status ≡ worst all
+
+-- ---- what is written
+
+-- nothing
+pub writes-none : (w : World) → Writes w w [] []
+writes-none w = record {
+  same = λ n. refl;
+  printed = sym (append-nil w.printed);
+  told = sym (append-nil w.told);
+  failed = refl;
+}
+
+-- a text to each stream
+pub writes-both : (old mid new : World) (output said : List ℕ) → IsPrinted old mid output → IsTold mid new said
+    → Writes old new output said
+writes-both old mid new output said p t = record {
+  same = λ n. t.same n ∙ p.same n;
+  printed = t.printed ∙ p.printed;
+  told = t.told ∙ ap (λ w. w ++ said) p.told;
+  failed = t.failed ∙ p.failed;
+}
+
+-- one after the other
+pub writes-more : (old mid new : World) (output said more also : List ℕ) → Writes old mid output said
+    → Writes mid new more also → Writes old new (output ++ more) (said ++ also)
+writes-more old mid new output said more also h k = record {
+  same = λ n. k.same n ∙ h.same n;
+  printed = k.printed ∙ ap (λ w. w ++ more) h.printed ∙ append_assoc old.printed output more;
+  told = k.told ∙ ap (λ w. w ++ also) h.told ∙ append_assoc old.told said also;
+  failed = k.failed ∙ h.failed;
+}
+
+-- the same of equal texts
+writes-as : (old new : World) (output said other also : List ℕ) → other ≡ output → also ≡ said
+    → Writes old new output said → Writes old new other also
+writes-as old new output said other also e f h =
+    subst (λ (w : List ℕ). Writes old new w also) (sym e)
+    (subst (λ (w : List ℕ). Writes old new output w) (sym f) h)
+
+-- ---- files, one after the other
+
+pub none-seen : (P : List ℕ → OutputParts → Type 0) (w : World) → HaveSeen P [] w w 0
+none-seen P w = record { all = []; seen = tt; written = writes-none w; status_is = refl }
 
 pub names-more : {A : Type 0} (text : A → List ℕ) (files : List A) (i : ℕ) (file : A) → i < length files
     → file ≡ get_or files i file
@@ -49,75 +90,35 @@ names-more text files i file h e =
     ∙ ap (λ w. map text (take i files) ++ (text w ∷ [])) (sym e)
 
 pub one-seen : {A : Type 0} (text : A → List ℕ) (P : List ℕ → OutputParts → Type 0) (files : List A) (i : ℕ) (file : A)
-    (old mid new was ws is : Option (List ℕ)) (n status : ℕ) (s : OutputParts)
-    → i < length files → file ≡ get_or files i file → HaveSeen P (map text (take i files)) old mid was ws n
-    → P (text file) s
-    → Appends mid new s.output → Appends ws is s.faults → status ≡ s.status
-    → HaveSeen P (map text (take (i + 1) files)) old new was is (max n status)
-one-seen text P files i file old mid new was ws is n status s lt e h k o f z = record {
+    (old mid new : World) (n status : ℕ) (s : OutputParts)
+    → i < length files → file ≡ get_or files i file → HaveSeen P (map text (take i files)) old mid n
+    → P (text file) s → Writes mid new s.output s.faults → status ≡ s.status
+    → HaveSeen P (map text (take (i + 1) files)) old new (max n status)
+one-seen text P files i file old mid new n status s lt e h k w z = record {
   all = h.all ++ (s ∷ []);
   seen = subst (λ (w : List (List ℕ)). AreSeen P w (h.all ++ (s ∷ []))) (sym (names-more text files i file lt e))
       (seen-more P (map text (take i files)) h.all (text file) s h.seen k);
-  output = subst (λ (w : List ℕ). Appends old new w) (sym (outputs-more h.all s))
-      (Appends-trans old mid new (outputs h.all) s.output h.output o);
-  faults_are = subst (λ (w : List ℕ). Appends was is w) (sym (faults-more h.all s))
-      (Appends-trans was ws is (faults h.all) s.faults h.faults_are f);
+  written = writes-as old new _ _ _ _ (outputs-more h.all s) (faults-more h.all s)
+      (writes-more old mid new (outputs h.all) (faults h.all) s.output s.faults h.written w);
   status_is = ap (λ w. max w status) h.status_is ∙ ap (λ w. max (worst h.all) w) z ∙ sym (worst-more h.all s);
 }
 
 pub all-seen : {A : Type 0} (text : A → List ℕ) (P : List ℕ → OutputParts → Type 0) (files : List A) (i : ℕ)
-    (old new was is : Option (List ℕ)) (status : ℕ)
-    → length files ≤ i → HaveSeen P (map text (take i files)) old new was is status
-    → IsRun P (map text files) old new was is status
-all-seen text P files i old new was is status le h =
-    Whole h.all (subst (λ w. AreSeen P (map text w) h.all) (take_all i files le) h.seen) h.output h.faults_are
-    h.status_is
+    (old new : World) (status : ℕ)
+    → length files ≤ i → HaveSeen P (map text (take i files)) old new status
+    → IsRun P (map text files) old new status
+all-seen text P files i old new status le h =
+    Whole h.all (subst (λ w. AreSeen P (map text w) h.all) (take_all i files le) h.seen) h.written h.status_is
 
--- the front, and then a cut
-cut-after : (a b c : Option (List ℕ)) (xs ys : List ℕ) → Appends a b xs → AppendsCut b c ys → AppendsCut a c (xs ++ ys)
-cut-after a b c xs ys p q = record {
-  next = q.next;
-  more = q.more;
-  front = (
-    xs ++ q.front.0,
-    ap (λ (w : List ℕ). xs ++ w) q.front.1 ∙ sym (append_assoc xs q.front.0 (q.next ∷ q.more)),
-    Appends-trans a b c xs q.front.0 p q.front.2,
-  );
-}
-
-beginning : (a b c : Option (List ℕ)) (xs ys : List ℕ) → Appends a b xs → Appends b c []
-    → AppendsBeginning a c (xs ++ ys)
-unfolding AppendsBeginning
-beginning a b c xs ys p q =
-    (ys, (xs, refl, subst (λ (w : List ℕ). Appends a c w) (append-nil xs) (Appends-trans a b c xs [] p q)))
-
--- the output or the faults failed at this file
-cut-at : (old mid new was ws is : Option (List ℕ)) (all : List OutputParts) (s : OutputParts)
-    → Appends old mid (outputs all) → Appends was ws (faults all)
-    → (AppendsCut mid new s.output × Appends ws is []) ⊎ (Appends mid new s.output × AppendsCut ws is s.faults)
-    → AreCut old new was is (outputs (all ++ (s ∷ []))) (faults (all ++ (s ∷ [])))
-cut-at old mid new was ws is all s o f (inl p) = inl (
-  subst (λ (w : List ℕ). AppendsCut old new w) (sym (outputs-more all s))
-      (cut-after old mid new (outputs all) s.output o p.0),
-  subst (λ (w : List ℕ). AppendsBeginning was is w) (sym (faults-more all s))
-      (beginning was ws is (faults all) s.faults f p.1),
-)
-cut-at old mid new was ws is all s o f (inr p) = inr (
-  subst (λ (w : List ℕ). Appends old new w) (sym (outputs-more all s))
-      (Appends-trans old mid new (outputs all) s.output o p.0),
-  subst (λ (w : List ℕ). AppendsCut was is w) (sym (faults-more all s))
-      (cut-after was ws is (faults all) s.faults f p.1),
-)
-
+-- the output or the faults can't be written at this file
 pub cut-seen : {A : Type 0} (text : A → List ℕ) (P : List ℕ → OutputParts → Type 0) (files : List A) (i : ℕ) (file : A)
-    (old mid new was ws is : Option (List ℕ)) (n : ℕ) (s : OutputParts)
-    → i < length files → file ≡ get_or files i file → HaveSeen P (map text (take i files)) old mid was ws n
-    → P (text file) s
-    → (AppendsCut mid new s.output × Appends ws is []) ⊎ (Appends mid new s.output × AppendsCut ws is s.faults)
-    → IsRun P (map text files) old new was is 2
-cut-seen text P files i file old mid new was ws is n s lt e h k cut =
-    Cut (map text (take i files) ++ (text file ∷ [])) (map text (drop (i + 1) files)) (h.all ++ (s ∷ []))
+    (old mid new : World) (n : ℕ) (s : OutputParts)
+    → i < length files → file ≡ get_or files i file → HaveSeen P (map text (take i files)) old mid n
+    → P (text file) s → IsCut mid new s.output s.faults → IsRun P (map text files) old new 2
+cut-seen text P files i file old mid new n s lt e h k cut =
+    let rest = map text (drop (i + 1) files) in
+    let front = map text (take i files) in
+    Cut front rest (text file) h.all s mid
     (ap (map text) (sym (take-append-drop (i + 1) files)) ∙ map-append text (take (i + 1) files) (drop (i + 1) files)
-    ∙ ap (λ w. w ++ map text (drop (i + 1) files)) (names-more text files i file lt e))
-    (seen-more P (map text (take i files)) h.all (text file) s h.seen k)
-    (cut-at old mid new was ws is h.all s h.output h.faults_are cut) refl
+    ∙ ap (λ w. w ++ rest) (names-more text files i file lt e) ∙ append_assoc front (text file ∷ []) rest)
+    h.seen k h.written cut refl

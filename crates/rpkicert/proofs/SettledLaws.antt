@@ -1,18 +1,18 @@
 -- What is written where the terms of a run are none.
-use Rattle.std.proofs.Common.{◌≡◌, ◌⊎◌, ℕ, Bool, true, false, List, [], refl, sym, subst, inl, inr}
+use Rattle.std.proofs.Common.{◌≡◌, ◌⊎◌, ℕ, Bool, true, false, List, refl, sym, subst, inl, inr}
 use Rattle.std.specs.Prelude.{Option, Some, None, Result, Ok, Err, Vec, IfOk, IfSome, IfNone, IsOkAnd}
-use Rattle.std.specs.Io.KnownBytes.{Appends}
 use Rattle.jiff.specs.Types.{DateTime}
 use Rattle.jiff.specs.Words.{civil_nanos}
 use Rattle.rpki_time.specs.Time.{IsTimeNanos}
 use Rattle.rpki_cert.specs.Cert.{TbsParts}
+use Rattle.rpki_cli.specs.World.{World}
 use Rattle.rpki_crl.specs.Crl.{CrlParts}
 use Rattle.rpkicert.specs.declared.fault.Fault.{Fault}
 use Rattle.rpkicert.specs.Outcome.{Finding, Finds}
 use Rattle.rpkicert.specs.Request.{Asked}
 use Rattle.rpkicert.specs.Requirements.{term_parts, no_terms, list_terms}
 use Rattle.rpkicert.specs.OutputView.{text_in}
-use Rattle.rpkicert.specs.Words.{Prints, memory_text}
+use Rattle.rpkicert.specs.Words.{Complains, memory_text}
 use Rattle.rpkicert.specs.Moment.{Clock, is_now, moment_of, NamesBy, NamesMoment, NamesNoneBy, NamesNoMoment, IsMoment}
 use Rattle.rpkicert.specs.Run.{Holds, IsIssuer, IsIssuerOf, issuer_in, IsDenied, IsList, IsListOf, list_in}
 use Rattle.rpkicert.specs.Run.{RunsAgainst, RunsListed}
@@ -60,11 +60,10 @@ pub the-moment : (clock : Clock) (word : Option (List ℕ)) (text : List ℕ) (t
 the-moment clock word text t e h = subst (λ (w : Option (List ℕ)). IsMoment clock w (Some t)) (sym e) h
 
 -- a text that was made, or wasn't
-pub denied-by : {Z E : Type 0} (r : Result (Vec ℕ Z) E) (wanted : List ℕ) (old new was is : Option (List ℕ))
-    (status : ℕ) → IfOk r (λ text. text.items ≡ wanted) → Appends old new [] → Prints was is (text_in r) 2 status
-    → IsDeniedBy old new was is status wanted
-denied-by (Ok text) wanted old new was is status h k p = record { kept = k; told = (text.items, inl h, p) }
-denied-by (Err e) wanted old new was is status h k p = record { kept = k; told = (memory_text, inr refl, p) }
+pub denied-by : {Z E : Type 0} (r : Result (Vec ℕ Z) E) (wanted : List ℕ) (old new : World) (status : ℕ)
+    → IfOk r (λ text. text.items ≡ wanted) → Complains old new (text_in r) status → IsDeniedBy old new status wanted
+denied-by (Ok text) wanted old new status h p = record { said = text.items; either = inl h; told = p }
+denied-by (Err e) wanted old new status h p = record { said = memory_text; either = inr refl; told = p }
 
 -- the moment is none
 told-moment : (holds : Holds) (clock : Clock) (a : Asked) (word : List ℕ) (said : List ℕ) → a.moment ≡ Some word
@@ -72,11 +71,11 @@ told-moment : (holds : Holds) (clock : Clock) (a : Asked) (word : List ℕ) (sai
 told-moment holds clock a word said m h (inl e) = WrongMoment word m h e
 told-moment holds clock a word said m h (inr e) = NoMemory e
 
-pub wrong-moment : (holds : Holds) (clock : Clock) (a : Asked) (word : List ℕ) (old new was is : Option (List ℕ))
+pub wrong-moment : (holds : Holds) (clock : Clock) (a : Asked) (word : List ℕ) (old new : World)
     (status : ℕ) → a.moment ≡ Some word → NamesNoMoment clock word
-    → IsDeniedBy old new was is status (wrong_moment_text word) → IsRunOf holds clock old new was is status a
-wrong-moment holds clock a word old new was is status m h d =
-    Denied d.told.0 (told-moment holds clock a word d.told.0 m h d.told.1) d.kept d.told.2
+    → IsDeniedBy old new status (wrong_moment_text word) → IsRunOf holds clock old new status a
+wrong-moment holds clock a word old new status m h d =
+    Denied d.said (told-moment holds clock a word d.said m h d.either) d.told
 
 -- the issuer is none
 told-issuer : (holds : Holds) (clock : Clock) (a : Asked) (name : List ℕ) (fault : Fault) (moment : Option DateTime)
@@ -95,71 +94,71 @@ told-list holds clock a name issuer fault moment said n m i h (inr e) = NoMemory
 
 -- the list of a file
 pub by-found : (holds : Holds) (name : List ℕ) (issuer : TbsParts) (moment : Option DateTime) (finding : Finding)
-    (list : Result CrlParts Fault) (old new was is : Option (List ℕ)) (status : ℕ) (a : Asked)
+    (list : Result CrlParts Fault) (old new : World) (status : ℕ) (a : Asked)
     (asked : Option (List ℕ)) → asked ≡ Some name
     → IfSome (holds name) (λ source. Finds (list_terms issuer moment) source finding) → list_in finding ≡ list
-    → RunsAgainst holds old new was is status a issuer moment name list
-    → RunsListed holds old new was is status a issuer moment asked
-by-found holds name issuer moment finding list old new was is status a asked n h e r =
-    subst (λ (o : Option (List ℕ)). RunsListed holds old new was is status a issuer moment o) (sym n)
+    → RunsAgainst holds old new status a issuer moment name list
+    → RunsListed holds old new status a issuer moment asked
+by-found holds name issuer moment finding list old new status a asked n h e r =
+    subst (λ (o : Option (List ℕ)). RunsListed holds old new status a issuer moment o) (sym n)
     (list, (finding, h, e), r)
 
 -- without a list
-pub by-no-list : (holds : Holds) (issuer : TbsParts) (moment : Option DateTime) (old new was is : Option (List ℕ))
+pub by-no-list : (holds : Holds) (issuer : TbsParts) (moment : Option DateTime) (old new : World)
     (status : ℕ) (a : Asked) (asked : Option (List ℕ)) → asked ≡ None
-    → RunsOver holds old new was is status a (term_parts a.inspection (Some issuer) None moment)
-    → RunsListed holds old new was is status a issuer moment asked
-by-no-list holds issuer moment old new was is status a asked n r =
-    subst (λ (o : Option (List ℕ)). RunsListed holds old new was is status a issuer moment o) (sym n) r
+    → RunsOver holds old new status a (term_parts a.inspection (Some issuer) None moment)
+    → RunsListed holds old new status a issuer moment asked
+by-no-list holds issuer moment old new status a asked n r =
+    subst (λ (o : Option (List ℕ)). RunsListed holds old new status a issuer moment o) (sym n) r
 
 -- with an issuer and its list
 against : (holds : Holds) (clock : Clock) (a : Asked) (issuer : TbsParts) (moment : Option DateTime) (name : List ℕ)
-    (list : Result CrlParts Fault) (old new was is : Option (List ℕ)) (status : ℕ)
+    (list : Result CrlParts Fault) (old new : World) (status : ℕ)
     → IsIssuerOf holds a.issuer (Some issuer) → IsMoment clock a.moment moment → a.list ≡ Some name
-    → IsList holds name issuer moment list → RunsAgainst holds old new was is status a issuer moment name list
-    → IsRunOf holds clock old new was is status a
-against holds clock a issuer moment name (Ok l) old new was is status i m n h r =
+    → IsList holds name issuer moment list → RunsAgainst holds old new status a issuer moment name list
+    → IsRunOf holds clock old new status a
+against holds clock a issuer moment name (Ok l) old new status i m n h r =
     Held (term_parts a.inspection (Some issuer) (Some l) moment) (record {
       inspection = refl;
       issuer = i;
       revocations = subst (λ (o : Option (List ℕ)). IsListOf holds o (Some issuer) moment (Some l)) (sym n) h;
       moment = m;
     }) r
-against holds clock a issuer moment name (Err fault) old new was is status i m n h r =
-    Denied r.told.0 (told-list holds clock a name issuer fault moment r.told.0 n m i h r.told.1) r.kept r.told.2
+against holds clock a issuer moment name (Err fault) old new status i m n h r =
+    Denied r.said (told-list holds clock a name issuer fault moment r.said n m i h r.either) r.told
 
 with-list : (holds : Holds) (clock : Clock) (a : Asked) (issuer : TbsParts) (moment : Option DateTime)
-    (asked : Option (List ℕ)) (old new was is : Option (List ℕ)) (status : ℕ)
+    (asked : Option (List ℕ)) (old new : World) (status : ℕ)
     → IsIssuerOf holds a.issuer (Some issuer) → IsMoment clock a.moment moment → a.list ≡ asked
-    → RunsListed holds old new was is status a issuer moment asked → IsRunOf holds clock old new was is status a
-with-list holds clock a issuer moment None old new was is status i m n r =
+    → RunsListed holds old new status a issuer moment asked → IsRunOf holds clock old new status a
+with-list holds clock a issuer moment None old new status i m n r =
     Held (term_parts a.inspection (Some issuer) None moment) (record {
       inspection = refl;
       issuer = i;
       revocations = subst (λ (o : Option (List ℕ)). IsListOf holds o (Some issuer) moment None) (sym n) refl;
       moment = m;
     }) r
-with-list holds clock a issuer moment (Some name) old new was is status i m n r =
-    against holds clock a issuer moment name r.0 old new was is status i m n r.1 r.2
+with-list holds clock a issuer moment (Some name) old new status i m n r =
+    against holds clock a issuer moment name r.0 old new status i m n r.1 r.2
 
 -- with an issuer, or none
 pub by-issuer : (holds : Holds) (clock : Clock) (a : Asked) (name : List ℕ) (moment : Option DateTime)
-    (finding : Finding) (issuer : Result TbsParts Fault) (old new was is : Option (List ℕ)) (status : ℕ)
+    (finding : Finding) (issuer : Result TbsParts Fault) (old new : World) (status : ℕ)
     → a.issuer ≡ Some name → IsMoment clock a.moment moment
     → IfSome (holds name) (λ source. Finds no_terms source finding) → issuer_in finding ≡ issuer
-    → RunsBy holds old new was is status a name moment issuer → IsRunOf holds clock old new was is status a
-by-issuer holds clock a name moment finding (Ok t) old new was is status n m h e r =
-    with-list holds clock a t moment a.list old new was is status
+    → RunsBy holds old new status a name moment issuer → IsRunOf holds clock old new status a
+by-issuer holds clock a name moment finding (Ok t) old new status n m h e r =
+    with-list holds clock a t moment a.list old new status
     (subst (λ (o : Option (List ℕ)). IsIssuerOf holds o (Some t)) (sym n) (finding, h, e)) m refl r
-by-issuer holds clock a name moment finding (Err fault) old new was is status n m h e r =
-    Denied r.told.0 (told-issuer holds clock a name fault moment r.told.0 n m (finding, h, e) r.told.1) r.kept r.told.2
+by-issuer holds clock a name moment finding (Err fault) old new status n m h e r =
+    Denied r.said (told-issuer holds clock a name fault moment r.said n m (finding, h, e) r.either) r.told
 
 -- without an issuer
-pub by-none : (holds : Holds) (clock : Clock) (a : Asked) (moment : Option DateTime) (old new was is : Option (List ℕ))
+pub by-none : (holds : Holds) (clock : Clock) (a : Asked) (moment : Option DateTime) (old new : World)
     (status : ℕ) → a.issuer ≡ None → IsMoment clock a.moment moment
-    → RunsOver holds old new was is status a (term_parts a.inspection None None moment)
-    → IsRunOf holds clock old new was is status a
-by-none holds clock a moment old new was is status n m r =
+    → RunsOver holds old new status a (term_parts a.inspection None None moment)
+    → IsRunOf holds clock old new status a
+by-none holds clock a moment old new status n m r =
     Held (term_parts a.inspection None None moment) (record {
       inspection = refl;
       issuer = subst (λ (o : Option (List ℕ)). IsIssuerOf holds o None) (sym n) tt;

@@ -1,16 +1,15 @@
 -- The files under those that are named.
-use Rattle.std.proofs.Common.{◌≡◌, ℕ, List, [], ◌∷◌, ◌++◌, refl, sym, ap, subst, ◌∙◌, append_assoc, inl, inr, arith}
-use Rattle.std.proofs.KnownBytes.{Appends-nil}
+use Rattle.std.proofs.Common.{◌≡◌, ℕ, List, [], ◌∷◌, ◌++◌, refl, sym, ap, subst, ◌∙◌, append_assoc, arith}
 use Rattle.std.proofs.lemmas.List.{append-nil}
 use Rattle.std.proofs.lemmas.List.Elements.{All-tail}
 use Rattle.std.specs.Prelude.{Bool, true, false, Option, Some, None, All, IsSome, IfSome}
-use Rattle.std.specs.Io.KnownBytes.{Appends}
+use Rattle.rpki_cli.specs.World.{World}
 use Rattle.rpkicert.specs.Moment.{Clock}
 use Rattle.rpkicert.specs.Request.{Asked, with_files}
 use Rattle.rpkicert.specs.Run.{Holds, IsRunOf, EndsWellWith}
 use Rattle.rpkicert.specs.Under.{Lists, AreUnder, AreNamed, IsRunUnder, IsKnownUnder}
 use Rattle.rpkicert.specs.Under.IsRunUnder.{Named, Nameless}
-use Rattle.rpkicert.specs.Words.{Prints, memory_text}
+use Rattle.rpkicert.specs.Words.{Complains, Writes, memory_text}
 use Rattle.rpkicert.proofs.OneAnswerLaws.{one-output}
 
 -- those under one more
@@ -56,52 +55,48 @@ one-named lists false files x y known g h = g ∙ sym h
 one-named lists true files x y known g h = one-under lists files x y (known refl) g h
 
 -- what has no names ends with the status 2
-nameless : {P : Type 0} (old new : Option (List ℕ)) → Prints old new memory_text 2 0 → P
-nameless old new (inl h) = absurd (let e = h.1 in omega arith)
-nameless old new (inr h) = absurd (let e = h.1 in omega arith)
+nameless : {P : Type 0} (old new : World) → Complains old new memory_text 0 → P
+nameless old new h = absurd (let e = h.1 in omega arith)
 
 the-same : (lists : Lists) (holds : Holds) (clock : Clock) (a : Asked) (names : List (List ℕ)) (output said : List ℕ)
     → IsKnownUnder lists holds clock a → AreNamed lists a.recursive a.files names
     → EndsWellWith holds clock (with_files a names) output said
-    → (old new was is : Option (List ℕ)) → IsRunUnder lists holds clock old new was is 0 a
-    → Appends old new output × Appends was is said
-the-same lists holds clock a names output said known g ends old new was is (Named others h run) =
-    ends old new was is (subst (λ (w : List (List ℕ)). IsRunOf holds clock old new was is 0 (with_files a w))
+    → (old new : World) → IsRunUnder lists holds clock old new 0 a
+    → Writes old new output said
+the-same lists holds clock a names output said known g ends old new (Named others h run) =
+    ends old new (subst (λ (w : List (List ℕ)). IsRunOf holds clock old new 0 (with_files a w))
     (one-named lists a.recursive a.files others names known.known h g) run)
-the-same lists holds clock a names output said known g ends old new was is (Nameless o p) = nameless was is p
+the-same lists holds clock a names output said known g ends old new (Nameless p) = nameless old new p
 
 pub one-output-under : (lists : Lists) (holds : Holds) (clock : Clock) (a : Asked)
-    → IsKnownUnder lists holds clock a → (old new was is : Option (List ℕ))
-    → IsRunUnder lists holds clock old new was is 0 a
+    → IsKnownUnder lists holds clock a → (old new : World)
+    → IsRunUnder lists holds clock old new 0 a
     → (output : List ℕ) × (said : List ℕ)
-    × ((old new was is : Option (List ℕ)) → IsRunUnder lists holds clock old new was is 0 a
-    → Appends old new output × Appends was is said)
-one-output-under lists holds clock a known old new was is (Named names g run) =
-    let one = one-output holds clock (with_files a names) (known.files names g) old new was is run in
+    × ((old new : World) → IsRunUnder lists holds clock old new 0 a → Writes old new output said)
+one-output-under lists holds clock a known old new (Named names g run) =
+    let one = one-output holds clock (with_files a names) (known.files names g) old new run in
     (one.0, one.1, the-same lists holds clock a names one.0 one.1 known g one.2)
-one-output-under lists holds clock a known old new was is (Nameless o p) = nameless was is p
+one-output-under lists holds clock a known old new (Nameless p) = nameless old new p
 
 -- ---- the run
 
 -- as they are named
-pub plain : (lists : Lists) (holds : Holds) (clock : Clock) (old new was is : Option (List ℕ)) (status : ℕ) (a : Asked)
-    → a.recursive ≡ false → IsRunOf holds clock old new was is status a
-    → IsRunUnder lists holds clock old new was is status a
-plain lists holds clock old new was is status a e run =
+pub plain : (lists : Lists) (holds : Holds) (clock : Clock) (old new : World) (status : ℕ) (a : Asked)
+    → a.recursive ≡ false → IsRunOf holds clock old new status a
+    → IsRunUnder lists holds clock old new status a
+plain lists holds clock old new status a e run =
     Named a.files (subst (λ (r : Bool). AreNamed lists r a.files a.files) (sym e) refl) run
 
 -- as those under them
-pub below : (lists : Lists) (holds : Holds) (clock : Clock) (old new was is : Option (List ℕ)) (status : ℕ) (a : Asked)
+pub below : (lists : Lists) (holds : Holds) (clock : Clock) (old new : World) (status : ℕ) (a : Asked)
     (names : List (List ℕ)) → a.recursive ≡ true → AreUnder lists a.files names
-    → IsRunOf holds clock old new was is status (with_files a names)
-    → IsRunUnder lists holds clock old new was is status a
-below lists holds clock old new was is status a names e under run =
+    → IsRunOf holds clock old new status (with_files a names)
+    → IsRunUnder lists holds clock old new status a
+below lists holds clock old new status a names e under run =
     Named names (subst (λ (r : Bool). AreNamed lists r a.files names) (sym e) under) run
 
 -- nothing is shown, since there is no memory for the names
-pub unnamed : (lists : Lists) (holds : Holds) (clock : Clock) (old new was mid is : Option (List ℕ)) (status : ℕ)
-    (a : Asked) → new ≡ old → mid ≡ was → Prints mid is memory_text 2 status
-    → IsRunUnder lists holds clock old new was is status a
-unnamed lists holds clock old new was mid is status a e f p =
-    Nameless (subst (λ (w : Option (List ℕ)). Appends old w []) (sym e) (Appends-nil old))
-    (subst (λ (w : Option (List ℕ)). Prints w is memory_text 2 status) f p)
+pub unnamed : (lists : Lists) (holds : Holds) (clock : Clock) (old mid new : World) (status : ℕ) (a : Asked)
+    → mid ≡ old → Complains mid new memory_text status → IsRunUnder lists holds clock old new status a
+unnamed lists holds clock old mid new status a e p =
+    Nameless (subst (λ (w : World). Complains w new memory_text status) e p)

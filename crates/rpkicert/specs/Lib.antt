@@ -18,6 +18,7 @@ pub mod Arguments
 pub mod Moment
 pub mod Run
 pub mod Under
+pub mod Program
 pub mod View
 pub mod RequirementsView
 pub mod OutcomeView
@@ -26,3 +27,4 @@ pub mod OutputView
 pub mod RequestView
 pub mod ComplaintView
 pub mod RunView
+pub mod ProgramView

@@ -1,9 +1,8 @@
 -- What is shown of a file, and of a run.
 use Rattle.std.specs.Prelude.{◌≡◌, ◌⊎◌, ℕ, suc, nat_lt, nat_eq, ◌||◌, max, if◌then◌else◌, List, [], ◌∷◌, ◌++◌, codes}
 use Rattle.std.specs.Prelude.{length, map, decimal, Option, Some, None, Result, Ok, Err, Bool, true, false, is_some}
-use Rattle.std.specs.Io.KnownBytes.{Appends}
 use Rattle.std.specs.List.{flat_map}
-use Rattle.rpki_der.specs.Written.{AppendsBeginning, AppendsCut}
+use Rattle.rpki_cli.specs.World.{World}
 use Rattle.rpki_fields.specs.declared.rendering.Form.{Form}
 use Rattle.rpki_fields.specs.declared.rendering.Form.TheVariants.{Text, Json}
 use Rattle.rpkicert.specs.declared.fault.Fault.TheVariants.{OutOfMemory, OtherAlgorithm, Violated}
@@ -30,7 +29,7 @@ use Rattle.rpkicert.specs.Broken.{AreViolations, telling}
 use Rattle.rpkicert.specs.Signature.{signature_text, signature_of, signature_in, signature_found, well_text}
 use Rattle.rpkicert.specs.Requirements.{TermParts}
 use Rattle.rpkicert.specs.Values.{ToldParts, AreTold, told_text, values_fields, values_found, values_of}
-use Rattle.rpkicert.specs.Words.{memory_text}
+use Rattle.rpkicert.specs.Words.{IsCut, Writes, memory_text}
 
 -- ---- a file
 
@@ -303,23 +302,18 @@ AreSeen P [] (s ∷ ss) = ⊥
 AreSeen P (name ∷ names) [] = ⊥
 AreSeen P (name ∷ names) (s ∷ ss) = P name s × AreSeen P names ss
 
--- the output or the faults failed: a beginning was written, and not all
-abbrev pub AreCut : (old new was is : Option (List ℕ)) → (output faults : List ℕ) → Type 0
-AreCut old new was is output faults =
-    (AppendsCut old new output × AppendsBeginning was is faults) ⊎ (Appends old new output × AppendsCut was is faults)
+-- what is shown of a file is written, and the status is that; or it can't be
+abbrev pub WritesBoth : World → World → OutputParts → Option ℕ → Type 0
+WritesBoth old new s (Some status) = Writes old new s.output s.faults × (status ≡ s.status)
+WritesBoth old new s None = IsCut old new s.output s.faults
 
--- what is shown of a file is written, and the status is that; or a write failed
-abbrev pub WritesBoth : {E : Type 0} → (old new was is : Option (List ℕ)) → OutputParts → Result ℕ E → Type 0
-WritesBoth old new was is s (Ok status) =
-    Appends old new s.output × Appends was is s.faults × (status ≡ s.status)
-WritesBoth old new was is s (Err e) =
-    (AppendsCut old new s.output × Appends was is []) ⊎ (Appends old new s.output × AppendsCut was is s.faults)
-
--- What is seen of these files, whose names P knows: of each, in order, and the greatest status; or the output or the
--- faults failed at one of them, and the status is 2.
-pub data IsRun (P : List ℕ → OutputParts → Type 0) (names : List (List ℕ)) (old new was is : Option (List ℕ))
-    (status : ℕ) : Type 0 where
-  Whole : (all : List OutputParts) → AreSeen P names all → Appends old new (outputs all) → Appends was is (faults all)
-      → status ≡ worst all → IsRun P names old new was is status
-  Cut : (front rest : List (List ℕ)) → (all : List OutputParts) → names ≡ front ++ rest → AreSeen P front all
-      → AreCut old new was is (outputs all) (faults all) → status ≡ 2 → IsRun P names old new was is status
+-- What is seen of these files, whose names P knows: of each, in order, and the greatest status; or of those in front of
+-- one whose own can't be written, and the status is 2.
+pub data IsRun (P : List ℕ → OutputParts → Type 0) (names : List (List ℕ)) (old new : World) (status : ℕ) : Type 0
+  where
+    Whole : (all : List OutputParts) → AreSeen P names all → Writes old new (outputs all) (faults all)
+        → status ≡ worst all → IsRun P names old new status
+    Cut : (front rest : List (List ℕ)) (name : List ℕ) (all : List OutputParts) (s : OutputParts) (mid : World)
+        → names ≡ front ++ name ∷ rest → AreSeen P front all → P name s
+        → Writes old mid (outputs all) (faults all) → IsCut mid new s.output s.faults → status ≡ 2
+        → IsRun P names old new status

@@ -7,7 +7,7 @@ use Rattle.jiff.specs.Words.{civil_nanos}
 use Rattle.sha1.specs.Sha1.{sha1}
 use Rattle.sha2.specs.Sha256.{sha256}
 use Rattle.rpki.specs.declared.repository.error.ValidationError.{ValidationError}
-use Rattle.rpki.specs.Provider.{Check}
+use Rattle.rpki.specs.Provider.{Check, Checkers}
 use Rattle.rpki_rsa.specs.Key.{IsSignatureBy}
 use Rattle.rpki_time.specs.Validity.{Period, HoldsAt}
 use Rattle.rpki_cert.specs.Cert.{TbsParts, CertParts}
@@ -150,37 +150,41 @@ rsa bits message value = IsSignatureBy bits (sha256 message) value
 abbrev pub ecdsa : Check
 ecdsa bits message value = ⊥
 
+-- both, and the digests (FIPS 180-4)
+abbrev pub checkers : Checkers
+checkers = record { rsa = rsa; ecdsa = ecdsa; sha1 = sha1; sha256 = sha256 }
+
 -- the signer has signed the content (RFC 6488 3), by the key of the certificate in the object
 abbrev pub IsSignedRight : ObjectParts → Type 0
-IsSignedRight = IsSignedObject rsa ecdsa sha256
+IsSignedRight = IsSignedObject checkers
 
 abbrev pub IsSignedWrong : ObjectParts → ValidationError → Type 0
-IsSignedWrong = IsUnsignedObject rsa ecdsa sha256
+IsSignedWrong = IsUnsignedObject checkers
 
 -- its own key has signed the certificate (RFC 8630 2.3)
 abbrev pub IsSelfSigned : CertParts → Type 0
-IsSelfSigned c = IsSignedBy rsa ecdsa c.tbs.key c.signed
+IsSelfSigned c = IsSignedBy checkers c.tbs.key c.signed
 
 -- The one certificate has issued the other (RFC 5280 6.1.3, RFC 6487 7.2), at the first moment of the other's period:
 -- which moment it is doesn't count, but a period that ends before it begins holds at none.
 abbrev pub IsCertIssued : TbsParts → CertParts → Type 0
-IsCertIssued issuer c = IsIssued rsa ecdsa sha1 issuer c.tbs.validity.not_before c
+IsCertIssued issuer c = IsIssued checkers issuer c.tbs.validity.not_before c
 
 -- the error where it hasn't
 abbrev pub IsCertUnissued : TbsParts → CertParts → ValidationError → Type 0
-IsCertUnissued issuer c = IsUnissued rsa ecdsa sha1 issuer c.tbs.validity.not_before c
+IsCertUnissued issuer c = IsUnissued checkers issuer c.tbs.validity.not_before c
 
 -- the key of the certificate has signed the list, which names its subject as the issuer, and the key (RFC 5280 6.3.3,
 -- RFC 6487 5)
 pub record IsListIssued (issuer : TbsParts) (l : CrlParts) : Type 0 where
-  pub signature : IsSignedBy rsa ecdsa issuer.key l.signed
+  pub signature : IsSignedBy checkers issuer.key l.signed
   pub name : l.list.issuer ≡ issuer.subject
   pub authority : l.list.extensions.authority ≡ sha1 issuer.key.bits.octets
 
 -- the error where one of them doesn't hold: of the first, in this order
 abbrev pub IsListUnissued : TbsParts → CrlParts → ValidationError → Type 0
 IsListUnissued issuer l =
-    Unless (IsSignedBy rsa ecdsa issuer.key l.signed) (HasReason bad_text)
+    Unless (IsSignedBy checkers issuer.key l.signed) (HasReason bad_text)
     (Unless (l.list.issuer ≡ issuer.subject) (HasReason (codes "issuer name mismatch"))
     (HasReason (codes "authority key identifier mismatch")))
 

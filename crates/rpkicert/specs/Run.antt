@@ -1,9 +1,9 @@
 -- A run of what is asked for: first its terms, and then the files.
-use Rattle.std.specs.Prelude.{◌≡◌, ◌⊎◌, ℕ, Bool, true, List, [], ◌++◌, codes, Option, Some, None, Result, Ok, Err}
+use Rattle.std.specs.Prelude.{◌≡◌, ◌⊎◌, ℕ, Bool, true, List, ◌++◌, codes, Option, Some, None, Result, Ok, Err}
 use Rattle.std.specs.Prelude.{IsSome, IfSome, All, if◌then◌else◌}
-use Rattle.std.specs.Io.KnownBytes.{Appends}
 use Rattle.jiff.specs.Types.{DateTime}
 use Rattle.rpki_cert.specs.Cert.{TbsParts}
+use Rattle.rpki_cli.specs.World.{World}
 use Rattle.rpki_crl.specs.Crl.{CrlParts}
 use Rattle.rpki_fields.specs.declared.object.Object.{Object}
 use Rattle.rpki_fields.specs.declared.object.Object.TheVariants.{Certificate, Crl, Manifest, Roa}
@@ -18,7 +18,7 @@ use Rattle.rpkicert.specs.Outcome.{Finding, Finds}
 use Rattle.rpkicert.specs.Request.{Asked}
 use Rattle.rpkicert.specs.Requirements.{TermParts, term_parts, no_terms, list_terms}
 use Rattle.rpkicert.specs.Output.{line, OutputParts, IsSeenOf, IsRun}
-use Rattle.rpkicert.specs.Words.{Prints, memory_text, usage_text}
+use Rattle.rpkicert.specs.Words.{Complains, Writes, memory_text, usage_text}
 
 -- what there is by a name: the octets, or None where there is no file; or nothing is known of it
 abbrev pub Holds : Type 0
@@ -137,46 +137,45 @@ Sees holds check form terms name s = IfSome (holds name) (λ source. IsSeenOf ch
 
 -- The run of what is asked for: of the files, checked against the terms; or nothing but why there are none, with the
 -- status 2.
-pub data IsRunOf (holds : Holds) (clock : Clock) (old new was is : Option (List ℕ)) (status : ℕ)
-    (a : Asked) : Type 0 where
+pub data IsRunOf (holds : Holds) (clock : Clock) (old new : World) (status : ℕ) (a : Asked) : Type 0 where
   Held : (terms : TermParts) → AreRequirements holds clock a terms
-      → IsRun (Sees holds a.check a.form terms) a.files old new was is status
-      → IsRunOf holds clock old new was is status a
-  Denied : (text : List ℕ) → IsDenied holds clock a text → Appends old new [] → Prints was is text 2 status
-      → IsRunOf holds clock old new was is status a
+      → IsRun (Sees holds a.check a.form terms) a.files old new status
+      → IsRunOf holds clock old new status a
+  Denied : (text : List ℕ) → IsDenied holds clock a text → Complains old new text status
+      → IsRunOf holds clock old new status a
 
 -- the run of the files, checked against these terms
-abbrev pub RunsOver : Holds → (old new was is : Option (List ℕ)) → ℕ → Asked → TermParts → Type 0
-RunsOver holds old new was is status a terms = IsRun (Sees holds a.check a.form terms) a.files old new was is status
+abbrev pub RunsOver : Holds → World → World → ℕ → Asked → TermParts → Type 0
+RunsOver holds old new status a terms = IsRun (Sees holds a.check a.form terms) a.files old new status
 
--- nothing is shown, this text is written, or that allocation failed, and the status is 2
-pub record IsDeniedBy (old new was is : Option (List ℕ)) (status : ℕ) (text : List ℕ) : Type 0 where
-  pub kept : Appends old new []
-  pub told : (said : List ℕ) × ((said ≡ text) ⊎ (said ≡ memory_text)) × Prints was is said 2 status
+-- nothing is shown, this text is told, or that allocation failed, and the status is 2
+pub record IsDeniedBy (old new : World) (status : ℕ) (text : List ℕ) : Type 0 where
+  pub said : List ℕ
+  pub either : (said ≡ text) ⊎ (said ≡ memory_text)
+  pub told : Complains old new said status
 
 -- the run of the files, checked against this issuer and its list; or why that is none
-abbrev pub RunsAgainst : Holds → (old new was is : Option (List ℕ)) → ℕ → Asked → TbsParts → Option DateTime
+abbrev pub RunsAgainst : Holds → World → World → ℕ → Asked → TbsParts → Option DateTime
     → (name : List ℕ) → Result CrlParts Fault → Type 0
-RunsAgainst holds old new was is status a issuer moment name (Ok l) =
-    RunsOver holds old new was is status a (term_parts a.inspection (Some issuer) (Some l) moment)
-RunsAgainst holds old new was is status a issuer moment name (Err fault) =
-    IsDeniedBy old new was is status (wrong_issuer_text name fault)
+RunsAgainst holds old new status a issuer moment name (Ok l) =
+    RunsOver holds old new status a (term_parts a.inspection (Some issuer) (Some l) moment)
+RunsAgainst holds old new status a issuer moment name (Err fault) =
+    IsDeniedBy old new status (wrong_issuer_text name fault)
 
 -- the same of the list in the file of this name; without one against this issuer alone
-abbrev pub RunsListed : Holds → (old new was is : Option (List ℕ)) → ℕ → Asked → TbsParts → Option DateTime
-    → Option (List ℕ) → Type 0
-RunsListed holds old new was is status a issuer moment None =
-    RunsOver holds old new was is status a (term_parts a.inspection (Some issuer) None moment)
-RunsListed holds old new was is status a issuer moment (Some name) =
+abbrev pub RunsListed : Holds → World → World → ℕ → Asked → TbsParts → Option DateTime → Option (List ℕ)
+    → Type 0
+RunsListed holds old new status a issuer moment None =
+    RunsOver holds old new status a (term_parts a.inspection (Some issuer) None moment)
+RunsListed holds old new status a issuer moment (Some name) =
     (list : Result CrlParts Fault) × IsList holds name issuer moment list
-    × RunsAgainst holds old new was is status a issuer moment name list
+    × RunsAgainst holds old new status a issuer moment name list
 
 -- the run of the files, checked against this issuer, and its list, where one is asked for; or why it is none
-abbrev pub RunsBy : Holds → (old new was is : Option (List ℕ)) → ℕ → Asked → (name : List ℕ) → Option DateTime
-    → Result TbsParts Fault → Type 0
-RunsBy holds old new was is status a name moment (Ok t) = RunsListed holds old new was is status a t moment a.list
-RunsBy holds old new was is status a name moment (Err fault) =
-    IsDeniedBy old new was is status (wrong_issuer_text name fault)
+abbrev pub RunsBy : Holds → World → World → ℕ → Asked → (name : List ℕ) → Option DateTime → Result TbsParts Fault
+    → Type 0
+RunsBy holds old new status a name moment (Ok t) = RunsListed holds old new status a t moment a.list
+RunsBy holds old new status a name moment (Err fault) = IsDeniedBy old new status (wrong_issuer_text name fault)
 
 -- what there is by each of these names is known
 abbrev pub AreKnown : Holds → List (List ℕ) → Type 0
@@ -197,5 +196,4 @@ pub record IsKnown (holds : Holds) (clock : Clock) (a : Asked) : Type 0 where
 -- each run of what is asked for that ends with the status 0 writes these texts, to the output and to the faults
 abbrev pub EndsWellWith : Holds → Clock → Asked → (output said : List ℕ) → Type 0
 EndsWellWith holds clock a output said =
-    (old new was is : Option (List ℕ)) → IsRunOf holds clock old new was is 0 a
-    → Appends old new output × Appends was is said
+    (old new : World) → IsRunOf holds clock old new 0 a → Writes old new output said

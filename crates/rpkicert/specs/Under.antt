@@ -1,10 +1,10 @@
 -- A run of what is asked for, with the files in folders, where those are asked for.
 use Rattle.std.specs.Prelude.{◌≡◌, ℕ, Bool, true, false, List, [], ◌∷◌, ◌++◌, Option, All, IsSome, IfSome}
-use Rattle.std.specs.Io.KnownBytes.{Appends}
+use Rattle.rpki_cli.specs.World.{World}
 use Rattle.rpkicert.specs.Moment.{Clock}
 use Rattle.rpkicert.specs.Request.{Asked, with_files}
 use Rattle.rpkicert.specs.Run.{Holds, IsKnown, IsRunOf}
-use Rattle.rpkicert.specs.Words.{Prints, memory_text}
+use Rattle.rpkicert.specs.Words.{Complains, Writes, memory_text}
 
 -- the names of the files under a name: of a folder those of the files in it, and in the folders in it, in order; of a
 -- file, and of what can't be listed, the name itself; or nothing is known of them
@@ -25,13 +25,12 @@ AreNamed lists true files all = AreUnder lists files all
 
 -- the run of what is asked for, as if each of the files under those that are named had been named; or there was no
 -- memory for the names, which is said
-pub data IsRunUnder (lists : Lists) (holds : Holds) (clock : Clock) (old new was is : Option (List ℕ)) (status : ℕ)
-    (a : Asked) : Type 0 where
+pub data IsRunUnder (lists : Lists) (holds : Holds) (clock : Clock) (old new : World) (status : ℕ) (a : Asked)
+    : Type 0 where
   Named : (names : List (List ℕ)) → AreNamed lists a.recursive a.files names
-      → IsRunOf holds clock old new was is status (with_files a names)
-      → IsRunUnder lists holds clock old new was is status a
-  Nameless : Appends old new [] → Prints was is memory_text 2 status
-      → IsRunUnder lists holds clock old new was is status a
+      → IsRunOf holds clock old new status (with_files a names)
+      → IsRunUnder lists holds clock old new status a
+  Nameless : Complains old new memory_text status → IsRunUnder lists holds clock old new status a
 
 -- which names there are is known, where they are asked for, and of these all that a run depends on
 pub record IsKnownUnder (lists : Lists) (holds : Holds) (clock : Clock) (a : Asked) : Type 0 where
@@ -42,7 +41,6 @@ pub record IsKnownUnder (lists : Lists) (holds : Holds) (clock : Clock) (a : Ask
 -- where one run of it ends with the status 0, each that does writes the same
 abbrev pub RunsAlikeUnder : Lists → Holds → Clock → Asked → Type 0
 RunsAlikeUnder lists holds clock a =
-    (old new was is : Option (List ℕ)) → IsRunUnder lists holds clock old new was is 0 a
+    (old new : World) → IsRunUnder lists holds clock old new 0 a
     → (output : List ℕ) × (said : List ℕ)
-    × ((old new was is : Option (List ℕ)) → IsRunUnder lists holds clock old new was is 0 a
-    → Appends old new output × Appends was is said)
+    × ((old new : World) → IsRunUnder lists holds clock old new 0 a → Writes old new output said)

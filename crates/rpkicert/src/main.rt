@@ -19,6 +19,7 @@ mod outcome;
 mod output;
 mod pem;
 mod profile;
+mod program;
 mod request;
 mod requirements;
 mod runs;
@@ -31,25 +32,14 @@ mod values;
 mod violation;
 mod violation_lines;
 
-use crate::arguments::words_of;
-use crate::runs::{give_up, run, say};
-use crate::sources::Host;
+use crate::program::run_on;
+use crate::sources::HostSources;
+use rpki_cli::host::Host;
 use std::env;
 use std::process::ExitCode;
 
 fn main(rt: HostRuntime) -> ExitCode {
-    let status = match words_of(rt.alloc(), env::args(&rt)) {
-        Ok(words) => match run(
-            rt.alloc(),
-            words.as_slice(),
-            &Host::new(&rt),
-            &mut rt.stdout(),
-            &mut rt.stderr(),
-        ) {
-            Ok(status) => status,
-            Err(_) => give_up(&mut rt.stderr()),
-        },
-        Err(wordless) => say(wordless, &mut rt.stderr()),
-    };
+    let (sources, mut machine) = (HostSources::new(&rt), Host::new(&rt));
+    let status = run_on(rt.alloc(), env::args(&rt), &sources, &mut machine);
     ExitCode::from(status)
 }

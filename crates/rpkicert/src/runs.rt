@@ -1,18 +1,16 @@
-//! A run: words and files in, output and faults out.
+//! A run: words and files in, output and faults out, a file at a time.
 
 ghost use Rattle.std.specs.Prelude.{◌≡◌, Some, None, IfOk, IfErr, map, string_bytes};
 ghost use Rattle.rpkicert.specs.Request.{help, version};
 ghost use Rattle.rpkicert.specs.RequestView.{asked_of, wanted_by, AskedIn, AskHelp, AskVersion, AskRun, AskNothing};
-ghost use Rattle.rpkicert.specs.Arguments.{wordless_text};
 ghost use Rattle.rpkicert.specs.ComplaintView.{complaint_of};
 ghost use Rattle.rpkicert.specs.Run.{IsRunOf};
 ghost use Rattle.rpkicert.specs.RunView.{RunsAt, RunsTo, RunsOf, RunsOn, RunsUnder, RunsBelow, RunsWith, RunsFound};
 ghost use Rattle.rpkicert.specs.Under.{AreUnder};
-ghost use Rattle.rpkicert.specs.Output.{WritesBoth};
+ghost use Rattle.rpkicert.specs.Output.{WritesBoth, shown_parts};
 ghost use Rattle.rpkicert.specs.OutputView.{seen_of, text_in};
-ghost use Rattle.rpkicert.specs.Words.{Prints, PrintsAlone};
+ghost use Rattle.rpkicert.specs.Words.{Complains, Prints, memory_text};
 
-use crate::arguments::Wordless;
 use crate::complaint::complaint;
 use crate::fault::Fault;
 use crate::files::seen;
@@ -23,123 +21,141 @@ use crate::output::Output;
 use crate::request::{Request, is_given, matched, with_files};
 use crate::requirements::Requirements;
 use crate::sources::Sources;
-use crate::texts::{HELP, OUT_OF_MEMORY, VERSION};
+use crate::texts::{HELP, OUT_OF_MEMORY, PROGRAM, VERSION};
 use clap::ArgMatches;
-use rpki::der::write_whole;
 use rpki::repository::x509::Time;
 use rpki_cert::TbsCert;
+use rpki_cli::give::unprinted;
+use rpki_cli::machine::Machine;
 use rpki_crl::Crl;
 use std::alloc::{AllocError, Global};
-use std::io;
-use std::io::Write;
 
-/// Writes what is shown of a file: first to the output. Returns the exit status.
-fn write_shown<W: Write, F: Write>(
-    shown: &Result<Output, AllocError>,
-    out: &mut W,
-    err: &mut F,
-) -> io::Result<u8>
-    ensures { WritesBoth (W.contents out.old) (W.contents out.new) (F.contents err.old) (F.contents err.new)
-        (seen_of shown.now) result }
+/// Writes a text to standard output, and then another to standard error. Returns this exit status, or None if not all
+/// of both can be written; of the first that is told.
+fn write_both<M: Machine>(output: &[u8], faults: &[u8], status: u8, machine: &mut M) -> Option<u8>
+    ensures known { M.knows machine.old → M.knows machine.new }
+    ensures written { M.knows machine.old → WritesBoth (M.world machine.old) (M.world machine.new)
+        (shown_parts output.now faults.now status) result }
+{
+    if !machine.print(output) {
+        unprinted(machine, PROGRAM);
+        return None;
+    }
+    if !machine.tell(faults) {
+        return None;
+    }
+    Some(status)
+}
+
+/// Writes what is shown of a file: first its output, and then its faults. Returns the exit status, or None if not all
+/// of it can be written.
+fn write_shown<M: Machine>(shown: &Result<Output, AllocError>, machine: &mut M) -> Option<u8>
+    ensures known { M.knows machine.old → M.knows machine.new }
+    ensures written { M.knows machine.old → WritesBoth (M.world machine.old) (M.world machine.new) (seen_of shown.now)
+        result }
 {
     match shown {
-        Ok(shown) => {
-            write_whole(out, shown.output.as_slice())?;
-            write_whole(err, shown.faults.as_slice())?;
-            Ok(shown.status)
-        }
-        Err(_) => {
-            write_whole(err, OUT_OF_MEMORY)?;
-            Ok(2)
-        }
+        Ok(shown) => write_both(
+            shown.output.as_slice(),
+            shown.faults.as_slice(),
+            shown.status,
+            machine,
+        ),
+        Err(_) => write_both(&[], OUT_OF_MEMORY, 2, machine),
     }
 }
 
 /// Shows each of the files, in order, whose objects are checked against these terms, and returns the greatest exit
 /// status; 2 if the output or the faults fail.
-fn show_each<S: Sources, W: Write, F: Write>(
+fn show_each<S: Sources, M: Machine>(
     alloc: Global,
     request: &Request<'_, '_, '_>,
     terms: &Requirements<'_>,
     sources: &S,
-    out: &mut W,
-    err: &mut F,
+    machine: &mut M,
 ) -> u8
-    ensures { RunsOn (S.holds sources.now) (W.contents out.old) (W.contents out.new) (F.contents err.old)
-        (F.contents err.new) result request.now terms.now }
+    ensures known { M.knows machine.old → M.knows machine.new }
+    ensures run { M.knows machine.old → RunsOn (S.holds sources.now)
+        (M.world machine.old) (M.world machine.new) result request.now terms.now }
 {
     let mut worst = 0u8;
     'files: for file in request.files {
         let shown = seen(alloc, request.check, request.form, terms, sources, file);
-        match write_shown(&shown, out, err) {
-            Ok(status) => worst = worst.max(status),
-            Err(_) => return 2,
+        match write_shown(&shown, machine) {
+            Some(status) => worst = worst.max(status),
+            None => return 2,
         }
     }
     worst
 }
 
-/// Writes a text, and returns this exit status; 2 if the output fails.
-fn print<W: Write>(text: &[u8], out: &mut W, status: u8) -> u8
-    ensures { Prints (W.contents out.old) (W.contents out.new) text.now status result }
+/// Prints a text, and returns the exit status 0; 2 if not all of it can be written, which is told.
+fn print<M: Machine>(text: &[u8], machine: &mut M) -> u8
+    ensures known { M.knows machine.old → M.knows machine.new }
+    ensures printed { M.knows machine.old → Prints (M.world machine.old) (M.world machine.new) text.now result }
 {
-    match write_whole(out, text) {
-        Ok(()) => status,
-        Err(_) => 2,
+    if machine.print(text) {
+        return 0;
     }
+    unprinted(machine, PROGRAM)
 }
 
-/// Writes to the faults what is wrong with words that ask for nothing, and how the program is used. Returns the exit
+/// Tells standard error a text, and returns the exit status 2.
+pub fn tell<M: Machine>(text: &[u8], machine: &mut M) -> u8
+    ensures known { M.knows machine.old → M.knows machine.new }
+    ensures told { M.knows machine.old → Complains (M.world machine.old) (M.world machine.new) text.now result }
+{
+    let _ = machine.tell(text);
+    2
+}
+
+/// Tells standard error what is wrong with words that ask for nothing, and how the program is used. Returns the exit
 /// status 2.
 ///
-/// Returns `AllocError` if allocation fails; then nothing is written.
-fn complain<F: Write>(alloc: Global, words: &[String], err: &mut F) -> Result<u8, AllocError>
-    ensures said { IfOk result (λ n. Prints (F.contents err.old) (F.contents err.new)
-        (complaint_of words.now) 2 n) }
-    ensures kept { IfErr result (λ _. err.new ≡ err.old) }
+/// Returns `AllocError` if allocation fails; then nothing is told.
+fn complain<M: Machine>(alloc: Global, words: &[String], machine: &mut M) -> Result<u8, AllocError>
+    ensures known { M.knows machine.old → M.knows machine.new }
+    ensures said { M.knows machine.old → IfOk result (Complains (M.world machine.old) (M.world machine.new)
+        (complaint_of words.now)) }
+    ensures kept { IfErr result (λ _. machine.new ≡ machine.old) }
 {
     let text = complaint(alloc, words)?;
-    Ok(print(text.as_slice(), err, 2))
+    Ok(tell(text.as_slice(), machine))
 }
 
-/// Writes to the faults why there are no words, and returns the exit status 2.
-pub fn say<F: Write>(wordless: Wordless, err: &mut F) -> u8
-    ensures { Prints (F.contents err.old) (F.contents err.new) (wordless_text wordless) 2 result }
+/// Tells standard error that allocation failed, and returns the exit status 2.
+pub fn give_up<M: Machine>(machine: &mut M) -> u8
+    ensures known { M.knows machine.old → M.knows machine.new }
+    ensures told { M.knows machine.old → Complains (M.world machine.old) (M.world machine.new) memory_text result }
 {
-    print(wordless.text(), err, 2)
+    tell(OUT_OF_MEMORY, machine)
 }
 
-/// Writes to the faults that allocation failed, and returns the exit status 2.
-pub fn give_up<F: Write>(err: &mut F) -> u8
-    ensures { Prints (F.contents err.old) (F.contents err.new) OUT_OF_MEMORY.now 2 result }
-{
-    print(OUT_OF_MEMORY, err, 2)
-}
-
-/// Writes to the faults why nothing is shown, or that allocation failed; and returns the exit status 2.
-fn deny<F: Write>(text: Result<Vec<u8>, AllocError>, err: &mut F) -> u8
-    ensures { Prints (F.contents err.old) (F.contents err.new) (text_in text) 2 result }
+/// Tells standard error why nothing is shown, or that allocation failed; and returns the exit status 2.
+fn deny<M: Machine>(text: Result<Vec<u8>, AllocError>, machine: &mut M) -> u8
+    ensures known { M.knows machine.old → M.knows machine.new }
+    ensures told { M.knows machine.old → Complains (M.world machine.old) (M.world machine.new) (text_in text) result }
 {
     match text {
-        Ok(text) => print(text.as_slice(), err, 2),
-        Err(_) => give_up(err),
+        Ok(text) => tell(text.as_slice(), machine),
+        Err(_) => give_up(machine),
     }
 }
 
 /// Shows the files, whose objects are checked against the profile that is asked for, to this issuer, to its revocation
 /// list, and to this moment. Returns the exit status.
-fn show_held<S: Sources, W: Write, F: Write>(
+fn show_held<S: Sources, M: Machine>(
     alloc: Global,
     request: &Request<'_, '_, '_>,
     issuer: Option<&TbsCert>,
     list: Option<&Crl>,
     moment: Option<Time>,
     sources: &S,
-    out: &mut W,
-    err: &mut F,
+    machine: &mut M,
 ) -> u8
-    ensures { RunsTo (S.holds sources.now) (W.contents out.old) (W.contents out.new) (F.contents err.old)
-        (F.contents err.new) result request.now issuer.entry list.entry moment }
+    ensures known { M.knows machine.old → M.knows machine.new }
+    ensures run { M.knows machine.old → RunsTo (S.holds sources.now)
+        (M.world machine.old) (M.world machine.new) result request.now issuer.entry list.entry moment }
 {
     let terms = Requirements {
         inspection: request.inspection,
@@ -147,12 +163,12 @@ fn show_held<S: Sources, W: Write, F: Write>(
         revocations: list,
         moment,
     };
-    show_each(alloc, request, &terms, sources, out, err)
+    show_each(alloc, request, &terms, sources, machine)
 }
 
 /// Shows the files, whose objects are checked against what is asked for, to this issuer, to the list that was found,
 /// and to this moment; or why that is none. Returns the exit status.
-fn show_found<S: Sources, W: Write, F: Write>(
+fn show_found<S: Sources, M: Machine>(
     alloc: Global,
     request: &Request<'_, '_, '_>,
     issuer: &TbsCert,
@@ -160,34 +176,34 @@ fn show_found<S: Sources, W: Write, F: Write>(
     found: &Result<Outcome, Fault>,
     at: Option<Time>,
     sources: &S,
-    out: &mut W,
-    err: &mut F,
+    machine: &mut M,
 ) -> u8
-    ensures { RunsFound (S.holds sources.now) (W.contents out.old) (W.contents out.new) (F.contents err.old)
-        (F.contents err.new) result request.now issuer.now at name.now found.now }
+    ensures known { M.knows machine.old → M.knows machine.new }
+    ensures run { M.knows machine.old → RunsFound (S.holds sources.now)
+        (M.world machine.old) (M.world machine.new) result request.now issuer.now at name.now found.now }
 {
     match list_of(found) {
         Ok(list) => {
             let by = Some(issuer);
-            show_held(alloc, request, by, Some(list), at, sources, out, err)
+            show_held(alloc, request, by, Some(list), at, sources, machine)
         }
-        Err(fault) => deny(wrong_issuer(alloc, name, fault), err),
+        Err(fault) => deny(wrong_issuer(alloc, name, fault), machine),
     }
 }
 
 /// Shows the files, whose objects are checked against what is asked for, to this issuer, to its list, where that is
 /// asked for, and to this moment; or why the list is none. Returns the exit status.
-fn show_with<S: Sources, W: Write, F: Write>(
+fn show_with<S: Sources, M: Machine>(
     alloc: Global,
     request: &Request<'_, '_, '_>,
     issuer: &TbsCert,
     moment: &Option<Time>,
     sources: &S,
-    out: &mut W,
-    err: &mut F,
+    machine: &mut M,
 ) -> u8
-    ensures { RunsWith (S.holds sources.now) (W.contents out.old) (W.contents out.new) (F.contents err.old)
-        (F.contents err.new) result request.now issuer.now moment.now }
+    ensures known { M.knows machine.old → M.knows machine.new }
+    ensures run { M.knows machine.old → RunsWith (S.holds sources.now)
+        (M.world machine.old) (M.world machine.new) result request.now issuer.now moment.now }
 {
     let Some(name) = request.list else {
         return show_held(
@@ -197,76 +213,75 @@ fn show_with<S: Sources, W: Write, F: Write>(
             None,
             *moment,
             sources,
-            out,
-            err,
+            machine,
         );
     };
     let found = find_list(alloc, sources, name, issuer, *moment);
     show_found(
-        alloc, request, issuer, name, &found, *moment, sources, out, err,
+        alloc, request, issuer, name, &found, *moment, sources, machine,
     )
 }
 
 /// Shows the files, whose objects are checked against what is asked for, to the certificate that was found, and to this
 /// moment; or that what was found is none. Returns the exit status.
-fn show_issued<S: Sources, W: Write, F: Write>(
+fn show_issued<S: Sources, M: Machine>(
     alloc: Global,
     request: &Request<'_, '_, '_>,
     name: &str,
     found: &Outcome,
     moment: Option<Time>,
     sources: &S,
-    out: &mut W,
-    err: &mut F,
+    machine: &mut M,
 ) -> u8
-    ensures { RunsOf (S.holds sources.now) (W.contents out.old) (W.contents out.new) (F.contents err.old)
-        (F.contents err.new) result request.now name.now moment found.now }
+    ensures known { M.knows machine.old → M.knows machine.new }
+    ensures run { M.knows machine.old → RunsOf (S.holds sources.now)
+        (M.world machine.old) (M.world machine.new) result request.now name.now moment found.now }
 {
     match issuer_of(found) {
-        Ok(issuer) => show_with(alloc, request, issuer, &moment, sources, out, err),
-        Err(fault) => deny(wrong_issuer(alloc, name, fault), err),
+        Ok(issuer) => show_with(alloc, request, issuer, &moment, sources, machine),
+        Err(fault) => deny(wrong_issuer(alloc, name, fault), machine),
     }
 }
 
 /// Shows the files, whose objects are checked against what is asked for at this moment, which is the one that is asked
 /// for; or why the issuer that is asked for is none. Returns the exit status.
-fn show_at<S: Sources, W: Write, F: Write>(
+fn show_at<S: Sources, M: Machine>(
     alloc: Global,
     request: &Request<'_, '_, '_>,
     moment: Option<Time>,
     sources: &S,
-    out: &mut W,
-    err: &mut F,
+    machine: &mut M,
 ) -> u8
-    ensures { RunsAt (S.holds sources.now) (S.clock sources.now) (W.contents out.old) (W.contents out.new)
-        (F.contents err.old) (F.contents err.new) result request.now moment }
+    ensures known { M.knows machine.old → M.knows machine.new }
+    ensures run { M.knows machine.old → RunsAt (S.holds sources.now) (S.clock sources.now)
+        (M.world machine.old) (M.world machine.new) result request.now moment }
 {
     match request.issuer {
-        None => show_held(alloc, request, None, None, moment, sources, out, err),
+        None => show_held(alloc, request, None, None, moment, sources, machine),
         Some(name) => match find_issuer(alloc, sources, name) {
-            Ok(found) => show_issued(alloc, request, name, &found, moment, sources, out, err),
-            Err(fault) => deny(wrong_issuer(alloc, name, fault), err),
+            Ok(found) => show_issued(alloc, request, name, &found, moment, sources, machine),
+            Err(fault) => deny(wrong_issuer(alloc, name, fault), machine),
         },
     }
 }
 
 /// Shows the files, whose objects are checked against what is asked for; or why the moment or the issuer that is asked
 /// for is none. Returns the exit status.
-fn show_all<S: Sources, W: Write, F: Write>(
+fn show_all<S: Sources, M: Machine>(
     alloc: Global,
     request: &Request<'_, '_, '_>,
     sources: &S,
-    out: &mut W,
-    err: &mut F,
+    machine: &mut M,
 ) -> u8
-    ensures { IsRunOf (S.holds sources.now) (S.clock sources.now) (W.contents out.old) (W.contents out.new)
-        (F.contents err.old) (F.contents err.new) result (asked_of request.now) }
+    ensures known { M.knows machine.old → M.knows machine.new }
+    ensures run { M.knows machine.old → IsRunOf (S.holds sources.now) (S.clock sources.now)
+        (M.world machine.old) (M.world machine.new) result (asked_of request.now) }
 {
     match request.moment {
-        None => show_at(alloc, request, None, sources, out, err),
+        None => show_at(alloc, request, None, sources, machine),
         Some(word) => match moment_at(sources, word) {
-            Some(moment) => show_at(alloc, request, Some(moment), sources, out, err),
-            None => deny(wrong_moment(alloc, word), err),
+            Some(moment) => show_at(alloc, request, Some(moment), sources, machine),
+            None => deny(wrong_moment(alloc, word), machine),
         },
     }
 }
@@ -302,111 +317,100 @@ fn texts_of<'a>(alloc: Global, names: &'a [String]) -> Result<Vec<&'a str>, Allo
 /// Shows the files under those that are asked for, as if each had been. Returns the exit status.
 ///
 /// Returns `AllocError` if there is no memory for their names; then nothing is written.
-fn show_under<S: Sources, W: Write, F: Write>(
+fn show_under<S: Sources, M: Machine>(
     alloc: Global,
     request: &Request<'_, '_, '_>,
     sources: &S,
-    out: &mut W,
-    err: &mut F,
+    machine: &mut M,
 ) -> Result<u8, AllocError>
-    ensures shown { RunsBelow S.lists S.holds S.clock sources.now (W.contents out.old) (W.contents out.new)
-        (F.contents err.old) (F.contents err.new) result request.now }
-    ensures kept { IfErr result (λ _. (out.new ≡ out.old) × (err.new ≡ err.old)) }
+    ensures known { M.knows machine.old → M.knows machine.new }
+    ensures shown { M.knows machine.old → RunsBelow S.lists S.holds S.clock sources.now (M.world machine.old)
+        (M.world machine.new) result request.now }
+    ensures kept { IfErr result (λ _. machine.new ≡ machine.old) }
 {
     let names = names_under(alloc, sources, request.files)?;
     let files = texts_of(alloc, names.as_slice())?;
     let named = with_files(request, files.as_slice());
-    Ok(show_all(alloc, &named, sources, out, err))
+    Ok(show_all(alloc, &named, sources, machine))
 }
 
 /// Shows the files, or those under them, where that is asked for. Returns the exit status.
-fn show_named<S: Sources, W: Write, F: Write>(
+fn show_named<S: Sources, M: Machine>(
     alloc: Global,
     request: &Request<'_, '_, '_>,
     sources: &S,
-    out: &mut W,
-    err: &mut F,
+    machine: &mut M,
 ) -> u8
-    ensures { RunsUnder S.lists S.holds S.clock sources.now (W.contents out.old) (W.contents out.new)
-        (F.contents err.old) (F.contents err.new) result (asked_of request.now) }
+    ensures known { M.knows machine.old → M.knows machine.new }
+    ensures run { M.knows machine.old → RunsUnder S.lists S.holds S.clock sources.now
+        (M.world machine.old) (M.world machine.new) result (asked_of request.now) }
 {
     if !request.recursive {
-        return show_all(alloc, request, sources, out, err);
+        return show_all(alloc, request, sources, machine);
     }
-    match show_under(alloc, request, sources, out, err) {
+    match show_under(alloc, request, sources, machine) {
         Ok(status) => status,
-        Err(_) => give_up(err),
+        Err(_) => give_up(machine),
     }
 }
 
 /// Does what was asked for by these words, and returns the exit status.
 ///
 /// Returns `AllocError` if there is no memory to say that it is nothing; then nothing is written.
-fn answer<S: Sources, W: Write, F: Write>(
+fn answer<S: Sources, M: Machine>(
     alloc: Global,
     words: &[String],
     matches: &ArgMatches<'_>,
-    files: &S,
-    out: &mut W,
-    err: &mut F,
+    sources: &S,
+    machine: &mut M,
 ) -> Result<u8, AllocError>
-    ensures help { wanted_by matches.now ≡ Some help → IfOk result (λ n. PrintsAlone (W.contents out.old)
-        (W.contents out.new) HELP.now 0 n (err.new ≡ err.old)) }
-    ensures version { wanted_by matches.now ≡ Some version → IfOk result (λ n. PrintsAlone (W.contents out.old)
-        (W.contents out.new) VERSION.now 0 n (err.new ≡ err.old)) }
-    ensures files { AskedIn matches.now result (RunsUnder S.lists S.holds S.clock files.now (W.contents out.old)
-        (W.contents out.new) (F.contents err.old) (F.contents err.new)) }
-    ensures usage { wanted_by matches.now ≡ None → IfOk result (λ n. PrintsAlone (F.contents err.old)
-        (F.contents err.new) (complaint_of words.now) 2 n (out.new ≡ out.old)) }
-    ensures kept { IfErr result (λ _. (out.new ≡ out.old) × (err.new ≡ err.old)) }
+    ensures known { M.knows machine.old → M.knows machine.new }
+    ensures help { M.knows machine.old → wanted_by matches.now ≡ Some help → IfOk result
+        (Prints (M.world machine.old) (M.world machine.new) HELP.now) }
+    ensures version { M.knows machine.old → wanted_by matches.now ≡ Some version → IfOk result
+        (Prints (M.world machine.old) (M.world machine.new) VERSION.now) }
+    ensures files { M.knows machine.old → AskedIn matches.now result (RunsUnder S.lists S.holds S.clock sources.now
+        (M.world machine.old) (M.world machine.new)) }
+    ensures usage { M.knows machine.old → wanted_by matches.now ≡ None → IfOk result
+        (Complains (M.world machine.old) (M.world machine.new) (complaint_of words.now)) }
+    ensures kept { IfErr result (λ _. machine.new ≡ machine.old) }
 {
     if is_given(matches, "help") {
-        return Ok(print(HELP, out, 0));
+        return Ok(print(HELP, machine));
     }
     if is_given(matches, "version") {
-        return Ok(print(VERSION, out, 0));
+        return Ok(print(VERSION, machine));
     }
     match Request::of(matches) {
-        Some(request) => Ok(show_named(alloc, &request, files, out, err)),
-        None => complain(alloc, words, err),
+        Some(request) => Ok(show_named(alloc, &request, sources, machine)),
+        None => complain(alloc, words, machine),
     }
 }
 
-/// Runs what the words, which are the program's arguments, ask for, and returns the exit status.
+/// Does what the words, which are the program's arguments, ask for, and returns the exit status.
 ///
-/// `--help` and `--version` print a text. Else each file that the words name is shown, in order: the object that it is
-/// by its fields and items, and a fault by a line among the faults; with `--check` a line for either to the output. A
-/// text with several certificates is shown as so many files. With `-r` the files in a folder, and in the folders in it,
-/// are shown as if each had been named, in the order of their names. The moment `now` is that of the clock, which no
-/// other word asks for. If the words name an issuer that is no certificate, a list that isn't the issuer's or doesn't
-/// hold at the moment, or a moment that isn't one, only that is told, among the faults. Of other words what is wrong
-/// with them first, and how the program is used.
-///
-/// The status is 0 if all is well; 1 if a file is no such object, breaks a rule of its own, violates the profile, is of
-/// another issuer, is revoked, or holds at another time; 2 if one can't be read, without the issuer, its list or the
-/// moment, for other words,
-/// if allocation fails, and if the output or the faults fail; of several the greatest. Returns `AllocError` if there is
-/// no memory to read the words, or to say what is wrong with them; then nothing is written.
-pub fn run<S: Sources, W: Write, F: Write>(
+/// Returns `AllocError` if there is no memory to read the words, or to say what is wrong with them; then nothing is
+/// written.
+pub fn run<S: Sources, M: Machine>(
     alloc: Global,
     words: &[String],
-    files: &S,
-    out: &mut W,
-    err: &mut F,
+    sources: &S,
+    machine: &mut M,
 ) -> Result<u8, AllocError>
-    ensures help { AskHelp words.now → IfOk result (λ n. PrintsAlone (W.contents out.old) (W.contents out.new)
-        HELP.now 0 n (err.new ≡ err.old)) }
-    ensures version { AskVersion words.now → IfOk result (λ n. PrintsAlone (W.contents out.old) (W.contents out.new)
-        VERSION.now 0 n (err.new ≡ err.old)) }
-    ensures files { AskRun words.now result (RunsUnder S.lists S.holds S.clock files.now (W.contents out.old)
-        (W.contents out.new) (F.contents err.old) (F.contents err.new)) }
-    ensures usage { AskNothing words.now → IfOk result (λ n. PrintsAlone (F.contents err.old) (F.contents err.new)
-        (complaint_of words.now) 2 n (out.new ≡ out.old)) }
-    ensures kept { IfErr result (λ _. (out.new ≡ out.old) × (err.new ≡ err.old)) }
+    ensures known { M.knows machine.old → M.knows machine.new }
+    ensures help { M.knows machine.old → AskHelp words.now → IfOk result
+        (Prints (M.world machine.old) (M.world machine.new) HELP.now) }
+    ensures version { M.knows machine.old → AskVersion words.now → IfOk result
+        (Prints (M.world machine.old) (M.world machine.new) VERSION.now) }
+    ensures files { M.knows machine.old → AskRun words.now result (RunsUnder S.lists S.holds S.clock sources.now
+        (M.world machine.old) (M.world machine.new)) }
+    ensures usage { M.knows machine.old → AskNothing words.now → IfOk result
+        (Complains (M.world machine.old) (M.world machine.new) (complaint_of words.now)) }
+    ensures kept { IfErr result (λ _. machine.new ≡ machine.old) }
 {
     match matched(alloc, words) {
-        Ok(Some(matches)) => answer(alloc, words, &matches, files, out, err),
-        Ok(None) => complain(alloc, words, err),
+        Ok(Some(matches)) => answer(alloc, words, &matches, sources, machine),
+        Ok(None) => complain(alloc, words, machine),
         Err(e) => Err(e),
     }
 }

@@ -5,7 +5,7 @@ ghost use Rattle.std.specs.Option.{option_copied};
 ghost use Rattle.rpki_cert.specs.RuleError.{ChecksBy};
 ghost use Rattle.rpki_valid.specs.Valid.{HasReason, IsSignedBy};
 ghost use Rattle.rpkicert.specs.Fault.{bad_text};
-ghost use Rattle.rpkicert.specs.Requirements.{rsa, ecdsa, is_self_issued, IsSelfSigned, IsListIssued, IsListUnissued};
+ghost use Rattle.rpkicert.specs.Requirements.{checkers, is_self_issued, IsSelfSigned, IsListIssued, IsListUnissued};
 ghost use Rattle.rpkicert.specs.RequirementsView.{ChecksOne};
 
 use rpki::crypto::PublicKey;
@@ -53,7 +53,7 @@ pub fn check_anchor(cert: Option<&Cert>) -> Result<(), ValidationError>
 
 /// Whether the key has signed the list.
 fn verify_list_signed(key: &PublicKey, list: &Crl) -> Result<(), ValidationError>
-    ensures { ChecksBy (IsSignedBy rsa ecdsa key.now list.now.signed) (HasReason bad_text) result }
+    ensures { ChecksBy (IsSignedBy checkers key.now list.now.signed) (HasReason bad_text) result }
 {
     let signed = list.signed_data();
     verify_signature(

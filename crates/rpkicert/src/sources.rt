@@ -8,7 +8,14 @@ use rpki::repository::x509::Time;
 use std::alloc::{AllocError, Global};
 use std::cell::Cell;
 use std::fs;
+use std::fs::Metadata;
+use std::os::unix::fs::MetadataExt;
 use std::time::{SystemTime, UNIX_EPOCH};
+
+/// Whether both are one file, and a regular one.
+fn is_same(seen: &Metadata, open: &Metadata) -> bool {
+    open.is_file() && open.ino() == seen.ino() && open.dev() == seen.dev()
+}
 
 /// Files by their names, and a clock.
 pub trait Sources {
@@ -46,53 +53,75 @@ pub trait Sources {
         ensures { IfSome (clock self.now) (λ at. result ≡ at) };
 }
 
+/// The moment that the host's clock has, to the second. None where it can't be read, or has none of the years 0 to
+/// 9999.
+fn clock_of(rt: &HostRuntime) -> Option<Time> {
+    let now = SystemTime::now(rt).ok()?;
+    let since = now.duration_since(UNIX_EPOCH).ok()?;
+    let seconds = i64::try_from(since.as_secs()).ok()?;
+    let begin = Time::utc(1970, 1, 1, 0, 0, 0)?;
+    begin.checked_add(SignedDuration::from_secs(seconds))
+}
+
 /// The files of the host, of which `-` is standard input, and its clock.
 #[derive(Drop)]
-pub struct Host<'a> {
+pub struct HostSources<'a> {
     rt: &'a HostRuntime,
+    /// What the clock had when the run began.
+    at: Option<Time>,
     /// Whether files were found in folders. Of these regular ones are opened alone, since opening a FIFO waits for a
     /// writer; who names one waits for it.
     is_listed: Cell<bool>,
 }
 
-impl<'a> Host<'a> {
-    /// The host.
-    pub fn new(rt: &'a HostRuntime) -> Host<'a> {
-        Host {
+impl<'a> HostSources<'a> {
+    /// The host, whose clock is read once.
+    pub fn new(rt: &'a HostRuntime) -> HostSources<'a> {
+        HostSources {
             rt,
+            at: clock_of(rt),
             is_listed: Cell::new(false),
-        }
-    }
-
-    /// Why what is at this name isn't opened.
-    fn fault_at(&self, name: &str) -> Option<Cause> {
-        if !self.is_listed.get() {
-            return None;
-        }
-        match fs::metadata(self.rt, name) {
-            Ok(it) if it.is_file() => None,
-            Ok(it) if it.is_dir() => Some(Cause::Folder),
-            Ok(_) => Some(Cause::Special),
-            Err(e) => Some(Cause::of(e.kind())),
         }
     }
 }
 
-impl Sources for Host<'_> {
-    ghost use Rattle.std.specs.Prelude.{None};
+/// All of a file that was found in a folder: of a regular one, which is looked at before it is opened, and again once
+/// it is open. Who can write in the folder while it is read can let a run wait.
+fn read_listed(rt: &HostRuntime, alloc: Global, name: &str) -> Result<Vec<u8>, Fault> {
+    let seen = match fs::metadata(rt, name) {
+        Ok(seen) => seen,
+        Err(e) => return Err(Fault::Unreadable(Cause::of(e.kind()))),
+    };
+    if seen.is_dir() {
+        return Err(Fault::Unreadable(Cause::Folder));
+    }
+    if !seen.is_file() {
+        return Err(Fault::Unreadable(Cause::Special));
+    }
+    match fs::open(rt, name) {
+        Ok(mut file) => match file.metadata() {
+            Ok(open) if is_same(&seen, &open) => read_whole(alloc, &mut file),
+            _ => Err(Fault::Unreadable(Cause::Other)),
+        },
+        Err(e) => Err(Fault::Unreadable(Cause::of(e.kind()))),
+    }
+}
+
+impl Sources for HostSources<'_> {
+    ghost use Rattle.std.specs.Prelude.{None, Some};
 
     ghost holds = { λ _ _. None };
 
     ghost lists = { λ _ _. None };
 
-    ghost clock = { λ _. None };
+    ghost clock = { λ h. Some h.at };
 
     fn read(&self, alloc: Global, name: &str) -> Result<Vec<u8>, Fault> {
         if name == "-" {
             return read_whole(alloc, &mut self.rt.stdin());
         }
-        if let Some(cause) = self.fault_at(name) {
-            return Err(Fault::Unreadable(cause));
+        if self.is_listed.get() {
+            return read_listed(self.rt, alloc, name);
         }
         match fs::open(self.rt, name) {
             Ok(mut file) => read_whole(alloc, &mut file),
@@ -106,10 +135,6 @@ impl Sources for Host<'_> {
     }
 
     fn now(&self) -> Option<Time> {
-        let now = SystemTime::now(self.rt).ok()?;
-        let since = now.duration_since(UNIX_EPOCH).ok()?;
-        let seconds = i64::try_from(since.as_secs()).ok()?;
-        let begin = Time::utc(1970, 1, 1, 0, 0, 0)?;
-        begin.checked_add(SignedDuration::from_secs(seconds))
+        self.at
     }
 }

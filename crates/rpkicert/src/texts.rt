@@ -5,6 +5,9 @@ pub const USAGE: &[u8] =
     b"usage: rpkicert [--json] [--check] [--profile NAME] [--lax] [--issuer FILE] [--crl FILE] \
 [--at MOMENT] [-r] FILE..\n";
 
+/// The program's name.
+pub const PROGRAM: &str = "rpkicert";
+
 /// The program's name and version.
 pub const VERSION: &[u8] = b"rpkicert 0.2.0\n";
 

@@ -6,7 +6,8 @@ use Rattle.rpkicert.proofs.runs.show_each.Given as goal
 
 abbrev pub invariant-files : goal.invariant-files
 invariant-files g l =
-    HaveSeen (Sees (g.S.Sources.holds l.sources) l.request.check l.request.form (terms_of l.terms))
+    g.M.Machine.knows l.initial.machine
+    → g.M.Machine.knows l.machine
+    × HaveSeen (Sees (g.S.Sources.holds l.sources) l.request.check l.request.form (terms_of l.terms))
     (map (λ file. file.now) (take l.file-index l.request.files.now))
-    (g.W.Write.contents l.initial.out) (g.W.Write.contents l.out) (g.F.Write.contents l.initial.err)
-    (g.F.Write.contents l.err) l.worst
+    (g.M.Machine.world l.initial.machine) (g.M.Machine.world l.machine) l.worst

@@ -1,11 +1,10 @@
-use Rattle.std.proofs.KnownBytes.{Appends-nil}
 use Rattle.rpkicert.proofs.SettledLaws.{denied-by}
 use Rattle.rpkicert.proofs.runs.show_issued.Goals as goal
 
-pub returns-in-Ok : goal.returns-in-Ok
-returns-in-Ok g c = rw (← c.in-Ok.ensures) c.show_with.ensures
+pub returns-in-Ok-clause-run : goal.returns-in-Ok-clause-run
+returns-in-Ok-clause-run g c = λ k. rw (← c.in-Ok.ensures) (c.show_with.ensures.run k)
 
-pub returns-in-Err : goal.returns-in-Err
-returns-in-Err g c =
+pub returns-in-Err-clause-run : goal.returns-in-Err-clause-run
+returns-in-Err-clause-run g c = λ k.
     rw (← c.in-Err.ensures)
-    (denied-by c.wrong_issuer.result _ _ _ _ _ _ c.wrong_issuer.ensures (Appends-nil _) c.deny.ensures)
+    (denied-by c.wrong_issuer.result _ _ _ _ c.wrong_issuer.ensures (c.deny.ensures.told k))
