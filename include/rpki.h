@@ -35,11 +35,11 @@
  *  - `out`, and each other parameter that is written, is aligned for its type and is inside neither the octets that are
  *    read nor another parameter. It need not be initialised, unless it has spans: then it is zeroed before, or was
  *    filled by a call.
- *    A zeroed struct, which no call has filled, is refused: it has no certificate (rpki_authority, RPKI_NO_ISSUER), no
- *    moment and no period (RPKI_CONTENT), no places (RPKI_OTHER_PARTS), or no octets (RPKI_TRUNCATED, or the first
- *    part). But of what there may be none there is none: no entries of a list (rpki_crl_contains and rpki_serials
- *    return RPKI_OK, rpki_crl_revokes doesn't), no value that may be missing (rpki_take_optional), no blocks of an
- *    issuer, no extension.
+ *    A zeroed struct, which no call has filled, is refused: it has no manifest (rpki_authority, RPKI_NO_MANIFEST; for
+ *    rpki_authority_list and _manifest it has no certificate, RPKI_NO_ISSUER), no moment and no period (RPKI_CONTENT),
+ *    no places (RPKI_OTHER_PARTS), or no octets (RPKI_TRUNCATED, or the first part). But of what there may be none
+ *    there is none: no entries of a list (rpki_crl_contains and rpki_serials return RPKI_OK, rpki_crl_revokes doesn't),
+ *    no value that may be missing (rpki_take_optional), no blocks of an issuer, no extension.
  *  - malloc, realloc and free are of one allocator, and align a block to each power of two up to 16 that divides its
  *    size. Calls are not made from a signal handler, or between fork and exec of a process with threads.
  *
@@ -151,10 +151,11 @@ enum {
     RPKI_INVALID_PADDING = 43,     /* padding is missing */
 
     /* Of the calls on authorities, beside 62 and 63. */
-    RPKI_TOO_DEEP = 44,   /* the path has RPKI_MOST_STEPS steps already */
-    RPKI_NO_LIST = 45,    /* the authority has no revocation list yet: rpki_authority_list gives it one */
-    RPKI_SAME_NAMES = 46, /* a manifest names two of its files alike (RFC 9286 4.2.1) */
-    RPKI_OTHER_LIST = 47, /* a manifest lists another revocation list than the authority's, none, or several */
+    RPKI_TOO_DEEP = 44,    /* the path has RPKI_MOST_STEPS steps already */
+    RPKI_NO_LIST = 45,     /* the authority has no revocation list yet: rpki_authority_list gives it one */
+    RPKI_SAME_NAMES = 46,  /* a manifest names two of its files alike (RFC 9286 4.2.1) */
+    RPKI_OTHER_LIST = 47,  /* a manifest lists another revocation list than the authority's, none, or several */
+    RPKI_NO_MANIFEST = 48, /* the authority has no manifest yet: rpki_authority_manifest gives it one */
 
     /* Of rpki_validity_at: why a period doesn't hold at a moment. */
     RPKI_TOO_NEW = 50, /* the period begins after the moment */
@@ -288,6 +289,20 @@ enum {
     RPKI_PART_CUSTOMER = 150,     /* the customer is no INTEGER below 2^32 */
     RPKI_PART_PROVIDERS = 151,    /* the providers: none, one is no such INTEGER, not above the one before it, or the
                                      customer; or something follows them */
+
+    /* Of rpki_checklist: the malformed part. */
+    RPKI_PART_CHECKLIST = 184,           /* the SEQUENCE around all: it isn't there, or something follows it */
+    RPKI_PART_CHECKLIST_VERSION = 185,   /* a version is there: 0 is left out */
+    RPKI_PART_CHECKLIST_RESOURCES = 186, /* the SEQUENCE of resources: it isn't there, or none are in it */
+    RPKI_PART_CHECKLIST_ALGORITHM = 187, /* the algorithm of the digests is not SHA-256 */
+    RPKI_PART_CHECKLIST_FILES = 188,     /* the files: none, one is no name and digest; or something follows them */
+
+    /* Of rpki_tak: the malformed part. */
+    RPKI_PART_TAK = 192,             /* the SEQUENCE around all: it isn't there, or something follows it or its keys */
+    RPKI_PART_TAK_VERSION = 193,     /* a version is there: 0 is left out */
+    RPKI_PART_TAK_CURRENT = 194,     /* the current key: its comments, its URIs, none of them, or the key itself */
+    RPKI_PART_TAK_PREDECESSOR = 195, /* the key that was current before, likewise */
+    RPKI_PART_TAK_SUCCESSOR = 196,   /* the key that will be current, likewise */
 
     /* Of rpki_certificate_issued_by: why the certificate was not issued by the other. */
     RPKI_NO_ISSUER = 152,       /* the other is no certificate: rpki_certificate says why */
@@ -651,6 +666,41 @@ struct rpki_aspa_parts {
     uint32_t customer;          /* the AS number of the customer */
 };
 
+/* The parts of a signed checklist (RFC 9323 4). */
+struct rpki_checklist_parts {
+    struct rpki_span as_numbers; /* the AS numbers, as rpki_as_blocks reads them; no octets where they aren't there */
+    struct rpki_span addresses;  /* the addresses, as rpki_ip_blocks reads them; no octets where they aren't there */
+    struct rpki_span files;      /* the files, in sequence, each with its header */
+    size_t count;                /* how many files there are */
+    bool has_as_numbers;         /* whether AS numbers are there */
+    bool has_addresses;          /* whether addresses are there */
+};
+
+/* A file of a checklist. */
+struct rpki_checklist_file_parts {
+    struct rpki_span name; /* its name: letters, digits, `.`, `_` and `-`, one at least; no octets where it has none */
+    uint8_t digest[32];    /* the digest of its octets by SHA-256 */
+    bool has_name;         /* whether it has a name */
+};
+
+/* A key of a trust anchor, with what a locator says of it (RFC 9691 3.2.2). */
+struct rpki_anchor_key_parts {
+    struct rpki_span comments; /* the comments, each a UTF8String with its header, for rpki_take */
+    size_t comment_count;      /* how many comments there are */
+    struct rpki_span uris;     /* the URIs of its certificate, each an IA5String with its header, in order */
+    size_t uri_count;          /* how many URIs there are, one at least */
+    struct rpki_span key;      /* the key, a SubjectPublicKeyInfo, with its header */
+};
+
+/* The parts of trust anchor keys (RFC 9691 3.2). */
+struct rpki_tak_parts {
+    struct rpki_anchor_key_parts current;     /* the current key */
+    struct rpki_anchor_key_parts predecessor; /* the one before; no octets where there is none */
+    struct rpki_anchor_key_parts successor;   /* the key that will be current, likewise */
+    bool has_predecessor;                     /* whether there is a predecessor */
+    bool has_successor;                       /* whether there is a successor */
+};
+
 /* Types of what signed objects contain, by rpki_content_type. */
 enum {
     RPKI_TYPE_OTHER = 0,            /* none of these */
@@ -698,13 +748,15 @@ struct rpki_key_octets {
 
 /*
  * An authority of a path, which begins at a trust anchor: what is asked of all that the authority issues. Only
- * rpki_authority_anchor, rpki_authority_list and rpki_authority_under fill it in, and nothing else is to write to it:
- * what they say of an authority rests on that of the one above it. It lends the octets of its certificate and of its
- * list, and the arrays of its blocks, as long as it is used. One that is zeroed is refused: it has no certificate.
+ * rpki_authority_anchor, _list, _manifest and _under fill it in, and nothing else is to write to it: what they say of
+ * an authority rests on that of the one that they were given. It lends the octets of its certificate, its list and its
+ * manifest, and the arrays of its blocks, as long as it is used. One that is zeroed is refused: it has neither a
+ * certificate nor a manifest.
  */
 struct rpki_authority {
     struct rpki_span certificate;          /* its certificate */
     struct rpki_span revoked_certs;        /* the entries of its list, in sequence */
+    struct rpki_span files;                /* the files that its manifest lists, in sequence, for rpki_manifest_file */
     const struct rpki_ip_block *ip_blocks; /* the addresses that it has, in canonical form */
     size_t ip_count;
     const struct rpki_as_block *as_blocks; /* the AS numbers that it has, likewise */
@@ -714,6 +766,7 @@ struct rpki_authority {
     struct rpki_key_octets keys[33]; /* the keys of the path: the trust anchor's first, its own at keys[depth] */
     uint32_t depth;                  /* how many steps lead up to the trust anchor, at most RPKI_MOST_STEPS */
     bool has_list;                   /* whether it has a list */
+    bool has_manifest;               /* whether it has a manifest, which lists that list: so what it issues counts */
 };
 
 /* The parts of an rsync URI, rsync://AUTHORITY/MODULE/PATH (RFC 5781). */
@@ -1246,6 +1299,48 @@ rpki_status rpki_aspa_error(const uint8_t *octets, size_t size, rpki_status *err
  */
 rpki_status rpki_aspa_provider(struct rpki_span *rest, uint32_t *out) RPKI_CHECKED;
 
+/*
+ * Reads a signed checklist (RFC 9323 4), a content, and says what its parts are: version 0, which is left out; AS
+ * numbers, addresses, or both; SHA-256; and files, one at least. What the resources are, rpki_as_blocks and
+ * rpki_ip_blocks say: none may be the issuer's (RFC 9323 4.2). Whether two files are named alike is not looked at.
+ * Takes no memory.
+ *
+ * Where a status is not 0, it is an RPKI_PART_ number, from 184 to 188: the leftmost malformed part.
+ */
+rpki_status rpki_checklist(const uint8_t *octets, size_t size, struct rpki_checklist_parts *out) RPKI_CHECKED;
+
+/*
+ * What is wrong with the malformed part. The status is that of rpki_checklist. Where it is an RPKI_PART_ number,
+ * `*error` becomes one of RPKI_TRUNCATED to RPKI_TRAILING: the leftmost error, as a reader of that part returns it;
+ * RPKI_CONTENT also of a version, of no resources and of no files. RPKI_OK: the octets are a checklist, and `*error` is
+ * left as it was. Takes no memory.
+ */
+rpki_status rpki_checklist_error(const uint8_t *octets, size_t size, rpki_status *error) RPKI_CHECKED;
+
+/*
+ * Takes the file at the front of `rest`, as of `files`: a SEQUENCE of its name, which may be left out, and its digest
+ * (RFC 9323 4.4). rpki_manifest_file_is compares the digest. Takes no memory. The statuses are those of the calls that
+ * read values; RPKI_CONTENT also of a name that is none, and of a digest of another size.
+ */
+rpki_status rpki_checklist_file(struct rpki_span *rest, struct rpki_checklist_file_parts *out) RPKI_CHECKED;
+
+/*
+ * Reads trust anchor keys (RFC 9691 3.2), a content, and says what their parts are: version 0, which is left out; the
+ * current key, and one before and one after it, which may be left out; of each its comments, the URIs of its
+ * certificate, one at least, each an rsync URI of an object or an https URI, and the key. Takes no memory.
+ *
+ * Where a status is not 0, it is an RPKI_PART_ number, from 192 to 196: the leftmost malformed part.
+ */
+rpki_status rpki_tak(const uint8_t *octets, size_t size, struct rpki_tak_parts *out) RPKI_CHECKED;
+
+/*
+ * What is wrong with the malformed part. The status is that of rpki_tak. Where it is an RPKI_PART_ number, `*error`
+ * becomes one of RPKI_TRUNCATED to RPKI_TRAILING: the leftmost error, as a reader of that part returns it; RPKI_CONTENT
+ * also of a version, of no URI, and of one that is no such URI. RPKI_OK: the octets are trust anchor keys, and `*error`
+ * is left as it was. Takes no memory.
+ */
+rpki_status rpki_tak_error(const uint8_t *octets, size_t size, rpki_status *error) RPKI_CHECKED;
+
 /* ---- Resources: all of the octets are the contents of one extension ---- */
 
 /*
@@ -1313,24 +1408,25 @@ rpki_status rpki_as_block_text(const struct rpki_as_block *block, uint8_t *out, 
 /*
  * Each call below returns RPKI_OK where all holds that it asks, and else the first that does not; rpki_crl_contains and
  * rpki_manifest_names answer by `*out`, which is to be looked at too. They ask of one thing each. "Authorities of a
- * path" has calls that ask all at once, in this order, and that can't be asked in another:
+ * path" has calls that ask all at once, and that can't be asked in another order: each is given what the one before it
+ * has made, and refuses another (RPKI_NO_LIST, RPKI_NO_MANIFEST).
  *
- *     rpki_authority_anchor(certificate, key of the locator, &now, ..)   begins a path
- *     rpki_manifest_file_is(digest, ..)                                  of each file that the manifest lists, and so
- * of rpki_authority_list(&authority, list, .., &with_list)              the list: before it nothing is valid
- *     rpki_authority_manifest(&with_list, manifest, ..)                  after it, since it may revoke its certificate
- *     rpki_authority_origin, _providers(&with_list, object, ..)
- *     rpki_authority_end(&with_list, certificate, .., _ROUTER, ..)
- *     rpki_authority_under(&with_list, certificate, .., &next)           an authority below it; then likewise
+ *     rpki_authority_anchor(certificate, key of the locator, &now, .., &bare)   begins a path
+ *     rpki_authority_list(&bare, list, .., &listed)                             its revocation list
+ *     rpki_authority_manifest(&listed, manifest, .., &whole)                    its manifest, which lists that list,
+ *                                                                               and which the list does not revoke
+ *     rpki_manifest_file_is(digest, ..)                                         of each of whole.files
+ *     rpki_authority_origin, _providers(&whole, object, .., &parts)
+ *     rpki_authority_end(&whole, certificate, .., _ROUTER, ..)
+ *     rpki_authority_under(&whole, certificate, .., &bare)                      an authority below it; then likewise
  *
  * Each path ends, but many may lead to one authority: visit it once, by its key, keys[depth]. Of a certificate that a
- * manifest lists rpki_certificate_kind says whether it is that of an authority, _CA or _TA, or a router's. Which files
- * there are says a manifest before it is valid: they are read by its names, its list among them, and nothing that they
- * say counts until rpki_authority_manifest, which refuses another list than the manifest's, and each
- * rpki_manifest_file_is return RPKI_OK. The URIs of the list, the issuer and the object that certificates have are not
- * looked at. Of a certificate that has both the extension of RFC 3779 and that of RFC 8360 for one kind of resources
- * the small calls look at the first: rpki_certificate_checked refuses it (RPKI_RULE_RESOURCE_VERSION).
- * examples/validate does all this.
+ * manifest lists rpki_certificate_kind says whether it is that of an authority, _CA or _TA, or a router's. Which file
+ * the list is says a manifest before it is valid: rpki_authority_manifest refuses another list than the manifest's.
+ * That each file is as the manifest has it is in the caller's care (RFC 9286 6.5). The URIs of the list, the issuer and
+ * the object that certificates have are not looked at. Of a certificate that has both the extension of RFC 3779 and
+ * that of RFC 8360 for one kind of resources the small calls look at the first: rpki_certificate_checked refuses it
+ * (RPKI_RULE_RESOURCE_VERSION). examples/validate does all this.
  */
 
 /*
@@ -1445,7 +1541,7 @@ rpki_status rpki_manifest_file_is(const uint8_t digest[32], const uint8_t *octet
  * The authority of a trust anchor, with which a path begins. The certificate has the profile _TA, names included; its
  * key is that of the locator, as rpki_anchor_verify asks; and it is valid at the moment, at which all of the path is
  * asked, and of which the seconds are not looked at. Its blocks are written to the front of the two arrays, which are
- * lent to `out`. It has no list yet.
+ * lent to `out`. It has neither a list nor a manifest yet.
  *
  * The statuses, in this order: those of rpki_certificate_checked; RPKI_OTHER_ANCHOR; RPKI_CONTENT: the years 0 to 9999
  * have no such moment; RPKI_OTHER_KEY; RPKI_KEY_NOT_ACCEPTED or RPKI_BAD_SIGNATURE; RPKI_TOO_NEW; RPKI_TOO_OLD;
@@ -1458,9 +1554,9 @@ rpki_status rpki_authority_anchor(const uint8_t *octets, size_t size, const uint
 
 /*
  * The same authority with its revocation list, which it has issued, and which is in force at the moment of the path:
- * what rpki_crl_issued_by asks. Nothing that it issues is valid before. It has the list's digest too, by which
- * rpki_authority_manifest finds it in the manifest. Takes no memory. The statuses are those of rpki_crl_issued_by, of
- * the authority's certificate and moment.
+ * what rpki_crl_issued_by asks. It has the list's digest too, by which rpki_authority_manifest finds it in the
+ * manifest, and no manifest yet. Takes no memory. The statuses are those of rpki_crl_issued_by, of the authority's
+ * certificate and moment.
  */
 rpki_status rpki_authority_list(const struct rpki_authority *by, const uint8_t *octets, size_t size,
                                 struct rpki_authority *out) RPKI_CHECKED;
@@ -1470,11 +1566,12 @@ rpki_status rpki_authority_list(const struct rpki_authority *by, const uint8_t *
  * names included; the other has issued it, as rpki_certificate_signed_by asks; it is valid at the moment of the path;
  * the other's list doesn't have it; and its key is that of none on the path, so that each path ends. Its blocks are
  * those that rpki_ip_settle and rpki_as_settle find under the other's, and are written to the front of the two arrays,
- * which are lent to `out`. It has no list yet.
+ * which are lent to `out`. It has neither a list nor a manifest yet.
  *
- * The statuses, in this order: those of rpki_certificate_checked; RPKI_NO_ISSUER: the other has no certificate;
- * RPKI_CONTENT: its moment is none; RPKI_OTHER_ISSUER; RPKI_OTHER_AUTHORITY; RPKI_OTHER_KEY; RPKI_KEY_NOT_ACCEPTED or
- * RPKI_BAD_SIGNATURE; RPKI_TOO_NEW; RPKI_TOO_OLD; RPKI_NO_LIST; those of rpki_crl_contains; RPKI_REVOKED;
+ * The statuses, in this order: RPKI_NO_MANIFEST: the other has none; those of rpki_certificate_checked; RPKI_NO_ISSUER:
+ * the other has no certificate; RPKI_CONTENT: its moment is none; RPKI_OTHER_ISSUER; RPKI_OTHER_AUTHORITY;
+ * RPKI_OTHER_KEY; RPKI_KEY_NOT_ACCEPTED or RPKI_BAD_SIGNATURE; RPKI_TOO_NEW; RPKI_TOO_OLD; RPKI_NO_LIST; those of
+ * rpki_crl_contains; RPKI_REVOKED;
  * RPKI_TOO_DEEP; RPKI_ON_PATH; RPKI_NO_ANSWER: a block of the other is inherited; RPKI_OTHER_RESOURCES;
  * RPKI_OUT_OF_MEMORY; RPKI_TOO_SMALL: an array has no room. Else than with RPKI_OK the arrays hold nothing of use.
  */
@@ -1495,43 +1592,46 @@ rpki_status rpki_authority_end(const struct rpki_authority *by, const uint8_t *o
                                size_t as_capacity, struct rpki_resources *out) RPKI_CHECKED;
 
 /*
- * Whether a signed object is a route origin attestation that is valid below an authority (RFC 6488 3, RFC 9582 5): the
- * key of its certificate has signed it, as rpki_object_verify asks; its certificate is valid below the authority, as
- * rpki_authority_end asks of one with the profile _EE; it lists addresses alone, as rpki_roa_signer asks; and it has
- * those of each prefix. `strict` is as of rpki_signed_object and rpki_roa. What it says, rpki_roa reads.
+ * Reads a signed object that is a route origin attestation, and says what its parts are, as rpki_roa, where it is valid
+ * below an authority (RFC 6488 3, RFC 9582 5), which has a manifest: the key of its certificate has signed it, as
+ * rpki_object_verify asks; its certificate is valid below the authority, as rpki_authority_end asks of one with the
+ * profile _EE; it lists addresses alone, as rpki_roa_signer asks; and it has those of each prefix. `strict` is as of
+ * rpki_signed_object and rpki_roa.
  *
- * The statuses, in this order: those of rpki_signed_object; RPKI_OTHER_TYPE: the content is of another type, or not of
- * the one that is signed; RPKI_OTHER_DIGEST; of the certificate, those of rpki_authority_under up to RPKI_REVOKED, of
- * the profile _EE; RPKI_OTHER_SIGNER; RPKI_KEY_NOT_ACCEPTED or RPKI_BAD_SIGNATURE; RPKI_OTHER_KINDS; RPKI_NO_ANSWER;
- * RPKI_OTHER_RESOURCES; those of rpki_roa; RPKI_OTHER_RESOURCES; or RPKI_OUT_OF_MEMORY.
+ * The statuses, in this order: RPKI_NO_MANIFEST: the authority has none; those of rpki_signed_object; RPKI_OTHER_TYPE:
+ * the content is of another type, or not of the one that is signed; RPKI_OTHER_DIGEST; of the certificate, those of
+ * rpki_authority_under up to RPKI_REVOKED, of the profile _EE; RPKI_OTHER_SIGNER; RPKI_KEY_NOT_ACCEPTED or
+ * RPKI_BAD_SIGNATURE; RPKI_OTHER_KINDS; RPKI_NO_ANSWER; RPKI_OTHER_RESOURCES; those of rpki_roa; RPKI_OTHER_RESOURCES;
+ * or RPKI_OUT_OF_MEMORY.
  */
-rpki_status rpki_authority_origin(const struct rpki_authority *by, const uint8_t *octets, size_t size,
-                                  bool strict) RPKI_CHECKED;
+rpki_status rpki_authority_origin(const struct rpki_authority *by, const uint8_t *octets, size_t size, bool strict,
+                                  struct rpki_roa_parts *out) RPKI_CHECKED;
 
 /*
- * Whether a signed object is an attestation of providers that is valid below an authority: as rpki_authority_origin,
- * but that its certificate lists AS numbers alone, as rpki_aspa_signer asks, and has that of the customer
- * (draft-ietf-sidrops-aspa-profile 4). The statuses are those of rpki_authority_origin, but with those of rpki_aspa in
- * place of rpki_roa.
+ * Reads a signed object that is an attestation of providers, and says what its parts are, as rpki_aspa, where it is
+ * valid below an authority: as rpki_authority_origin, but that its certificate lists AS numbers alone, as
+ * rpki_aspa_signer asks, and has that of the customer (draft-ietf-sidrops-aspa-profile 4). The statuses are those of
+ * rpki_authority_origin, but with those of rpki_aspa in place of rpki_roa.
  */
-rpki_status rpki_authority_providers(const struct rpki_authority *by, const uint8_t *octets, size_t size,
-                                     bool strict) RPKI_CHECKED;
+rpki_status rpki_authority_providers(const struct rpki_authority *by, const uint8_t *octets, size_t size, bool strict,
+                                     struct rpki_aspa_parts *out) RPKI_CHECKED;
 
 /*
- * Whether a signed object is a manifest that is valid below an authority (RFC 9286 6.2, 6.3): the key of its
- * certificate has signed it, as rpki_object_verify asks; its certificate is valid below the authority, as
- * rpki_authority_end asks of one with the profile _EE; all resources that it names are the authority's, as
- * rpki_manifest_inherits asks; no two files have the same name; one alone has a name that ends in `.crl`, and that has
- * the digest of the authority's list (RFC 6481 2.2); and the moment of the path is not before this update nor after the
- * next. `room` has `capacity` places, one for each file at least, and is written over. n files take n log n steps.
- * Whether the other files are as it says, rpki_manifest_file_is asks of each. Takes no memory.
+ * The same authority with its manifest, a signed object that is valid below it (RFC 9286 6.2, 6.3): without one,
+ * nothing that it issues is valid. The key of its certificate has signed it, as rpki_object_verify asks; its
+ * certificate is valid below the authority, as rpki_authority_end asks of one with the profile _EE; all resources that
+ * it names are the authority's, as rpki_manifest_inherits asks; no two files have the same name; one alone has a name
+ * that ends in `.crl`, and that has the digest of the authority's list (RFC 6481 2.2); and the moment of the path is
+ * not before this update nor after the next. `room` has `capacity` places, one for each file at least, and is written
+ * over. n files take n log n steps. `files` of `out` are the manifest's; whether the others are as it says,
+ * rpki_manifest_file_is asks of each. Takes no memory.
  *
- * The statuses, in this order: those of rpki_authority_origin up to RPKI_BAD_SIGNATURE; RPKI_NOT_INHERITED; those of
- * rpki_manifest; RPKI_TOO_SMALL: `room` has too few places; RPKI_SAME_NAMES; RPKI_OTHER_LIST; RPKI_CONTENT: the moment
- * is none; RPKI_TOO_NEW; RPKI_TOO_OLD.
+ * The statuses, in this order: those of rpki_authority_origin from rpki_signed_object's up to RPKI_BAD_SIGNATURE;
+ * RPKI_NOT_INHERITED; those of rpki_manifest; RPKI_TOO_SMALL: `room` has too few places; RPKI_SAME_NAMES;
+ * RPKI_OTHER_LIST; RPKI_CONTENT: the moment is none; RPKI_TOO_NEW; RPKI_TOO_OLD.
  */
 rpki_status rpki_authority_manifest(const struct rpki_authority *by, const uint8_t *octets, size_t size, bool strict,
-                                    struct rpki_span *room, size_t capacity) RPKI_CHECKED;
+                                    struct rpki_span *room, size_t capacity, struct rpki_authority *out) RPKI_CHECKED;
 
 /* ---- Trust anchor locators: all of the octets are the text of one ---- */
 
@@ -2015,6 +2115,29 @@ RPKI_ASSERT(aspa_parts, sizeof(struct rpki_aspa_parts) == 32);
 RPKI_ASSERT_AT(aspa_parts, providers, 0);
 RPKI_ASSERT_AT(aspa_parts, count, 16);
 RPKI_ASSERT_AT(aspa_parts, customer, 24);
+RPKI_ASSERT(checklist_parts, sizeof(struct rpki_checklist_parts) == 64);
+RPKI_ASSERT_AT(checklist_parts, as_numbers, 0);
+RPKI_ASSERT_AT(checklist_parts, addresses, 16);
+RPKI_ASSERT_AT(checklist_parts, files, 32);
+RPKI_ASSERT_AT(checklist_parts, count, 48);
+RPKI_ASSERT_AT(checklist_parts, has_as_numbers, 56);
+RPKI_ASSERT_AT(checklist_parts, has_addresses, 57);
+RPKI_ASSERT(checklist_file_parts, sizeof(struct rpki_checklist_file_parts) == 56);
+RPKI_ASSERT_AT(checklist_file_parts, name, 0);
+RPKI_ASSERT_AT(checklist_file_parts, digest, 16);
+RPKI_ASSERT_AT(checklist_file_parts, has_name, 48);
+RPKI_ASSERT(anchor_key_parts, sizeof(struct rpki_anchor_key_parts) == 64);
+RPKI_ASSERT_AT(anchor_key_parts, comments, 0);
+RPKI_ASSERT_AT(anchor_key_parts, comment_count, 16);
+RPKI_ASSERT_AT(anchor_key_parts, uris, 24);
+RPKI_ASSERT_AT(anchor_key_parts, uri_count, 40);
+RPKI_ASSERT_AT(anchor_key_parts, key, 48);
+RPKI_ASSERT(tak_parts, sizeof(struct rpki_tak_parts) == 200);
+RPKI_ASSERT_AT(tak_parts, current, 0);
+RPKI_ASSERT_AT(tak_parts, predecessor, 64);
+RPKI_ASSERT_AT(tak_parts, successor, 128);
+RPKI_ASSERT_AT(tak_parts, has_predecessor, 192);
+RPKI_ASSERT_AT(tak_parts, has_successor, 193);
 RPKI_ASSERT(revoked_certificate, sizeof(struct rpki_revoked_certificate) == 56);
 RPKI_ASSERT_AT(revoked_certificate, serial_number, 0);
 RPKI_ASSERT_AT(revoked_certificate, revocation_date, 24);
@@ -2059,18 +2182,20 @@ RPKI_ASSERT_AT(resources, as_blocks, 16);
 RPKI_ASSERT_AT(resources, as_count, 24);
 RPKI_ASSERT(key_octets, sizeof(struct rpki_key_octets) == 20);
 RPKI_ASSERT_AT(key_octets, octets, 0);
-RPKI_ASSERT(authority, sizeof(struct rpki_authority) == 800);
+RPKI_ASSERT(authority, sizeof(struct rpki_authority) == 816);
 RPKI_ASSERT_AT(authority, certificate, 0);
 RPKI_ASSERT_AT(authority, revoked_certs, 16);
-RPKI_ASSERT_AT(authority, ip_blocks, 32);
-RPKI_ASSERT_AT(authority, ip_count, 40);
-RPKI_ASSERT_AT(authority, as_blocks, 48);
-RPKI_ASSERT_AT(authority, as_count, 56);
-RPKI_ASSERT_AT(authority, moment, 64);
-RPKI_ASSERT_AT(authority, list_digest, 96);
-RPKI_ASSERT_AT(authority, keys, 128);
-RPKI_ASSERT_AT(authority, depth, 788);
-RPKI_ASSERT_AT(authority, has_list, 792);
+RPKI_ASSERT_AT(authority, files, 32);
+RPKI_ASSERT_AT(authority, ip_blocks, 48);
+RPKI_ASSERT_AT(authority, ip_count, 56);
+RPKI_ASSERT_AT(authority, as_blocks, 64);
+RPKI_ASSERT_AT(authority, as_count, 72);
+RPKI_ASSERT_AT(authority, moment, 80);
+RPKI_ASSERT_AT(authority, list_digest, 112);
+RPKI_ASSERT_AT(authority, keys, 144);
+RPKI_ASSERT_AT(authority, depth, 804);
+RPKI_ASSERT_AT(authority, has_list, 808);
+RPKI_ASSERT_AT(authority, has_manifest, 809);
 RPKI_ASSERT(rsync_parts, sizeof(struct rpki_rsync_parts) == 48);
 RPKI_ASSERT_AT(rsync_parts, authority, 0);
 RPKI_ASSERT_AT(rsync_parts, module_name, 16);
@@ -2135,6 +2260,7 @@ static inline const char *rpki_status_text(rpki_status status) {
         case RPKI_NO_LIST: return "authority has no revocation list";
         case RPKI_SAME_NAMES: return "two files of one name";
         case RPKI_OTHER_LIST: return "manifest lists another revocation list";
+        case RPKI_NO_MANIFEST: return "authority has no manifest";
         case RPKI_PART_CERTIFICATE: return "not a certificate";
         case RPKI_PART_SIGNED: return "malformed signed data";
         case RPKI_PART_ALGORITHM: return "signature algorithm is not the RPKI's";
@@ -2183,6 +2309,16 @@ static inline const char *rpki_status_text(rpki_status status) {
         case RPKI_PART_ASPA_VERSION: return "other version of the attestation";
         case RPKI_PART_CUSTOMER: return "malformed customer";
         case RPKI_PART_PROVIDERS: return "malformed list of providers";
+        case RPKI_PART_CHECKLIST: return "not a checklist";
+        case RPKI_PART_CHECKLIST_VERSION: return "version of the checklist is there";
+        case RPKI_PART_CHECKLIST_RESOURCES: return "malformed resources of the checklist";
+        case RPKI_PART_CHECKLIST_ALGORITHM: return "digest algorithm of the checklist is not SHA-256";
+        case RPKI_PART_CHECKLIST_FILES: return "malformed files of the checklist";
+        case RPKI_PART_TAK: return "not trust anchor keys";
+        case RPKI_PART_TAK_VERSION: return "version of the keys is there";
+        case RPKI_PART_TAK_CURRENT: return "malformed current key";
+        case RPKI_PART_TAK_PREDECESSOR: return "malformed predecessor of the key";
+        case RPKI_PART_TAK_SUCCESSOR: return "malformed successor of the key";
         case RPKI_NO_ISSUER: return "issuer is no certificate";
         case RPKI_OTHER_ISSUER: return "issuer has another name";
         case RPKI_OTHER_AUTHORITY: return "key of the issuer is another one";
@@ -2293,6 +2429,7 @@ static inline const char *rpki_status_name(rpki_status status) {
         case RPKI_NO_LIST: return "RPKI_NO_LIST";
         case RPKI_SAME_NAMES: return "RPKI_SAME_NAMES";
         case RPKI_OTHER_LIST: return "RPKI_OTHER_LIST";
+        case RPKI_NO_MANIFEST: return "RPKI_NO_MANIFEST";
         case RPKI_PART_CERTIFICATE: return "RPKI_PART_CERTIFICATE";
         case RPKI_PART_SIGNED: return "RPKI_PART_SIGNED";
         case RPKI_PART_ALGORITHM: return "RPKI_PART_ALGORITHM";
@@ -2384,6 +2521,16 @@ static inline const char *rpki_status_name(rpki_status status) {
         case RPKI_PART_ASPA_VERSION: return "RPKI_PART_ASPA_VERSION";
         case RPKI_PART_CUSTOMER: return "RPKI_PART_CUSTOMER";
         case RPKI_PART_PROVIDERS: return "RPKI_PART_PROVIDERS";
+        case RPKI_PART_CHECKLIST: return "RPKI_PART_CHECKLIST";
+        case RPKI_PART_CHECKLIST_VERSION: return "RPKI_PART_CHECKLIST_VERSION";
+        case RPKI_PART_CHECKLIST_RESOURCES: return "RPKI_PART_CHECKLIST_RESOURCES";
+        case RPKI_PART_CHECKLIST_ALGORITHM: return "RPKI_PART_CHECKLIST_ALGORITHM";
+        case RPKI_PART_CHECKLIST_FILES: return "RPKI_PART_CHECKLIST_FILES";
+        case RPKI_PART_TAK: return "RPKI_PART_TAK";
+        case RPKI_PART_TAK_VERSION: return "RPKI_PART_TAK_VERSION";
+        case RPKI_PART_TAK_CURRENT: return "RPKI_PART_TAK_CURRENT";
+        case RPKI_PART_TAK_PREDECESSOR: return "RPKI_PART_TAK_PREDECESSOR";
+        case RPKI_PART_TAK_SUCCESSOR: return "RPKI_PART_TAK_SUCCESSOR";
         case RPKI_NO_ISSUER: return "RPKI_NO_ISSUER";
         case RPKI_OTHER_ISSUER: return "RPKI_OTHER_ISSUER";
         case RPKI_OTHER_AUTHORITY: return "RPKI_OTHER_AUTHORITY";

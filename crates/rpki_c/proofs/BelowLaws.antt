@@ -1,8 +1,6 @@
 -- A certificate of which each status is 0 is issued, as the layer says it.
 use Rattle.std.proofs.Common.{◌≡◌, ℕ, true, false, Some, inl, inr, refl, sym, subst, arith, List}
 use Rattle.jiff.specs.Types.{DateTime}
-use Rattle.sha1.specs.Sha1.{sha1}
-use Rattle.sha2.specs.Sha256.{sha256}
 use Rattle.rpki.specs.declared.crypto.keys.PublicKeyFormat.{PublicKeyFormat}
 use Rattle.rpki.specs.Provider.{check_of}
 use Rattle.rpki.specs.PublicKey.{KeyParts}
@@ -28,7 +26,7 @@ use Rattle.rpki_valid.specs.ObjectVerified.{IsSignedObject}
 use Rattle.rpki_objects.specs.SignedObject.{ObjectParts}
 use Rattle.rpki_c.specs.SignedObject.{HasSignedContent}
 use Rattle.rpki_c.specs.Authority.{IsRootTold}
-use Rattle.rpki_c.specs.Below.{rsa, ecdsa, IsIssued, IsIssuedTold, Then, IsListedBy, IsBelowTold, IsBelow}
+use Rattle.rpki_c.specs.Below.{checkers, IsIssued, IsIssuedTold, Then, IsListedBy, IsBelowTold, IsBelow}
 use Rattle.rpki_c.specs.declared.times.Moment.{Moment}
 use Rattle.rpki_c.specs.Issued.{IsToldSigned, NamesIssuer, NamesOwnKey, IsListTold, period_of}
 use Rattle.rpki_c.specs.Key.{HasSigned, IsVerifiedBy}
@@ -42,10 +40,10 @@ both-zero P Q (inl h) = absurd (h.0 refl)
 both-zero P Q (inr h) = h
 
 signed-by : (k : KeyParts) (message signature : List ℕ) → HasSigned k message signature
-    → (k.format ≡ PublicKeyFormat.Rsa) × check_of rsa ecdsa k.format k.bits.octets message signature
+    → (k.format ≡ PublicKeyFormat.Rsa) × check_of checkers k.format k.bits.octets message signature
 signed-by k message signature h = (
   h.format,
-  subst (λ (f : PublicKeyFormat). check_of rsa ecdsa f k.bits.octets message signature) (sym h.format)
+  subst (λ (f : PublicKeyFormat). check_of checkers f k.bits.octets message signature) (sym h.format)
       h.signed,
 )
 
@@ -98,7 +96,7 @@ issued-told profile x issuer known at says has told =
 
 -- a list that an authority has issued, and that is in force
 pub list-told : (x : CrlParts) (y : CertParts) (m : Moment) → IsListTold x y m 0
-    → (at : DateTime) × IsTimeOf m at × IsListOf rsa ecdsa sha1 Refused y.tbs at x
+    → (at : DateTime) × IsTimeOf m at × IsListOf checkers Refused y.tbs at x
 list-told x y m (inl h) = absurd (omega (arith, h.0))
 list-told x y m (inr (inl h)) = absurd (omega (arith, h.0))
 list-told x y m (inr (inr (inl h))) = absurd (h.0 refl)
@@ -159,7 +157,7 @@ below-of profile by x known says has (inr (y, above, inr (at, is, told))) =
 -- the certificate of a trust anchor is signed by its own key
 pub root-told : (x : CertParts) (known : KnownView) (own key : List ℕ) (m : Moment) → AreKnown x.tbs.extensions known
     → HasProfile Ta true x.tbs → IsRootTold x known own key m 0
-    → (key ≡ own) × ((at : DateTime) × IsTimeOf m at × IsSigned rsa ecdsa sha1 x.tbs.subject x.tbs.key at x)
+    → (key ≡ own) × ((at : DateTime) × IsTimeOf m at × IsSigned checkers x.tbs.subject x.tbs.key at x)
 root-told x known own key m says has (inl h) = absurd (omega (arith, h.0))
 root-told x known own key m says has (inr (same, inl h)) = absurd (omega (arith, h.0))
 root-told x known own key m says has (inr (same, inr (at, is, told))) =
@@ -184,7 +182,7 @@ root-told x known own key m says has (inr (same, inr (at, is, told))) =
 pub object-signed : (x : ObjectParts) (known : KnownView) → AreKnown x.cert.tbs.extensions known → HasSignedContent x
     → known.subject_key_identifier ≡ Some x.signer.identifier
     → IsVerifiedBy x.cert.tbs.key x.signer.attributes.message x.signer.signature.value 0
-    → IsSignedObject rsa ecdsa sha256 x
+    → IsSignedObject checkers x
 object-signed x known says content identifier told = record {
   type = sym content.0;
   digest = content.1;

@@ -9,7 +9,9 @@
 --   objects, manifests and attestations: ObjectLaws. The list among a manifest's files: ListingLaws. Tables of serial
 --   numbers: SerialTableLaws.
 -- The entries that octets are: RevokedLaws.
--- Certificates, lists and objects of which each status is 0, as the layer says it: BelowLaws.
+-- Certificates, lists and objects of which each status is 0, as the layer says it: BelowLaws. Paths of authorities:
+--   PathLaws; the resources of their certificates: HeldLaws, BlocksBackLaws; of objects' certificates: SignerPathLaws;
+--   octets are one certificate at most: OneCertLaws.
 -- Resources: entries of blocks, how many there are, what their contents' statuses say, and settled: ResourceLaws.
 
 mod VerificationLaws
@@ -27,3 +29,8 @@ mod ResourceLaws
 mod BelowLaws
 mod ListingLaws
 mod RevokedLaws
+mod OneCertLaws
+mod BlocksBackLaws
+mod HeldLaws
+mod PathLaws
+mod SignerPathLaws

@@ -1,12 +1,12 @@
 -- The revocation list among the files of a manifest, sought from the first file to the last.
-use Rattle.std.proofs.Common.{◌≡◌, ◌≢◌, ◌∙◌, ◌++◌, ◌⊎◌, ◌↔◌, List, ℕ, Bool, true, false, [], ◌∷◌, Some, None, inl, inr}
+use Rattle.std.proofs.Common.{◌≡◌, ◌≢◌, ◌∙◌, ◌++◌, ◌↔◌, List, ℕ, Bool, true, false, [], ◌∷◌, Some, None}
 use Rattle.std.proofs.Common.{refl, sym, ap, IsTrue}
 use Rattle.std.proofs.lemmas.Bool.{false≢true}
 use Rattle.rpki_contents.specs.declared.file_view.FileView.{FileView}
 use Rattle.rpki_contents.specs.FilesInPlace.{FileOctets, AreFiles, HoldFiles}
 use Rattle.rpki_contents.specs.ListedFile.{ListedFile}
 use Rattle.rpki_contents.specs.ManifestView.{file_in, GivesFile}
-use Rattle.rpki_c.specs.AuthorityObject.{is_list, list_digests, ListsOnly}
+use Rattle.rpki_c.specs.AuthorityManifest.{is_list, list_digests, ListsOnly}
 
 -- the digest, where a list was found
 abbrev pub found_in : Bool → List ℕ → List (List ℕ)

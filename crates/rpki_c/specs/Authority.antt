@@ -17,11 +17,12 @@ use Rattle.rpki_crl.specs.Crl.{CrlParts, crl, each_entry, listed}
 use Rattle.rpki_c.specs.declared.authority.Authority.{Authority}
 use Rattle.rpki_c.specs.declared.authority.Resources.{Resources}
 use Rattle.rpki_c.specs.declared.owned.Addresses.{Addresses}
+use Rattle.rpki_valid.specs.declared.resource.set.ResourceSet.{ResourceSet}
 use Rattle.rpki_valid.specs.declared.staleness.Staleness.TheVariants.{Refused}
 use Rattle.rpki_valid.specs.Revocation.{IsListOf}
 use Rattle.rpki_valid.specs.Valid.{IsSigned}
 use Rattle.rpki_c.specs.declared.times.Moment.{Moment}
-use Rattle.rpki_c.specs.Below.{rsa, ecdsa, Then, IsBelow, IsNotBelow}
+use Rattle.rpki_c.specs.Below.{checkers, Then, IsBelow, IsNotBelow}
 use Rattle.rpki_c.specs.Certificate.{part_number}
 use Rattle.rpki_c.specs.CertificateProfile.{IsRefusedAs, profile_number}
 use Rattle.rpki_c.specs.Issued.{IsListRead, IsToldSigned, key_octets}
@@ -29,15 +30,12 @@ use Rattle.rpki_c.specs.Made.{IsPossible, IsTimeOf}
 use Rattle.rpki_c.specs.Moments.{IsToldOf}
 use Rattle.rpki_c.specs.Owned.{HasAddresses, HasNoAddresses, HasNumbers, HasNoNumbers}
 use Rattle.rpki_c.specs.Owned.{HasAnchoredAddresses, HasNoAnchoredAddresses, HasAnchoredNumbers, HasNoAnchoredNumbers}
+use Rattle.rpki_c.specs.Path.{most_steps, KeepsPath, BeginsPath, HasPathBy}
 use Rattle.rpki_c.specs.Resources.{as_entry}
 use Rattle.rpki_c.specs.Settling.{settled_entries}
-use Rattle.rpki_c.specs.Status.{too_small, too_deep, on_path, other_anchor, content, no_profile}
+use Rattle.rpki_c.specs.Status.{too_small, too_deep, on_path, other_anchor, content, no_profile, no_manifest}
 
 -- ---- the keys of a path
-
--- how many steps lead up to a trust anchor at most
-abbrev pub most_steps : ℕ
-most_steps = 32
 
 -- the keys of the path, from that of the trust anchor to the authority's own
 abbrev pub keys_of : Authority → List (List ℕ)
@@ -64,6 +62,10 @@ GivesKeys by key r = MatchResult r (HasNextKeys by key) (HasNoNextKeys by key)
 pub record Own : Type 0 where
   pub addresses : Addresses
   pub numbers : List Block
+
+-- the same as one set
+abbrev pub set_of : Own → ResourceSet
+set_of own = record { ipv4 = own.addresses.v4; ipv6 = own.addresses.v6; asn = own.numbers }
 
 -- they are those of the certificate under the authority's
 pub record HasOwn (by : Authority) (x : CertParts) (known : KnownView) (own : Own) : Type 0 where
@@ -104,6 +106,7 @@ pub record IsMadeUnder (by : Authority) (s : List ℕ) (new : Authority) : Type 
   pub no_digest : new.list_digest ≡ replicate 32 0
   pub depth : new.depth ≡ by.depth + 1
   pub unlisted : new.has_list ≡ false
+  pub bare : new.has_manifest ≡ false
 
 -- it is none that may be below the authority; or it is, and its key is on the path, or it has no resources, or they
 -- have no room
@@ -124,15 +127,32 @@ IsNotMadeUnder by s rooms status =
 abbrev pub MakesUnder : Authority → List ℕ → Rooms → Result Authority ℕ → Type 0
 MakesUnder by s rooms r = MatchResult r (IsMadeUnder by s) (IsNotMadeUnder by s rooms)
 
--- Status 0: the authority is made. Else it isn't, and nothing is written.
+-- 48: the authority has no manifest
+abbrev pub IsWithoutManifest : Authority → ℕ → Type 0
+IsWithoutManifest by status = (by.has_manifest ≡ false) × (status ≡ no_manifest)
+
+-- Status 0: the authority, which has a manifest, is one above the new one, which is made, and its path leads there.
+-- Else it isn't made, and nothing is written.
 abbrev pub IsMadeUnderBy : Authority → List ℕ → Rooms → ℕ → Authority → Authority → Type 0
 IsMadeUnderBy by s rooms status old new =
-    ((status ≡ 0) × IsMadeUnder by s new) ⊎ (IsNotMadeUnder by s rooms status × (new ≡ old))
+    ((status ≡ 0) × (by.has_manifest ≡ true) × IsMadeUnder by s new × KeepsPath by new)
+    ⊎ ((IsWithoutManifest by status ⊎ ((by.has_manifest ≡ true) × IsNotMadeUnder by s rooms status)) × (new ≡ old))
 
 -- ---- an authority with its list
 
+-- the authority with the list of the other
+abbrev pub with_list : Authority → Authority → Authority
+with_list by new = record by {
+  revoked_certs = new.revoked_certs;
+  files = new.files;
+  list_digest = new.list_digest;
+  has_list = true;
+  has_manifest = false;
+}
+
 -- The octets are a revocation list of the authority, which counts at the moment of the path (RFC 5280 6.3.3, RFC 6487
--- 5), and the new one is the authority with its entries, and its digest, by which a manifest lists it (RFC 9286 4.2.1).
+-- 5), and the new one is the authority with its entries, and its digest, by which a manifest lists it (RFC 9286 4.2.1);
+-- it has no manifest.
 pub record IsMadeWith (by : Authority) (s : List ℕ) (new : Authority) : Type 0 where
   pub list : CrlParts
   pub spelled : crl.spells list s
@@ -140,16 +160,16 @@ pub record IsMadeWith (by : Authority) (s : List ℕ) (new : Authority) : Type 0
   pub above : SpellsCert issuer by.certificate.octets.now
   pub at : DateTime
   pub moment : IsTimeOf by.moment at
-  pub of : IsListOf rsa ecdsa sha1 Refused issuer.tbs at list
+  pub of : IsListOf checkers Refused issuer.tbs at list
   pub revoked : each_entry.spells (listed list.list.revoked) new.revoked_certs.octets.now
   pub digest : new.list_digest ≡ sha256 s
-  pub same : new ≡ record by { revoked_certs = new.revoked_certs; list_digest = new.list_digest; has_list = true }
+  pub same : new ≡ with_list by new
 
--- Status 0: the authority is made. Else the octets are no such list, as `rpki_crl_issued_by` says, and nothing is
--- written.
+-- Status 0: the authority is made, and its path is the same. Else the octets are no such list, as `rpki_crl_issued_by`
+-- says, and nothing is written.
 abbrev pub IsMadeWithBy : Authority → List ℕ → ℕ → Authority → Authority → Type 0
 IsMadeWithBy by s status old new =
-    ((status ≡ 0) × IsMadeWith by s new)
+    ((status ≡ 0) × IsMadeWith by s new × KeepsPath by new)
     ⊎ ((status ≢ 0) × IsListRead s by.certificate.octets.now by.moment status × (new ≡ old))
 
 -- ---- the authority of a trust anchor
@@ -172,11 +192,13 @@ pub record HasAnchored (x : CertParts) (own : Own) : Type 0 where
 pub record IsMadeOf (key : List ℕ) (m : Moment) (s : List ℕ) (new : Authority) : Type 0 where
   pub x : CertParts
   pub spelled : SpellsCert x s
+  pub known : KnownView
+  pub says : AreKnown x.tbs.extensions known
   pub profiled : HasProfile Ta true x.tbs
   pub locator : key ≡ key_octets x s spelled
   pub at : DateTime
   pub time : IsTimeOf m at
-  pub signed : IsSigned rsa ecdsa sha1 x.tbs.subject x.tbs.key at x
+  pub signed : IsSigned checkers x.tbs.subject x.tbs.key at x
   pub own : Own
   pub has : HasAnchored x own
   pub certificate : new.certificate.octets.now ≡ s
@@ -187,6 +209,7 @@ pub record IsMadeOf (key : List ℕ) (m : Moment) (s : List ℕ) (new : Authorit
   pub depth : new.depth ≡ 0
   pub keys : new.keys ≡ set (replicate 33 (replicate 20 0)) 0 (sha1 x.tbs.key.bits.octets)
   pub unlisted : new.has_list ≡ false
+  pub bare : new.has_manifest ≡ false
 
 -- it has none of addresses, or it has, and none of AS numbers
 abbrev pub HasNoneAnchored : CertParts → ℕ → Type 0
@@ -213,14 +236,15 @@ IsNotMadeOf key m s rooms status =
 abbrev pub MakesOf : List ℕ → Moment → List ℕ → Rooms → Result Authority ℕ → Type 0
 MakesOf key m s rooms r = MatchResult r (IsMadeOf key m s) (IsNotMadeOf key m s rooms)
 
--- Status 0: the authority is made. Else it isn't, and nothing is written.
+-- Status 0: the authority is made, and a path begins there. Else it isn't, and nothing is written.
 abbrev pub IsMadeOfAnchor : List ℕ → List ℕ → Moment → Rooms → ℕ → Authority → Authority → Type 0
 IsMadeOfAnchor s key m rooms status old new =
-    ((status ≡ 0) × IsMadeOf key m s new) ⊎ (IsNotMadeOf key m s rooms status × (new ≡ old))
+    ((status ≡ 0) × IsMadeOf key m s new × BeginsPath key new) ⊎ (IsNotMadeOf key m s rooms status × (new ≡ old))
 
 -- ---- an end entity below an authority
 
--- The octets are a certificate of the profile, valid below the authority, and these are its resources.
+-- The octets are a certificate of the profile, valid below the authority, and these are its resources; so its path
+-- leads up to the trust anchor.
 pub record IsEndBelow (profile : Profile) (by : Authority) (s : List ℕ) (new : Resources) : Type 0 where
   pub x : CertParts
   pub spelled : SpellsCert x s
@@ -231,6 +255,7 @@ pub record IsEndBelow (profile : Profile) (by : Authority) (s : List ℕ) (new :
   pub has : HasOwn by x known own
   pub ip_blocks : new.ip_blocks.now ≡ settled_entries own.addresses.v4 own.addresses.v6
   pub as_blocks : new.as_blocks.now ≡ map as_entry own.numbers
+  pub path : HasPathBy profile by x (set_of own)
 
 -- it is none that may be below the authority; or it is, and it has no resources, or they have no room
 abbrev pub IsNoEnd : Profile → Authority → CertParts → List ℕ → Rooms → ℕ → Type 0
@@ -257,11 +282,13 @@ is_end_profile Ee = Unit {0}
 is_end_profile Router = Unit {0}
 is_end_profile DetachedEe = Unit {0}
 
--- Of the profile of this number. 12: none of an end entity has it. 0: the certificate is valid below the authority, and
--- its resources are written. Else it isn't, and nothing is written.
+-- Of the profile of this number. 12: none of an end entity has it. 0: the certificate is valid below the authority,
+-- which has a manifest, and its resources are written. Else it isn't, and nothing is written.
 abbrev pub IsEndRead : Authority → List ℕ → ℕ → Rooms → ℕ → Resources → Resources → Type 0
 IsEndRead by s number rooms status old new =
     ((status ≡ no_profile) × ((profile : Profile) → is_end_profile profile → number ≢ profile_number profile)
     × (new ≡ old))
     ⊎ ((profile : Profile) × is_end_profile profile × (number ≡ profile_number profile)
-    × (((status ≡ 0) × IsEndBelow profile by s new) ⊎ (IsNoEndBelow profile by s rooms status × (new ≡ old))))
+    × (((status ≡ 0) × (by.has_manifest ≡ true) × IsEndBelow profile by s new)
+    ⊎ ((IsWithoutManifest by status ⊎ ((by.has_manifest ≡ true) × IsNoEndBelow profile by s rooms status))
+    × (new ≡ old))))

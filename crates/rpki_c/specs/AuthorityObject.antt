@@ -1,75 +1,32 @@
--- What a status says of a signed object below an authority of a path (RFC 6488 3), and of what it attests.
-use Rattle.std.specs.Prelude.{◌≡◌, ◌≢◌, ◌⊎◌, ◌<◌, ℕ, Bool, List, Ok, Result, MatchResult, length}
-use Rattle.std.specs.Prelude.{map, filter, codes, nat_eq, [], ◌∷◌}
-use Rattle.std.specs.List.{ends_with}
-use Rattle.jiff.specs.Types.{DateTime}
-use Rattle.sha2.specs.Sha256.{sha256}
+-- What a status says of a signed object below an authority of a path, and of what it attests (RFC 6488 3).
+use Rattle.std.specs.Prelude.{◌≡◌, ◌⊎◌, ℕ, Bool, true, List, Ok, Result, MatchResult}
 use Rattle.rpki_resources.specs.declared.block.Block.{Block}
 use Rattle.rpki_resources.specs.Blocks.{IsAmong}
 use Rattle.rpki_cert.specs.declared.extension.known_view.KnownView.{KnownView}
-use Rattle.rpki_cert.specs.declared.profile.Profile.TheVariants.{Ee}
-use Rattle.rpki_cert.specs.KnownView.{AreKnown}
 use Rattle.rpki_contents.specs.declared.aspa_view.AspaPart.{AspaPart}
 use Rattle.rpki_contents.specs.declared.roa_view.RoaPart.{RoaPart}
-use Rattle.rpki_contents.specs.declared.manifest_part.ManifestPart.{ManifestPart}
 use Rattle.rpki_contents.specs.AspaView.{FoundAspa, attestation}
-use Rattle.rpki_contents.specs.ListedFile.{ListedFile, AreDistinct}
-use Rattle.rpki_contents.specs.Manifest.{ManifestParts, period_of}
-use Rattle.rpki_contents.specs.ManifestView.{IsManifestWrong}
+use Rattle.rpki_contents.specs.FilesInPlace.{AreFiles}
 use Rattle.rpki_contents.specs.Roa.{AttestationParts, fields_of, roa}
+use Rattle.rpki_contents.specs.RoaView.{route_origin}
 use Rattle.rpki_contents.specs.Within.{AreWithin}
-use Rattle.rpki_objects.specs.declared.object_part.ObjectPart.{ObjectPart}
 use Rattle.rpki_objects.specs.SignedObject.{ObjectParts, object_fields_of, signed_object}
-use Rattle.rpki_objects.specs.SignedObjectView.{IsObjectWrong}
-use Rattle.rpki_time.specs.Validity.{HoldsAt}
+use Rattle.rpki_objects.specs.TypedObject.{typed_of}
 use Rattle.rpki_valid.specs.ObjectResources.{AreInherited}
-use Rattle.rpki_valid.specs.ObjectVerified.{IsSignedObject}
+use Rattle.rpki_valid.specs.Processed.{KeepsOriginRules}
+use Rattle.rpki_c.specs.declared.aspa.AspaParts.{AspaParts}
 use Rattle.rpki_c.specs.declared.authority.Authority.{Authority}
 use Rattle.rpki_c.specs.declared.owned.Addresses.{Addresses}
-use Rattle.rpki_c.specs.Aspa.{IsAspaWrong, aspa_part_number}
-use Rattle.rpki_c.specs.Below.{rsa, ecdsa, IsBelow, IsNotBelow}
-use Rattle.rpki_c.specs.Made.{IsPossible, IsTimeOf}
-use Rattle.rpki_c.specs.Manifest.{IsListing, manifest_part_number}
-use Rattle.rpki_c.specs.Moments.{IsToldOf}
+use Rattle.rpki_c.specs.declared.roa.RoaParts.{RoaParts}
+use Rattle.rpki_c.specs.Aspa.{IsAspaWrong, aspa_part_number, passed}
+use Rattle.rpki_c.specs.Authority.{IsWithoutManifest}
+use Rattle.rpki_c.specs.AuthorityManifest.{IsSignedBelow, IsNoObjectBelow, IsManifestBelow, IsNoManifest, with_manifest}
 use Rattle.rpki_c.specs.Owned.{HasAddresses, HasNoAddresses, HasNumbers, HasNoNumbers}
-use Rattle.rpki_c.specs.Roa.{IsRoaWrong, roa_part_number}
-use Rattle.rpki_c.specs.SignedObject.{object_part_number, IsNoObject, certificate_in, HasSignedContent, IsContentWrong}
-use Rattle.rpki_c.specs.SignedObject.{IsSignerTold, content_type_number}
+use Rattle.rpki_c.specs.Path.{KeepsPath, HasEndPath}
+use Rattle.rpki_c.specs.Roa.{IsRoaWrong, roa_part_number, passed as passed_roa}
+use Rattle.rpki_c.specs.SignedObject.{content_type_number}
 use Rattle.rpki_c.specs.SignerResources.{ListsAddresses, ListsNumbers}
-use Rattle.rpki_c.specs.Status.{other_kinds, other_type, other_resources, out_of_memory}
-use Rattle.rpki_c.specs.Status.{not_inherited, same_names, other_list, too_small, content}
-
--- ---- the object, and its certificate
-
--- The key of the certificate has signed the object (RFC 6488 3), and the certificate is that of an end entity, valid
--- below the authority, whose extensions say this.
-pub record IsSignedBelow (by : Authority) (x : ObjectParts) (known : KnownView) : Type 0 where
-  pub signed : IsSignedObject rsa ecdsa sha256 x
-  pub says : AreKnown x.cert.tbs.extensions known
-  pub below : IsBelow Ee by x.cert
-
--- 55, 54: the content is not the one that is signed. Else it is, and the certificate, of these octets, is none that may
--- be below the authority; or it is one, and the status is that of the signer.
-abbrev pub IsNotSignedBelow : Authority → ObjectParts → List ℕ → ℕ → Type 0
-IsNotSignedBelow by x s status =
-    IsContentWrong x status
-    ⊎ (HasSignedContent x × (IsNotBelow Ee by s x.cert status
-    ⊎ ((known : KnownView) × AreKnown x.cert.tbs.extensions known × IsBelow Ee by x.cert × (status ≢ 0)
-    × IsSignerTold x.cert known x.signer.identifier x.signer.attributes.message x.signer.signature.value status)))
-
-abbrev pub TestsSigned : Authority → ObjectParts → List ℕ → Result KnownView ℕ → Type 0
-TestsSigned by x s r = MatchResult r (IsSignedBelow by x) (IsNotSignedBelow by x s)
-
--- 64 to 137: this part of the object is wrong. Else the octets are an object. 55: its content is of another type than
--- this one. Else it isn't signed below the authority; or it is, and the rest of the rules says the status.
-abbrev pub IsNoObjectBelow : ℕ → Bool → Authority → (ObjectParts → KnownView → ℕ → Type 0) → List ℕ → ℕ → Type 0
-IsNoObjectBelow type strict by Rest s status =
-    ((q : ObjectPart) × (status ≡ object_part_number q) × IsObjectWrong strict s q × IsNoObject strict s)
-    ⊎ ((x : ObjectParts) × (h : (signed_object strict).spells (object_fields_of x) s)
-    × (((status ≡ other_type) × (content_type_number x.content.content_type ≢ type))
-    ⊎ ((content_type_number x.content.content_type ≡ type)
-    × (IsNotSignedBelow by x (certificate_in strict x s h) status
-    ⊎ ((known : KnownView) × IsSignedBelow by x known × Rest x known status)))))
+use Rattle.rpki_c.specs.Status.{other_kinds, other_resources, out_of_memory}
 
 -- ---- route origins (RFC 9582)
 
@@ -87,8 +44,11 @@ IsNoOriginWithin strict s own status =
     × (AreWithin x own.v4 own.v6 → ⊥))
     ⊎ (status ≡ out_of_memory)
 
-abbrev pub TestsOrigin : Bool → List ℕ → Addresses → Result (Unit {0}) ℕ → Type 0
-TestsOrigin strict s own r = MatchResult r (λ _. IsOriginWithin strict s own) (IsNoOriginWithin strict s own)
+-- a test of that, which hands out the parts of the attestation
+abbrev pub TestsOrigin : Bool → List ℕ → Addresses → Result RoaParts ℕ → Type 0
+TestsOrigin strict s own r =
+    MatchResult r (λ parts. IsOriginWithin strict s own × (route_origin strict s ≡ Ok (passed_roa parts)))
+    (IsNoOriginWithin strict s own)
 
 -- 61: the certificate lists other kinds of resources. Else it has no addresses; or the attestation is not within them.
 abbrev pub IsNoOrigin : Bool → Authority → ObjectParts → KnownView → ℕ → Type 0
@@ -99,8 +59,9 @@ IsNoOrigin strict by x known status =
     × IsNoOriginWithin strict x.content.content own status)))
 
 -- The octets are a route origin attestation that is valid below the authority: an end entity has signed it (RFC 6488
--- 3), which lists addresses, and has those of each prefix (RFC 9582 5).
-pub record IsOriginBelow (strict : Bool) (by : Authority) (s : List ℕ) : Type 0 where
+-- 3), which lists addresses, and has those of each prefix (RFC 9582 5). So the path of its certificate leads up to the
+-- trust anchor, and the rules of attestations hold of its resources. These are the parts of the attestation.
+pub record IsOriginBelow (strict : Bool) (by : Authority) (s : List ℕ) (new : RoaParts) : Type 0 where
   pub x : ObjectParts
   pub spelled : (signed_object strict).spells (object_fields_of x) s
   pub type : content_type_number x.content.content_type ≡ 1
@@ -110,15 +71,20 @@ pub record IsOriginBelow (strict : Bool) (by : Authority) (s : List ℕ) : Type 
   pub own : Addresses
   pub has : HasAddresses known x.cert by.ip_blocks.now own
   pub within : IsOriginWithin strict x.content.content own
+  pub path : HasEndPath by x (KeepsOriginRules (typed_of x within.content))
+  pub says : route_origin strict x.content.content ≡ Ok (passed_roa new)
 
-abbrev pub TestsOriginBelow : Bool → Authority → List ℕ → Result (Unit {0}) ℕ → Type 0
+abbrev pub TestsOriginBelow : Bool → Authority → List ℕ → Result RoaParts ℕ → Type 0
 TestsOriginBelow strict by s r =
-    MatchResult r (λ _. IsOriginBelow strict by s) (IsNoObjectBelow 1 strict by (IsNoOrigin strict by) s)
+    MatchResult r (IsOriginBelow strict by s) (IsNoObjectBelow 1 strict by (IsNoOrigin strict by) s)
 
--- Status 0: it is valid below the authority. Else it isn't.
-abbrev pub IsOriginTold : Bool → Authority → List ℕ → ℕ → Type 0
-IsOriginTold strict by s status =
-    ((status ≡ 0) × IsOriginBelow strict by s) ⊎ IsNoObjectBelow 1 strict by (IsNoOrigin strict by) s status
+-- Status 0: the authority has a manifest, the object is valid below it, and its parts are written. Else it isn't, and
+-- nothing is written.
+abbrev pub IsOriginTold : Bool → Authority → List ℕ → ℕ → RoaParts → RoaParts → Type 0
+IsOriginTold strict by s status old new =
+    ((status ≡ 0) × (by.has_manifest ≡ true) × IsOriginBelow strict by s new)
+    ⊎ ((IsWithoutManifest by status
+    ⊎ ((by.has_manifest ≡ true) × IsNoObjectBelow 1 strict by (IsNoOrigin strict by) s status)) × (new ≡ old))
 
 -- ---- providers (draft-ietf-sidrops-aspa-profile)
 
@@ -134,8 +100,10 @@ IsNoCustomerWithin s own status =
     ((q : AspaPart) × (status ≡ aspa_part_number q) × IsAspaWrong s q)
     ⊎ ((x : FoundAspa) × (attestation s ≡ Ok x) × (status ≡ other_resources) × (IsAmong x.customer own → ⊥))
 
-abbrev pub TestsCustomer : List ℕ → List Block → Result (Unit {0}) ℕ → Type 0
-TestsCustomer s own r = MatchResult r (λ _. IsCustomerWithin s own) (IsNoCustomerWithin s own)
+-- a test of that, which hands out the parts of the attestation
+abbrev pub TestsCustomer : List ℕ → List Block → Result AspaParts ℕ → Type 0
+TestsCustomer s own r =
+    MatchResult r (λ parts. (h : IsCustomerWithin s own) × (passed parts ≡ h.content)) (IsNoCustomerWithin s own)
 
 -- 61: the certificate lists other kinds of resources. Else it has no AS numbers; or the customer is not among them.
 abbrev pub IsNoProviders : Authority → ObjectParts → KnownView → ℕ → Type 0
@@ -146,8 +114,10 @@ IsNoProviders by x known status =
     × IsNoCustomerWithin x.content.content own status)))
 
 -- The octets are an attestation of providers that is valid below the authority: an end entity has signed it (RFC 6488
--- 3), which lists AS numbers, and has that of the customer (draft-ietf-sidrops-aspa-profile 4).
-pub record AreProvidersBelow (strict : Bool) (by : Authority) (s : List ℕ) : Type 0 where
+-- 3), which lists AS numbers, and has that of the customer (draft-ietf-sidrops-aspa-profile 4). So the path of its
+-- certificate leads up to the trust anchor, and the customer is among its resources. These are the parts of the
+-- attestation.
+pub record AreProvidersBelow (strict : Bool) (by : Authority) (s : List ℕ) (new : AspaParts) : Type 0 where
   pub x : ObjectParts
   pub spelled : (signed_object strict).spells (object_fields_of x) s
   pub type : content_type_number x.content.content_type ≡ 3
@@ -157,83 +127,35 @@ pub record AreProvidersBelow (strict : Bool) (by : Authority) (s : List ℕ) : T
   pub own : List Block
   pub has : HasNumbers known x.cert by.as_blocks.now own
   pub within : IsCustomerWithin x.content.content own
+  pub path : HasEndPath by x (λ held. IsAmong within.content.customer held.asn)
+  pub says : passed new ≡ within.content
 
-abbrev pub TestsProvidersBelow : Bool → Authority → List ℕ → Result (Unit {0}) ℕ → Type 0
+abbrev pub TestsProvidersBelow : Bool → Authority → List ℕ → Result AspaParts ℕ → Type 0
 TestsProvidersBelow strict by s r =
-    MatchResult r (λ _. AreProvidersBelow strict by s) (IsNoObjectBelow 3 strict by (IsNoProviders by) s)
+    MatchResult r (AreProvidersBelow strict by s) (IsNoObjectBelow 3 strict by (IsNoProviders by) s)
 
--- Status 0: it is valid below the authority. Else it isn't.
-abbrev pub AreProvidersTold : Bool → Authority → List ℕ → ℕ → Type 0
-AreProvidersTold strict by s status =
-    ((status ≡ 0) × AreProvidersBelow strict by s) ⊎ IsNoObjectBelow 3 strict by (IsNoProviders by) s status
+-- Status 0: the authority has a manifest, the object is valid below it, and its parts are written. Else it isn't, and
+-- nothing is written.
+abbrev pub AreProvidersTold : Bool → Authority → List ℕ → ℕ → AspaParts → AspaParts → Type 0
+AreProvidersTold strict by s status old new =
+    ((status ≡ 0) × (by.has_manifest ≡ true) × AreProvidersBelow strict by s new)
+    ⊎ ((IsWithoutManifest by status
+    ⊎ ((by.has_manifest ≡ true) × IsNoObjectBelow 3 strict by (IsNoProviders by) s status)) × (new ≡ old))
 
--- ---- manifests (RFC 9286)
+-- ---- the manifest of the authority (RFC 9286)
 
--- by its name a file is a revocation list (RFC 6481 2.2)
-abbrev pub is_list : ListedFile → Bool
-is_list file = ends_with nat_eq file.0 (codes ".crl")
+-- The manifest is valid below the authority: so the path of its certificate leads up to the trust anchor; and the new
+-- authority is that one with its files, on the same path.
+pub record IsMadeByManifest (strict : Bool) (by : Authority) (s : List ℕ) (new : Authority) : Type 0 where
+  pub below : IsManifestBelow strict by s
+  pub signer : HasEndPath by below.x (λ held. AreInherited below.x.cert.tbs.extensions)
+  pub files : AreFiles below.held.content.files new.files.octets.now
+  pub same : new ≡ with_manifest by new.files
+  pub path : KeepsPath by new
 
--- the digests of the files that are lists by their names
-abbrev pub list_digests : List ListedFile → List (List ℕ)
-list_digests files = map (λ file. file.1) (filter is_list files)
-
--- one file is a list by its name, and that has this digest (RFC 6481 2.2, RFC 9286 4.2.1)
-abbrev pub ListsOnly : List ListedFile → List ℕ → Type 0
-ListsOnly files digest = list_digests files ≡ digest ∷ []
-
--- the octets are a manifest, no two of whose files have the same name, whose revocation list is the authority's, and
--- which holds at the moment of the path (RFC 9286 4.2.1, 6.3)
-pub record IsManifestHeld (by : Authority) (s : List ℕ) : Type 0 where
-  pub content : ManifestParts
-  pub listing : IsListing content s
-  pub distinct : AreDistinct content.files
-  pub list : ListsOnly content.files by.list_digest
-  pub at : DateTime
-  pub moment : IsTimeOf by.moment at
-  pub now : HoldsAt (period_of content) at
-
--- 9: there are more files than this. 46: two have the same name. 47: the list isn't the authority's. 5: the moment is
--- none. 50, 51: it is not held then.
-abbrev pub IsManifestRefused : Authority → ℕ → ManifestParts → ℕ → Type 0
-IsManifestRefused by capacity x status =
-    ((status ≡ too_small) × (capacity < length x.files))
-    ⊎ ((status ≡ same_names) × (AreDistinct x.files → ⊥))
-    ⊎ ((status ≡ other_list) × (ListsOnly x.files by.list_digest → ⊥))
-    ⊎ ((status ≡ content) × (IsPossible by.moment → ⊥))
-    ⊎ ((at : DateTime) × IsTimeOf by.moment at × (status ≢ 0) × IsToldOf (period_of x) at status)
-
--- 138 to 144: this part of the manifest is wrong. Else it is one, and the status is as above.
-abbrev pub IsNoManifestHeld : Authority → ℕ → List ℕ → ℕ → Type 0
-IsNoManifestHeld by capacity s status =
-    ((q : ManifestPart) × (status ≡ manifest_part_number q) × IsManifestWrong s q)
-    ⊎ ((x : ManifestParts) × IsListing x s × IsManifestRefused by capacity x status)
-
-abbrev pub TestsManifest : Authority → ℕ → List ℕ → Result (Unit {0}) ℕ → Type 0
-TestsManifest by capacity s r = MatchResult r (λ _. IsManifestHeld by s) (IsNoManifestHeld by capacity s)
-
--- 59: the certificate has resources of its own (RFC 9286 5.1). Else the manifest isn't held.
-abbrev pub IsNoManifest : Authority → ℕ → ObjectParts → KnownView → ℕ → Type 0
-IsNoManifest by capacity x known status =
-    ((status ≡ not_inherited) × (AreInherited x.cert.tbs.extensions → ⊥))
-    ⊎ (AreInherited x.cert.tbs.extensions × IsNoManifestHeld by capacity x.content.content status)
-
--- The octets are a manifest that is valid below the authority: an end entity has signed it (RFC 6488 3), all of whose
--- resources are the authority's (RFC 9286 5.1).
-pub record IsManifestBelow (strict : Bool) (by : Authority) (s : List ℕ) : Type 0 where
-  pub x : ObjectParts
-  pub spelled : (signed_object strict).spells (object_fields_of x) s
-  pub type : content_type_number x.content.content_type ≡ 2
-  pub known : KnownView
-  pub signed : IsSignedBelow by x known
-  pub inherited : AreInherited x.cert.tbs.extensions
-  pub held : IsManifestHeld by x.content.content
-
-abbrev pub TestsManifestBelow : Bool → Authority → ℕ → List ℕ → Result (Unit {0}) ℕ → Type 0
-TestsManifestBelow strict by capacity s r =
-    MatchResult r (λ _. IsManifestBelow strict by s) (IsNoObjectBelow 2 strict by (IsNoManifest by capacity) s)
-
--- Status 0: it is valid below the authority. Else it isn't.
-abbrev pub IsManifestTold : Bool → Authority → ℕ → List ℕ → ℕ → Type 0
-IsManifestTold strict by capacity s status =
-    ((status ≡ 0) × IsManifestBelow strict by s)
-    ⊎ IsNoObjectBelow 2 strict by (IsNoManifest by capacity) s status
+-- Status 0: the manifest is valid below the authority, and the authority is made that has it. Else it isn't, and
+-- nothing is written.
+abbrev pub IsManifestTold : Bool → Authority → ℕ → List ℕ → ℕ → Authority → Authority → Type 0
+IsManifestTold strict by capacity s status old new =
+    ((status ≡ 0) × IsMadeByManifest strict by s new)
+    ⊎ (IsNoObjectBelow 2 strict by (IsNoManifest by capacity) s status × (new ≡ old))

@@ -5,7 +5,7 @@ use Rattle.std.specs.declared.result.Result.{Result}
 use Rattle.base64.specs.declared.decode.DecodeError.{DecodeError}
 use Rattle.base64.specs.Engines.{standard, url_safe_no_pad_indifferent}
 use Rattle.base64.specs.GeneralPurpose.{encode_of, decode_of}
-use Rattle.rpki_text.specs.Base64Text.{xml_bytes_decode_of}
+use Rattle.rpki_base64.specs.Base64Text.{xml_bytes_decode_of}
 use Rattle.rpki_c.specs.Status.{out_of_memory}
 use Rattle.rpki_c.specs.Stored.{IsStored}
 use Rattle.rpki_c.specs.Uri.{IsUnwritten}

@@ -4,7 +4,7 @@ use Rattle.std.specs.Prelude.{◌≡◌, ◌≢◌, ◌⊎◌, ℕ, true, false,
 use Rattle.jiff.specs.Types.{DateTime}
 use Rattle.sha1.specs.Sha1.{sha1}
 use Rattle.sha2.specs.Sha256.{sha256}
-use Rattle.rpki.specs.Provider.{Check}
+use Rattle.rpki.specs.Provider.{Check, Checkers}
 use Rattle.rpki_rsa.specs.Key.{IsSignatureBy}
 use Rattle.rpki_cert.specs.declared.read.cert_part.CertPart.{CertPart}
 use Rattle.rpki_cert.specs.declared.profile.Profile.{Profile}
@@ -34,9 +34,13 @@ rsa = λ bits message signature. IsSignatureBy bits (sha256 message) signature
 abbrev pub ecdsa : Check
 ecdsa = λ bits message signature. ⊥
 
+-- both, and the digests (FIPS 180-4)
+abbrev pub checkers : Checkers
+checkers = record { rsa = rsa; ecdsa = ecdsa; sha1 = sha1; sha256 = sha256 }
+
 -- the first has issued the second, which is valid at the moment, but for resources and revocation
 abbrev pub IsIssued : CertParts → DateTime → CertParts → Type 0
-IsIssued issuer at x = IsIssuedWith rsa ecdsa sha1 issuer.tbs at x
+IsIssued issuer at x = IsIssuedWith checkers issuer.tbs at x
 
 -- ---- one status after another
 

@@ -23,6 +23,8 @@ pub mod Serial
 pub mod Manifest
 pub mod Roa
 pub mod Aspa
+pub mod Checklist
+pub mod AnchorKeys
 pub mod Access
 pub mod Taking
 pub mod Key
@@ -37,6 +39,8 @@ pub mod Below
 pub mod Revoked
 pub mod Locator
 pub mod Owned
+pub mod AuthorityManifest
+pub mod Path
 pub mod Authority
 pub mod AuthorityObject
 pub mod FrontValues

@@ -12,8 +12,8 @@ use Rattle.rpki_resources.specs.declared.resources.IpResources.{IpResources}
 use Rattle.rpki_resources.specs.declared.kind.ResourceKind.TheVariants.{AsNumbers}
 use Rattle.rpki_resources.specs.Blocks.{AreNumbersOf}
 use Rattle.rpki_resources.specs.Encoded.{AreBlocksOf}
-use Rattle.rpki_resources.specs.Settled.{IsSettled, IsTrimmed}
 use Rattle.rpki_cert.specs.declared.extension.policy.Overclaim.{Overclaim}
+use Rattle.rpki_valid.specs.ResourceSet.{IsSettledBy as IsSettledAs}
 use Rattle.rpki_c.specs.Filled.{IsFilled, IsUnfilled}
 use Rattle.rpki_c.specs.Status.{out_of_memory, other_resources, no_answer, no_policies, wrong_resources}
 use Rattle.rpki_resources.specs.declared.choice_view.ChoiceView.{ChoiceView}
@@ -55,8 +55,7 @@ as_blocks ps = map as_numbers_of ps
 -- of one kind: what is claimed, which the issuer has to have (RFC 6487 7.2); or what of it the issuer has (RFC 8360
 -- 4.2.4.4)
 abbrev pub IsSettledBy : Overclaim → ResourcesChoice → List Block → List Block → Type 0
-IsSettledBy Overclaim.Refuse = IsSettled
-IsSettledBy Overclaim.Trim = IsTrimmed
+IsSettledBy = IsSettledAs
 
 -- nothing is settled
 abbrev pub IsOverclaimed : Overclaim → ResourcesChoice → List Block → Type 0

@@ -131,6 +131,10 @@ too_deep = 44
 abbrev pub no_list : ℕ
 no_list = 45
 
+-- an authority has no manifest yet
+abbrev pub no_manifest : ℕ
+no_manifest = 48
+
 -- a manifest names two of its files alike
 abbrev pub same_names : ℕ
 same_names = 46

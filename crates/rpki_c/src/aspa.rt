@@ -35,7 +35,7 @@ pub(crate) fn aspa_part_number(part: AspaPart) -> u8
 }
 
 /// The parts of the attestation.
-fn aspa_of<'a>(found: AspaView<'a>) -> AspaParts<'a>
+pub(crate) fn aspa_of<'a>(found: AspaView<'a>) -> AspaParts<'a>
     ensures { passed result ≡ found_aspa found.entry }
 {
     AspaParts {

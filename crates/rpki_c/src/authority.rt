@@ -19,6 +19,8 @@ pub struct Authority<'a> {
     pub certificate: Span<'a>,
     /// The entries of the authority's revocation list, in sequence.
     pub revoked_certs: Span<'a>,
+    /// The files that its manifest lists, in sequence.
+    pub files: Span<'a>,
     /// The addresses that it has, in canonical form.
     pub ip_blocks: &'a [IpEntry],
     /// The AS numbers that it has, likewise.
@@ -33,6 +35,8 @@ pub struct Authority<'a> {
     pub depth: u32,
     /// Whether it has a revocation list.
     pub has_list: bool,
+    /// Whether it has a manifest, which lists that list: so what it issues counts.
+    pub has_manifest: bool,
 }
 
 /// Resources that a certificate has under those of its issuer, settled.

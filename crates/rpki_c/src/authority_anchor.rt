@@ -127,6 +127,7 @@ fn root<'a>(
     Ok(Authority {
         certificate: Span::of(octets),
         revoked_certs: Span::of(&octets[..0]),
+        files: Span::of(&octets[..0]),
         ip_blocks,
         as_blocks,
         moment: *moment,
@@ -134,13 +135,15 @@ fn root<'a>(
         keys: with_key([[0; 20]; 33], 0, <[u8; 20]>::from(key_of(&cert))),
         depth: 0,
         has_list: false,
+        has_manifest: false,
     })
 }
 
 /// Makes the authority of a trust anchor, with which a path begins: tests that the certificate has the profile of one
 /// (RFC 6487 4, RFC 8630 2.3), names included, and the public key that its locator has, a SubjectPublicKeyInfo (RFC
 /// 8630 2.2, 3); that this key has signed it; and that it is valid at the moment, at which all of the path is asked.
-/// Its resources are written to the front of the two arrays, which are lent to it. It has no list yet.
+/// Its resources are written to the front of the two arrays, which are lent to it. It has neither a list nor a manifest
+/// yet.
 ///
 /// The status is 0. Else it is, in this order: as of `rpki_certificate_checked`; `OTHER_ANCHOR`; `CONTENT`, where the
 /// years 0 to 9999 have no such time as the moment; `OTHER_KEY`; `KEY_NOT_ACCEPTED` or `BAD_SIGNATURE`, as of

@@ -8,10 +8,10 @@ ghost use Rattle.rpki_c.specs.Authority.{FindsEnd, IsEndRead, is_end_profile};
 use crate::as_blocks::AsEntry;
 use crate::authority::{Authority, Resources};
 use crate::authority_making::{kept_addresses, kept_numbers, owned_under};
-use crate::below::below;
+use crate::below::{below, has_manifest};
 use crate::certificate::part_number;
 use crate::ip_blocks::IpEntry;
-use crate::status::{NO_PROFILE, TOO_SMALL};
+use crate::status::{NO_MANIFEST, NO_PROFILE, TOO_SMALL};
 use rpki_cert::{CertView, Profile};
 use std::alloc::Global;
 
@@ -88,6 +88,9 @@ pub extern "C" fn rpki_authority_end<'a>(
     let Some(profile) = end_profile(profile) else {
         return NO_PROFILE;
     };
+    if !has_manifest(by) {
+        return NO_MANIFEST;
+    }
     match end_below(alloc, by, octets, profile, ip_room, as_room) {
         Ok(found) => {
             *out = found;

@@ -15,7 +15,8 @@ use rpki_digests::RsaProvider;
 
 /// Makes an authority with its revocation list: tests that the authority has issued the list, and that it is in force
 /// at the moment of the path (RFC 5280 6.3.3, RFC 6487 5). What is written is the authority that was given, with the
-/// entries of the list, and its digest by SHA-256: `rpki_authority_manifest` tests that the manifest lists it by that.
+/// entries of the list, and its digest by SHA-256, by which `rpki_authority_manifest` tests that the manifest lists it;
+/// it has no manifest yet.
 ///
 /// The status is 0. Else it is as that of `rpki_crl_issued_by`, of the authority's certificate and of its moment, and
 /// `out` is unchanged. Nothing is allocated.
@@ -41,8 +42,10 @@ pub extern "C" fn rpki_authority_list<'a>(
     }
     *out = Authority {
         revoked_certs: Span::of(list.tbs.revoked_certs.octets),
+        files: Span::of(&octets[..0]),
         list_digest: RsaProvider.sha256(octets),
         has_list: true,
+        has_manifest: false,
         ..*by
     };
     0

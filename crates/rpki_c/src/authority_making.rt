@@ -13,14 +13,14 @@ ghost use Rattle.rpki_c.specs.Owned.{HasAddresses, HasNumbers};
 
 use crate::as_blocks::AsEntry;
 use crate::authority::{Authority, MOST_STEPS};
-use crate::below::below;
+use crate::below::{below, has_manifest};
 use crate::certificate::part_number;
 use crate::ip_blocks::IpEntry;
 use crate::issued::key_of;
 use crate::owned::{Addresses, addresses_under, numbers_under};
 use crate::settling::{fill, fill_as};
 use crate::span::Span;
-use crate::status::{ON_PATH, TOO_DEEP, TOO_SMALL};
+use crate::status::{NO_MANIFEST, ON_PATH, TOO_DEEP, TOO_SMALL};
 use rpki_cert::{CertView, KnownView, Profile};
 use rpki_resources::Blocks;
 use std::alloc::Global;
@@ -152,6 +152,7 @@ fn under<'a>(
     Ok(Authority {
         certificate: Span::of(octets),
         revoked_certs: Span::of(&octets[..0]),
+        files: Span::of(&octets[..0]),
         ip_blocks,
         as_blocks,
         moment: by.moment,
@@ -159,6 +160,7 @@ fn under<'a>(
         keys,
         depth: by.depth + 1,
         has_list: false,
+        has_manifest: false,
     })
 }
 
@@ -166,13 +168,13 @@ fn under<'a>(
 /// certification authority (RFC 6487 4), names included; that the other has issued it, valid at the moment of the path
 /// (RFC 5280 6.1.3); that the other's list doesn't have it; and that no key of the path is its own, so that a path
 /// ends. Its resources are settled under the other's by its policy (RFC 6487 7.2, RFC 8360 4.2.4), and written to the
-/// front of the two arrays, which are lent to it. It has no list yet.
+/// front of the two arrays, which are lent to it. It has neither a list nor a manifest yet.
 ///
-/// The status is 0. Else it is, in this order: as of `rpki_certificate_checked`; `NO_ISSUER`, where the other has no
-/// certificate; `CONTENT`, where its moment is none; as of `rpki_certificate_signed_by`; `TOO_NEW`; `TOO_OLD`;
-/// `NO_LIST`; as of `rpki_crl_contains`; `REVOKED`; `TOO_DEEP`; `ON_PATH`; as of `rpki_ip_settle` and `rpki_as_settle`;
-/// `OTHER_RESOURCES`; `OUT_OF_MEMORY`; or `TOO_SMALL`, where an array has too few places. Then `out` is unchanged, and
-/// the arrays may be written over.
+/// The status is 0. Else it is, in this order: `NO_MANIFEST`, where the other has none yet; as of
+/// `rpki_certificate_checked`; `NO_ISSUER`, where the other has no certificate; `CONTENT`, where its moment is none; as
+/// of `rpki_certificate_signed_by`; `TOO_NEW`; `TOO_OLD`; `NO_LIST`; as of `rpki_crl_contains`; `REVOKED`; `TOO_DEEP`;
+/// `ON_PATH`; as of `rpki_ip_settle` and `rpki_as_settle`; `OTHER_RESOURCES`; `OUT_OF_MEMORY`; or `TOO_SMALL`, where an
+/// array has too few places. Then `out` is unchanged, and the arrays may be written over.
 #[unsafe(no_mangle)]
 pub extern "C" fn rpki_authority_under<'a>(
     alloc: Global,
@@ -184,6 +186,9 @@ pub extern "C" fn rpki_authority_under<'a>(
 ) -> u8
     ensures { IsMadeUnderBy by.now octets.now (length ip_room.old, length as_room.old) result out.old out.new }
 {
+    if !has_manifest(by) {
+        return NO_MANIFEST;
+    }
     match under(alloc, by, octets, ip_room, as_room) {
         Ok(made) => {
             *out = made;

@@ -4,7 +4,8 @@ ghost use Rattle.std.specs.Prelude.{◌≡◌, ◌↔◌, List, IsTrue, length};
 ghost use Rattle.rpki_contents.specs.FilesInPlace.{HoldFiles};
 ghost use Rattle.rpki_contents.specs.ListedFile.{ListedFile};
 ghost use Rattle.rpki_contents.specs.ManifestView.{file_in};
-ghost use Rattle.rpki_c.specs.AuthorityObject.{is_list, ListsOnly, TestsManifest, TestsManifestBelow, IsManifestTold};
+ghost use Rattle.rpki_c.specs.AuthorityManifest.{is_list, ListsOnly, TestsManifest, TestsManifestBelow};
+ghost use Rattle.rpki_c.specs.AuthorityObject.{IsManifestTold};
 
 use crate::authority::Authority;
 use crate::authority_objects::signed_below;
@@ -13,6 +14,7 @@ use crate::coverage::are_inherited;
 use crate::manifest::manifest_part_number;
 use crate::periods::told_of;
 use crate::signed_object::object_part_number;
+use crate::span::Span;
 use crate::status::{CONTENT, NOT_INHERITED, OTHER_LIST, OTHER_TYPE, SAME_NAMES, TOO_SMALL};
 use crate::time_writing::time_of;
 use rpki_contents::{FileView, FilesView, ManifestView};
@@ -54,12 +56,16 @@ fn lists_only(files: &FilesView<'_>, digest: &[u8; 32]) -> bool
 }
 
 /// Tests that the octets are a manifest, that no two of its files have the same name, that its revocation list is the
-/// authority's, and that it holds at the moment of the path. The room is written over.
+/// authority's, and that it holds at the moment of the path; hands out the files. The room is written over.
 ///
 /// The error is, in this order: as of `rpki_manifest`; `TOO_SMALL`, where the room has fewer places than there are
 /// files; `SAME_NAMES`; `OTHER_LIST`; `CONTENT`, where the years 0 to 9999 have no such time as the moment; `TOO_NEW`;
 /// `TOO_OLD`.
-fn manifest_held<'a>(by: &Authority<'_>, octets: &'a [u8], room: &mut [&'a [u8]]) -> Result<(), u8>
+fn manifest_held<'a>(
+    by: &Authority<'_>,
+    octets: &'a [u8],
+    room: &mut [&'a [u8]],
+) -> Result<Span<'a>, u8>
     ensures { TestsManifest by.now (length room.old) octets.now result }
 {
     let found = match ManifestView::read(octets) {
@@ -83,7 +89,7 @@ fn manifest_held<'a>(by: &Authority<'_>, octets: &'a [u8], room: &mut [&'a [u8]]
     if told != 0 {
         return Err(told);
     }
-    Ok(())
+    Ok(Span::of(found.files.octets()))
 }
 
 /// Tests what [rpki_authority_manifest] does; the error is its status.
@@ -92,7 +98,7 @@ fn manifest_below<'a>(
     octets: &'a [u8],
     strict: bool,
     room: &mut [&'a [u8]],
-) -> Result<(), u8>
+) -> Result<Span<'a>, u8>
     ensures { TestsManifestBelow strict by.now (length room.old) octets.now result }
 {
     let found = match SignedObjectView::read(octets, strict) {
@@ -110,35 +116,43 @@ fn manifest_below<'a>(
         return Err(NOT_INHERITED);
     }
     match manifest_held(by, found.content.content.octets, room) {
-        Ok(()) => Ok(()),
+        Ok(files) => Ok(files),
         Err(status) => Err(status),
     }
 }
 
-/// Reads a signed object, and says whether it is a manifest that is valid below an authority of a path (RFC 9286 6.2,
-/// 6.3): whether its content is one, which the key of its certificate has signed (RFC 6488 3); the certificate is that
-/// of an end entity, as `rpki_authority_end` asks; all resources that it names are its issuer's (RFC 9286 5.1); no two
-/// of the files have the same name (RFC 9286 4.2.1); one is a revocation list by its name, and has the digest of the
-/// authority's (RFC 6481 2.2); and the moment of the path is not before this update nor after the next (RFC 9286 6.3).
-/// Whether the other files are as it says is not looked at. The room is written over; n files take n log n steps. If
-/// `strict`, as of `rpki_signed_object`.
+/// Makes an authority with its manifest: reads a signed object, and tests that it is a manifest that is valid below the
+/// authority (RFC 9286 6.2, 6.3): whether its content is one, which the key of its certificate has signed (RFC 6488 3);
+/// the certificate is that of an end entity, as `rpki_authority_end` asks; all resources that it names are its issuer's
+/// (RFC 9286 5.1); no two of the files have the same name (RFC 9286 4.2.1); one is a revocation list by its name, and
+/// has the digest of the authority's (RFC 6481 2.2); and the moment of the path is not before this update nor after the
+/// next (RFC 9286 6.3). Whether the other files are as it says is not looked at. The room is written over; n files take
+/// n log n steps. If `strict`, as of `rpki_signed_object`.
 ///
 /// The status is 0. Else it is, in this order: as of `rpki_signed_object`; `OTHER_TYPE`, where the content is of
 /// another type, or not of the one that is signed; `OTHER_DIGEST`; as of `rpki_authority_end`; `OTHER_SIGNER`;
 /// `KEY_NOT_ACCEPTED` or `BAD_SIGNATURE`, as of `rpki_verify`; `NOT_INHERITED`; as of `rpki_manifest`; `TOO_SMALL`,
 /// where the room has fewer places than there are files; `SAME_NAMES`; `OTHER_LIST`; `CONTENT`, where the moment is
-/// none; `TOO_NEW`; `TOO_OLD`. Nothing is allocated.
+/// none; `TOO_NEW`; `TOO_OLD`. Then `out` is unchanged. Nothing is allocated.
 #[unsafe(no_mangle)]
 pub extern "C" fn rpki_authority_manifest<'a>(
-    by: &Authority<'_>,
+    by: &Authority<'a>,
     octets: &'a [u8],
     strict: bool,
     room: &mut [&'a [u8]],
+    out: &mut Authority<'a>,
 ) -> u8
-    ensures { IsManifestTold strict by.now (length room.old) octets.now result }
+    ensures { IsManifestTold strict by.now (length room.old) octets.now result out.old out.new }
 {
     match manifest_below(by, octets, strict, room) {
-        Ok(()) => 0,
+        Ok(files) => {
+            *out = Authority {
+                files,
+                has_manifest: true,
+                ..*by
+            };
+            0
+        }
         Err(status) => status,
     }
 }

@@ -4,8 +4,8 @@ ghost use Rattle.std.specs.Prelude.{◌≡◌, ◌≤◌, false, length, Ok, IfO
 ghost use Rattle.std.specs.Str.{is_utf8};
 ghost use Rattle.base64.specs.Engines.{standard, url_safe_no_pad_indifferent};
 ghost use Rattle.base64.specs.GeneralPurpose.{decode_of, encode_of};
-ghost use Rattle.rpki_text.specs.declared.util.base_64.Base64Error.TheVariants.{Refused};
-ghost use Rattle.rpki_text.specs.Base64Text.{IsBase64Failure, xml_decode_of, xml_bytes_decode_of, no_text_error};
+ghost use Rattle.rpki_base64.specs.declared.flavours.Base64Error.TheVariants.{Refused};
+ghost use Rattle.rpki_base64.specs.Base64Text.{IsBase64Failure, xml_decode_of, xml_bytes_decode_of, no_text_error};
 ghost use Rattle.rpki_c.specs.Base64.{encoded_of, decoded_of, base64_number, base64_place, IsDecodedTo, IsDecoded};
 ghost use Rattle.rpki_c.specs.Base64.{most_short};
 ghost use Rattle.rpki_c.specs.Stored.{IsStored};
@@ -17,7 +17,7 @@ use crate::stored::store;
 use base64::engine::GeneralPurpose;
 use base64::engine::general_purpose::{STANDARD, URL_SAFE_NO_PAD_INDIFFERENT};
 use base64::{EncodeSliceError, encoded_len};
-use rpki_text::util::base_64::{Base64Error, DecodeError, Xml};
+use rpki_text::util::base64::{Base64Error, DecodeError, Xml};
 use std::alloc::Global;
 use std::str;
 

@@ -59,6 +59,13 @@ fn issued_told(cert: &CertView<'_>, known: &KnownView, issuer: &CertView<'_>, ti
     }
 }
 
+/// Whether the authority has a manifest, without which nothing that it issues is valid (RFC 9286 6.2).
+pub(crate) fn has_manifest(by: &Authority<'_>) -> bool
+    ensures { result ≡ by.now.has_manifest }
+{
+    by.has_manifest
+}
+
 /// Whether the authority's list has an entry of this serial number.
 fn listed_told(by: &Authority<'_>, serial: Serial) -> u8
     ensures { IsListedBy by.now serial result }

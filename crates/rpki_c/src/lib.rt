@@ -9,6 +9,7 @@
 mod access;
 mod address_texts;
 mod anchor;
+mod anchor_keys;
 mod anchored;
 mod as_blocks;
 mod aspa;
@@ -29,6 +30,7 @@ mod certificate_extensions;
 mod certificate_inspection;
 mod certificate_kind;
 mod certificate_resources;
+mod checklist;
 mod content_type;
 mod coverage;
 mod crl;

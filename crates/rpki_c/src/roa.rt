@@ -40,7 +40,7 @@ pub(crate) fn roa_part_number(part: RoaPart) -> u8
 }
 
 /// The parts of the attestation.
-fn roa_of<'a>(found: RoaView<'a>) -> RoaParts<'a>
+pub(crate) fn roa_of<'a>(found: RoaView<'a>) -> RoaParts<'a>
     ensures { passed result ≡ found_roa found.entry }
 {
     RoaParts {

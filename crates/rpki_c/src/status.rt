@@ -120,6 +120,9 @@ pub(crate) const TOO_DEEP: u8 = 44;
 /// An authority has no revocation list yet.
 pub(crate) const NO_LIST: u8 = 45;
 
+/// An authority has no manifest yet.
+pub(crate) const NO_MANIFEST: u8 = 48;
+
 /// A manifest names two of its files alike.
 pub(crate) const SAME_NAMES: u8 = 46;
 

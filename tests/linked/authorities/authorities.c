@@ -27,10 +27,11 @@ enum { MOST_BLOCKS = 128, MOST_OCTETS = 1 << 15 };
 /* The calls. */
 enum call { ANCHOR, LIST, UNDER, END, ORIGIN, PROVIDERS, MANIFEST };
 
-/* The authorities that are asked: the anchor with its list and without, the one below it likewise, and with another
- * list that it has issued; a zeroed one; the one below as deep as may be; and it with a moment that is none, with other
- * octets as its list, and with a block that is inherited. */
-enum by { TOP, BARE_TOP, OWN, BARE_OWN, RELISTED, ZEROED, DEEPEST, TIMELESS, GARBLED, INHERITED, AUTHORITIES };
+/* The authorities that are asked, each with a manifest: the anchor with its list and without, the one below it
+ * likewise, and with another list that it has issued; the one below as deep as may be; and it with a moment that is
+ * none, with other octets as its list, and with a block that is inherited. Without a manifest: a zeroed one; the one
+ * below with its list. */
+enum by { TOP, BARE_TOP, OWN, BARE_OWN, RELISTED, ZEROED, DEEPEST, TIMELESS, GARBLED, INHERITED, LISTED, AUTHORITIES };
 
 /* A row: what is asked of whom, about which file, and the answer. `number` is a profile, whether reading is strict, how
  * much room there is, or of the anchor the moment. */
@@ -74,7 +75,9 @@ static const struct row rows[] = {
     {UNDER, TOP, "none", MOST_BLOCKS, RPKI_PART_CERTIFICATE},
     {UNDER, TOP, "router.cer", MOST_BLOCKS, RPKI_RULE_RSA_KEY},
     {UNDER, TOP, "ca-name.cer", MOST_BLOCKS, RPKI_RULE_SUBJECT},
-    {UNDER, ZEROED, "ca.cer", MOST_BLOCKS, RPKI_NO_ISSUER},
+    {UNDER, ZEROED, "ca.cer", MOST_BLOCKS, RPKI_NO_MANIFEST},
+    {UNDER, LISTED, "self.cer", MOST_BLOCKS, RPKI_NO_MANIFEST},
+    {UNDER, LISTED, "none", MOST_BLOCKS, RPKI_NO_MANIFEST},
     {UNDER, TIMELESS, "self.cer", MOST_BLOCKS, RPKI_CONTENT},
     {UNDER, OWN, "ca.cer", MOST_BLOCKS, RPKI_OTHER_ISSUER},
     {UNDER, TOP, "ca-other.cer", MOST_BLOCKS, RPKI_OTHER_AUTHORITY},
@@ -93,6 +96,9 @@ static const struct row rows[] = {
     {END, OWN, "router.cer", RPKI_CERTIFICATE_CA, RPKI_NO_PROFILE},
     {END, OWN, "router.cer", RPKI_CERTIFICATE_TA, RPKI_NO_PROFILE},
     {END, OWN, "router.cer", 5, RPKI_NO_PROFILE},
+    {END, LISTED, "router.cer", 5, RPKI_NO_PROFILE},
+    {END, LISTED, "router.cer", RPKI_CERTIFICATE_ROUTER, RPKI_NO_MANIFEST},
+    {END, ZEROED, "router.cer", RPKI_CERTIFICATE_ROUTER, RPKI_NO_MANIFEST},
     {END, OWN, "none", RPKI_CERTIFICATE_ROUTER, RPKI_PART_CERTIFICATE},
     {END, OWN, "router.cer", RPKI_CERTIFICATE_EE, RPKI_RULE_RSA_KEY},
     {END, OWN, "router-name.cer", RPKI_CERTIFICATE_ROUTER, RPKI_RULE_ROUTER_SUBJECT},
@@ -116,7 +122,8 @@ static const struct row rows[] = {
     {ORIGIN, OWN, "digest.roa", false, RPKI_OTHER_DIGEST},
     {ORIGIN, OWN, "authority.roa", false, RPKI_RULE_NO_BASIC_CONSTRAINTS},
     {ORIGIN, OWN, "name.roa", false, RPKI_RULE_SUBJECT},
-    {ORIGIN, ZEROED, "ee.roa", false, RPKI_NO_ISSUER},
+    {ORIGIN, ZEROED, "ee.roa", false, RPKI_NO_MANIFEST},
+    {ORIGIN, LISTED, "ee.roa", false, RPKI_NO_MANIFEST},
     {ORIGIN, TOP, "ee.roa", false, RPKI_OTHER_ISSUER},
     {ORIGIN, OWN, "old.roa", false, RPKI_TOO_OLD},
     {ORIGIN, BARE_OWN, "ee.roa", false, RPKI_NO_LIST},
@@ -130,7 +137,8 @@ static const struct row rows[] = {
     {PROVIDERS, OWN, "untimed.asa", true, RPKI_PART_SIGNED_ATTRIBUTES},
     {PROVIDERS, OWN, "ee.roa", false, RPKI_OTHER_TYPE},
     {PROVIDERS, OWN, "digest.asa", false, RPKI_OTHER_DIGEST},
-    {PROVIDERS, ZEROED, "ee.asa", false, RPKI_NO_ISSUER},
+    {PROVIDERS, ZEROED, "ee.asa", false, RPKI_NO_MANIFEST},
+    {PROVIDERS, LISTED, "ee.asa", false, RPKI_NO_MANIFEST},
     {PROVIDERS, OWN, "old.asa", false, RPKI_TOO_OLD},
     {PROVIDERS, BARE_OWN, "ee.asa", false, RPKI_NO_LIST},
     {PROVIDERS, OWN, "gone.asa", false, RPKI_REVOKED},
@@ -138,6 +146,7 @@ static const struct row rows[] = {
     {PROVIDERS, OWN, "both.asa", false, RPKI_OTHER_KINDS},
     {PROVIDERS, OWN, "beyond.asa", false, RPKI_OTHER_RESOURCES},
     {MANIFEST, OWN, "ee.mft", 2, RPKI_OK},
+    {MANIFEST, LISTED, "ee.mft", 2, RPKI_OK},
     {MANIFEST, OWN, "ee.mft", 1, RPKI_TOO_SMALL},
     {MANIFEST, OWN, "ee.roa", 2, RPKI_OTHER_TYPE},
     {MANIFEST, OWN, "digest.mft", 2, RPKI_OTHER_DIGEST},
@@ -186,6 +195,8 @@ static struct {
     rpki_status status;
     struct rpki_authority made;
     struct rpki_resources found;
+    struct rpki_roa_parts roa;
+    struct rpki_aspa_parts aspa;
     struct rpki_ip_block ips[MOST_BLOCKS];
     struct rpki_as_block numbers[MOST_BLOCKS];
     struct rpki_span names[3];
@@ -206,9 +217,9 @@ static rpki_status make_call(void) {
         case END:
             return rpki_authority_end(by, at, size, (uint8_t)row->number, asked.ips, room, asked.numbers, room,
                                       &asked.found);
-        case ORIGIN: return rpki_authority_origin(by, at, size, row->number != 0);
-        case PROVIDERS: return rpki_authority_providers(by, at, size, row->number != 0);
-        default: return rpki_authority_manifest(by, at, size, false, asked.names, (size_t)row->number);
+        case ORIGIN: return rpki_authority_origin(by, at, size, row->number != 0, &asked.roa);
+        case PROVIDERS: return rpki_authority_providers(by, at, size, row->number != 0, &asked.aspa);
+        default: return rpki_authority_manifest(by, at, size, false, asked.names, (size_t)row->number, &asked.made);
     }
 }
 
@@ -230,7 +241,8 @@ static void ask_on_stack(unsigned line) {
 }
 
 static bool is_unwritten(void) {
-    return untouched(&asked.made, sizeof asked.made) && untouched(&asked.found, sizeof asked.found);
+    return untouched(&asked.made, sizeof asked.made) && untouched(&asked.found, sizeof asked.found) &&
+           untouched(&asked.roa, sizeof asked.roa) && untouched(&asked.aspa, sizeof asked.aspa);
 }
 
 /* Whether what is written of the authority is what it has to be, of the file and of the authority above it. */
@@ -242,10 +254,40 @@ static bool is_made_well(const struct row *row) {
     uint8_t digest[32] = {0};
     if (is_list) rpki_sha256(asked.octets.at, asked.octets.size, digest);
     return made->certificate.data == cert.data && made->certificate.size == cert.size && made->depth == depth &&
-           made->has_list == is_list && !memcmp(made->list_digest, digest, sizeof digest) &&
+           made->has_list == is_list && !made->has_manifest && made->files.size == 0 &&
+           !memcmp(made->list_digest, digest, sizeof digest) &&
            (is_root || !memcmp(&made->moment, &by->moment, sizeof made->moment)) &&
            (is_list || (made->ip_blocks == asked.ips && made->as_blocks == asked.numbers)) &&
            (is_root || !memcmp(made->keys, by->keys, (by->depth + 1) * sizeof *made->keys));
+}
+
+/* Whether the authority is that one with the manifest of the file: its files are those that the content has, of which
+ * the first and the last have these names; and whether what is written of an attestation is what its content says. */
+static bool is_said_well(const struct row *row) {
+    struct rpki_authority with = authorities[row->by];
+    struct rpki_signed_object_parts cms = {0};
+    struct rpki_manifest_parts manifest = {0};
+    struct rpki_roa_parts roa = {0};
+    struct rpki_aspa_parts aspa = {0};
+    if (rpki_signed_object(asked.octets.at, asked.octets.size, false, &cms) != RPKI_OK) return false;
+    const uint8_t *at = cms.content.data;
+    size_t size = cms.content.size;
+    if (row->call == ORIGIN)
+        return rpki_roa(at, size, row->number != 0, &roa) == RPKI_OK &&
+               !memcmp(&roa.v4, &asked.roa.v4, sizeof roa.v4) && !memcmp(&roa.v6, &asked.roa.v6, sizeof roa.v6) &&
+               roa.v4_count == asked.roa.v4_count && roa.v6_count == asked.roa.v6_count && roa.as_id == asked.roa.as_id;
+    if (row->call == PROVIDERS)
+        return rpki_aspa(at, size, &aspa) == RPKI_OK && aspa.customer == asked.aspa.customer &&
+               !memcmp(&aspa.providers, &asked.aspa.providers, sizeof aspa.providers) && aspa.count == asked.aspa.count;
+    if (rpki_manifest(at, size, &manifest) != RPKI_OK) return false;
+    with.has_manifest = true;
+    with.files = manifest.files;
+    return with.has_list && with.files.size > 0 && asked.made.files.data == with.files.data &&
+           asked.made.files.size == with.files.size && asked.made.has_manifest && asked.made.has_list &&
+           asked.made.depth == with.depth && asked.made.certificate.data == with.certificate.data &&
+           asked.made.ip_blocks == with.ip_blocks && asked.made.revoked_certs.data == with.revoked_certs.data &&
+           !memcmp(asked.made.list_digest, with.list_digest, sizeof with.list_digest) &&
+           !memcmp(asked.made.keys, with.keys, sizeof with.keys);
 }
 
 static void refuse_each(unsigned line, size_t many) {
@@ -253,6 +295,8 @@ static void refuse_each(unsigned line, size_t many) {
     for (size_t at = 0; at < many; at++) {
         memset(&asked.made, FILL, sizeof asked.made);
         memset(&asked.found, FILL, sizeof asked.found);
+        memset(&asked.roa, FILL, sizeof asked.roa);
+        memset(&asked.aspa, FILL, sizeof asked.aspa);
         count_allocations(at);
         well = make_call() == RPKI_OUT_OF_MEMORY && is_unwritten() && well;
         allocations(&freed);
@@ -285,6 +329,7 @@ static void judge_row(unsigned line, const struct row *row) {
     judge(line, "the memory that is promised", row->status != RPKI_OK || most_octets() <= 384 * blocks_of(row) + 1024);
     if (row->status != RPKI_OK) judge(line, "what is left as it was", is_unwritten());
     if (row->status == RPKI_OK && row->call <= UNDER) judge(line, "what is made", is_made_well(row));
+    if (row->status == RPKI_OK && row->call >= ORIGIN) judge(line, "what is said", is_said_well(row));
     refuse_each(line, many);
     free(asked.octets.at);
 }
@@ -301,9 +346,12 @@ static struct rpki_authority made(enum by number, const char *cert, const char *
         status = rpki_authority_under(by, octets.at, octets.size, ips[number], MOST_BLOCKS, numbers[number],
                                       MOST_BLOCKS, &bare);
     judge_status(0, cert, status, RPKI_OK);
+    bare.has_manifest = list == NULL;
     if (list == NULL) return bare;
     entries = file_of(list);
     judge_status(0, list, rpki_authority_list(&bare, entries.at, entries.size, &whole), RPKI_OK);
+    judge(0, "no manifest", !whole.has_manifest);
+    whole.has_manifest = true;
     return whole;
 }
 
@@ -404,6 +452,8 @@ int main(int count, char **words) {
     authorities[GARBLED].revoked_certs.size = sizeof garbled;
     authorities[INHERITED].as_blocks = &inherited;
     authorities[INHERITED].as_count = 1;
+    authorities[LISTED] = authorities[OWN];
+    authorities[LISTED].has_manifest = false;
     for (unsigned number = 0; number < sizeof rows / sizeof *rows; number++) judge_row(number + 1, &rows[number]);
     judge_trimmed();
     judge_kinds();

@@ -1,9 +1,9 @@
 /*
- * Reads manifests, route origin attestations and attestations of providers with rpki_manifest, rpki_roa and rpki_aspa,
- * and their entries with rpki_manifest_file, rpki_roa_address and rpki_aspa_provider, asks rpki_manifest_names whether
- * names differ, and compares statuses and what is found with those of rows that rows.py writes, and what
- * rpki_manifest_error, rpki_roa_error and rpki_aspa_error write. What a call refuses leaves `out` as it was. No call
- * allocates.
+ * Reads manifests, route origin attestations, attestations of providers, checklists and trust anchor keys with
+ * rpki_manifest, rpki_roa, rpki_aspa, rpki_checklist and rpki_tak, and their entries with rpki_manifest_file,
+ * rpki_roa_address, rpki_aspa_provider and rpki_checklist_file, asks rpki_manifest_names whether names differ, and
+ * compares statuses and what is found with those of rows that rows.py writes, and what rpki_manifest_error and its like
+ * write. What a call refuses leaves `out` as it was. No call allocates.
  *
  * usage: contents ROWS
  */
@@ -124,6 +124,22 @@ static rpki_status take_provider(struct rpki_span *rest, struct told *told) {
     return status;
 }
 
+static rpki_status take_listed(struct rpki_span *rest, struct told *told) {
+    struct rpki_checklist_file_parts out;
+    struct rpki_span before = *rest;
+    rpki_status status;
+    size_t size;
+    begin(&out, sizeof out);
+    status = end(rpki_checklist_file(rest, &out), &out, sizeof out);
+    size = taken(before, *rest, status);
+    if (status != RPKI_OK) return status;
+    tell_part(told, before.data, size, out.name);
+    tell(told, out.has_name);
+    tell(told, size);
+    tell_digits(told, out.digest, sizeof out.digest);
+    return status;
+}
+
 /* The entries that are all of the span: as many as the content says. */
 static bool entries(struct rpki_span rest, size_t count, take *call, struct told *told) {
     for (; count; count--) {
@@ -169,6 +185,57 @@ static bool aspa(const struct octets *input, rpki_status *status, struct told *t
     tell_part(told, input->at, input->size, out.providers);
     tell(told, out.count);
     return entries(out.providers, out.count, take_provider, told);
+}
+
+static bool checklist(const struct octets *input, rpki_status *status, struct told *told) {
+    struct rpki_checklist_parts out;
+    begin(&out, sizeof out);
+    *status = end(rpki_checklist(input->at, input->size, &out), &out, sizeof out);
+    if (*status != RPKI_OK) return true;
+    tell_part(told, input->at, input->size, out.as_numbers);
+    tell(told, out.has_as_numbers);
+    tell_part(told, input->at, input->size, out.addresses);
+    tell(told, out.has_addresses);
+    tell_part(told, input->at, input->size, out.files);
+    tell(told, out.count);
+    return entries(out.files, out.count, take_listed, told);
+}
+
+/* Whether so many values of this tag are all of the span. */
+static bool values(struct rpki_span rest, size_t count, uint8_t identifier) {
+    struct rpki_span contents;
+    for (; count; count--) {
+        if (rpki_take(&rest, identifier, &contents) != RPKI_OK) return false;
+    }
+    return rest.size == 0;
+}
+
+static bool tell_key(struct told *told, const struct octets *input, const struct rpki_anchor_key_parts *key) {
+    tell_part(told, input->at, input->size, key->comments);
+    tell(told, key->comment_count);
+    tell_part(told, input->at, input->size, key->uris);
+    tell(told, key->uri_count);
+    tell_part(told, input->at, input->size, key->key);
+    return values(key->comments, key->comment_count, 0x0C) && values(key->uris, key->uri_count, 0x16);
+}
+
+/* A key that may be left out: of one that is, all is empty. */
+static bool tell_key_if(struct told *told, const struct octets *input, const struct rpki_anchor_key_parts *key,
+                        bool is_there) {
+    tell(told, is_there);
+    if (is_there) return tell_key(told, input, key);
+    return !key->comments.size && !key->comment_count && !key->uris.size && !key->uri_count && !key->key.size;
+}
+
+static bool tak(const struct octets *input, rpki_status *status, struct told *told) {
+    struct rpki_tak_parts out;
+    bool well;
+    begin(&out, sizeof out);
+    *status = end(rpki_tak(input->at, input->size, &out), &out, sizeof out);
+    if (*status != RPKI_OK) return true;
+    well = tell_key(told, input, &out.current);
+    well = tell_key_if(told, input, &out.predecessor, out.has_predecessor) && well;
+    return tell_key_if(told, input, &out.successor, out.has_successor) && well;
 }
 
 /* ---- Names ---- */
@@ -223,11 +290,14 @@ static bool call(const char *word, const struct octets *input, rpki_status *stat
     if (!strcmp(word, "roa0")) return roa(input, false, status, told);
     if (!strcmp(word, "roa1")) return roa(input, true, status, told);
     if (!strcmp(word, "aspa")) return aspa(input, status, told);
+    if (!strcmp(word, "checklist")) return checklist(input, status, told);
+    if (!strcmp(word, "tak")) return tak(input, status, told);
     if (!strcmp(word, "names")) return names(input, status, told);
     if (!strcmp(word, "file")) *status = take_file(&rest, told);
     if (!strcmp(word, "address4")) *status = take_address_4(&rest, told);
     if (!strcmp(word, "address6")) *status = take_address_6(&rest, told);
     if (!strcmp(word, "provider")) *status = take_provider(&rest, told);
+    if (!strcmp(word, "listed")) *status = take_listed(&rest, told);
     return true;
 }
 
@@ -240,6 +310,10 @@ static bool is_wrong(const char *word, const struct octets *input, unsigned want
         status = rpki_manifest_error(input->at, input->size, &written);
     } else if (!strcmp(word, "aspa")) {
         status = rpki_aspa_error(input->at, input->size, &written);
+    } else if (!strcmp(word, "checklist")) {
+        status = rpki_checklist_error(input->at, input->size, &written);
+    } else if (!strcmp(word, "tak")) {
+        status = rpki_tak_error(input->at, input->size, &written);
     } else {
         status = rpki_roa_error(input->at, input->size, !strcmp(word, "roa1"), &written);
     }
@@ -265,7 +339,7 @@ static void row(unsigned line, char *text) {
     judge(line, "allocates, or writes what it refuses", clean);
     wanted = (unsigned)strtoul(words, &words, 10);
     judge(line, "the status", status == wanted);
-    if (!strcmp(text, "manifest") || !strcmp(text, "roa0") || !strcmp(text, "roa1") || !strcmp(text, "aspa")) {
+    if (strstr("manifest roa0 roa1 aspa checklist tak", text)) {
         judge(line, "the error", is_wrong(text, &input, wanted, (unsigned)strtoul(words, NULL, 10)));
     }
     judge(line, "the entries", well);

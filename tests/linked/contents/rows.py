@@ -1,8 +1,8 @@
-"""Writes the rows of manifests, route origin attestations and attestations of providers that the tests in C and in Rust
-read: contents of openssl, variants that use or break one rule each, and contents with octets changed, each with its
-status: the malformed part by RFC 9286, RFC 9582 or the profile of ASPA, which tests/python/judges/contents.py finds.
-Where that is 0 there is what the content says, and where its parts are; where it is a part, the error in it. Needs
-openssl.
+"""Writes the rows of manifests, route origin attestations, attestations of providers, checklists and trust anchor keys
+that the tests in C and in Rust read: contents of openssl, variants that use or break one rule each, and contents with
+octets changed, each with its status: the malformed part by RFC 9286, RFC 9582, the profile of ASPA, RFC 9323 or RFC
+9691, which tests/python/judges/contents.py and records.py find. Where that is 0 there is what the content says, and
+where its parts are; where it is a part, the error in it. Needs openssl.
 
 usage: rows.py > FILE
 
@@ -13,6 +13,11 @@ A row begins with one of these words, the octets in hexadecimal digits or `-`, a
              address of sixteen octets, its length, the maximum length, whether that is there, and the entry's size
   aspa       the customer, the place of the providers and their count; then each number and the size of its entry
   file, address4, address6, provider     one entry at the front of the octets, in the same words
+  checklist  the places of AS numbers and of addresses, and whether each is there, that of the files, and their count;
+             then for each file the place of its name in its entry, whether it is there, the entry's size, the digest
+  tak        for each key, but for the first where it is there, 1, or 0: the places of its comments and URIs, each with
+             their count, and its own
+  listed     a file of a checklist at the front of the octets, in the same words
   names      a manifest: how many files it has, and 1 where no two have the same name, else 0"""
 import os
 import random
@@ -25,6 +30,8 @@ sys.path.append(os.path.join(os.path.dirname(os.path.abspath(__file__)), "..", "
 from changes import changed
 from der import bits, sequence, tlv, unsigned
 from judges.contents import SHA256, address, aspa, file, manifest, names, provider, roa
+from judges.records import checklist, listed_file, tak
+from makers import records
 from openssl import openssl
 from programs import octets_of, write
 from strict import Octets, Wrong
@@ -151,6 +158,60 @@ CLAIMS = [
     b"\x30", sequence(), sequence(tlv(0xa0, unsigned(1)), unsigned(1), tlv(0x31, unsigned(2))),
 ]
 
+def lists(*files):
+    return records.checklist(files=sequence(*files))
+
+
+CHECKLISTS = [
+    records.checklist(), records.checklist(version=tlv(0xa0, unsigned(0))), records.checklist(version=tlv(0x80, b"")),
+    records.checklist(resources=records.block(records.NUMBERS)), records.checklist(algorithm=records.WITH_NULL),
+    records.checklist(resources=records.block(addresses=records.ADDRESSES)), records.checklist(resources=sequence()),
+    records.checklist(resources=records.block(b"\5\0", b"\5\0")), records.checklist(resources=sequence(unsigned(1))),
+    records.checklist(resources=sequence(tlv(0x80, b"\5\0"))), records.checklist(resources=sequence(tlv(0xa0, b""))),
+    records.checklist(resources=sequence(tlv(0xa1, records.ADDRESSES), tlv(0xa0, records.NUMBERS))),
+    records.checklist(resources=tlv(0x31, b"")), records.checklist(resources=b""), records.checklist(algorithm=b""),
+    records.checklist(algorithm=OID), records.checklist(algorithm=sequence()),
+    records.checklist(algorithm=sequence(tlv(6, bytes.fromhex("608648016503040202")))),
+    records.checklist(algorithm=sequence(OID, tlv(5, b"\0"))), records.checklist(algorithm=sequence(OID, unsigned(1))),
+    records.checklist(algorithm=sequence(OID, tlv(5, b""), tlv(5, b""))), records.checklist(files=b""),
+    records.checklist(files=sequence()), records.checklist(files=tlv(0x31, records.file("a"))),
+    records.checklist(more=b"\5\0"), records.checklist() + b"\0", b"", b"\x30", sequence(), tlv(0x31, b""),
+    lists(records.file("a"), records.file("a")), lists(*[records.file(f"f{number}") for number in range(300)]),
+    *(lists(each_file) for each_file in (
+        records.file(""), records.file("a b"), records.file("a/b"), records.file(b"\xe9"), records.file(".."),
+        records.file("-_.Zz09"), records.file("x" * 200), records.file("a", digest=bytes(31)),
+        records.file(None, digest=bytes(33)), records.file(None, digest=b""), sequence(records.ia5("a")),
+        sequence(tlv(0x36, b"a"), tlv(4, bytes(32))), sequence(tlv(0x0c, b"a"), tlv(4, bytes(32))),
+        sequence(tlv(4, bytes(32)), records.ia5("a")), sequence(tlv(3, bytes(33))), tlv(0x31, tlv(4, bytes(32))))),
+]
+
+
+def keyed(**changes):
+    return records.anchor_keys(current=records.anchor_key(**changes))
+
+
+ANY_KEY = sequence(sequence(tlv(6, b"\x2a")), tlv(3, b"\0"))
+TAKS = [
+    records.anchor_keys(), records.anchor_keys(version=unsigned(0)), records.anchor_keys(current=b""),
+    records.anchor_keys(predecessor=tlv(0xa0, records.anchor_key())), records.anchor_keys(more=b"\5\0"),
+    records.anchor_keys(successor=tlv(0xa1, records.anchor_key())),
+    records.anchor_keys(predecessor=tlv(0xa0, records.anchor_key(comments=sequence())),
+                        successor=tlv(0xa1, records.anchor_key(key=ANY_KEY))),
+    records.anchor_keys(predecessor=tlv(0xa1, records.anchor_key()), successor=tlv(0xa0, records.anchor_key())),
+    records.anchor_keys(predecessor=tlv(0x80, b"")), records.anchor_keys(predecessor=tlv(0xa0, b"")),
+    records.anchor_keys(successor=tlv(0xa1, records.anchor_key() + b"\5\0")), records.anchor_keys() + b"\0", b"",
+    records.anchor_keys(successor=tlv(0xa2, records.anchor_key())), b"\x30", sequence(), tlv(0x31, b""),
+    keyed(comments=b""), keyed(comments=sequence(tlv(12, b"\xff"))), keyed(comments=sequence(tlv(22, b"a"))),
+    keyed(comments=sequence(tlv(12, b""))), keyed(comments=sequence(*[tlv(12, b"one")] * 200)), keyed(uris=b""),
+    keyed(uris=sequence()), keyed(uris=sequence(tlv(12, b"https://h.example/a"))), keyed(more=b"\5\0"),
+    *(keyed(uris=sequence(records.ia5(text))) for text in (
+        "http://h.example/a", "rsync://h.example/m/d/", "rsync://h.example/m/", "rsync://h.example/m/a.cer", "")),
+    keyed(key=b""), keyed(key=ANY_KEY), keyed(key=sequence()), keyed(key=sequence(sequence(), tlv(3, b"\0"))),
+    keyed(key=sequence(sequence(tlv(6, b"\x2a")), tlv(3, b""))), keyed(key=sequence(*[sequence(tlv(6, b"\x2a"))] * 2)),
+    keyed(key=sequence(sequence(tlv(6, b"\x2a")), tlv(3, b"\1\1"))), keyed(key=ANY_KEY + b"\5\0"),
+    keyed(key=sequence(sequence(tlv(6, b"\x2a")), tlv(3, b"\0"), b"\5\0")),
+]
+
 DESCRIPTIONS = {
     "manifest": """asn1 = SEQUENCE:manifest
 [manifest]
@@ -247,6 +308,9 @@ READERS = {
     "address": [("address4", lambda octets: address(Octets(octets), 32)),
                 ("address6", lambda octets: address(Octets(octets), 128))],
     "provider": [("provider", lambda octets: provider(Octets(octets)))],
+    "checklist": [("checklist", checklist)],
+    "tak": [("tak", tak)],
+    "listed": [("listed", lambda octets: listed_file(Octets(octets)))],
     "names": [("names", names)],
 }
 
@@ -259,11 +323,17 @@ def main():
         for octets in [*made, *variants(made[0], source, 800), *variants(made[1], source, 400)]:
             for word, reader in READERS[kind]:
                 row(word, octets, reader, octets)
+    for made, word, reader in ((CHECKLISTS, "checklist", checklist), (TAKS, "tak", tak)):
+        for octets in made:
+            row(word, octets, reader, octets)
+    for octets in variants(CHECKLISTS[0], source, 800):
+        row("checklist", octets, checklist, octets)
     named = [listing(listed=sequence(files)) for files in NAMED]
     for octets in [*named, *variants(named[0], source, 400), *variants(named[3], source, 400)]:
         row("names", octets, names, octets)
     entries = {"file": [entry(), LONG], "address": [FOUR[0], FOUR[1], SIX[0], SIX[1]],
-               "provider": [unsigned(64496), unsigned(2 ** 32 - 1)]}
+               "provider": [unsigned(64496), unsigned(2 ** 32 - 1)],
+               "listed": [records.file("a.txt", b"one"), records.file(None, b"two")]}
     for kind, made in entries.items():
         for octets in made:
             for each_one in variants(octets + b"\x30\0", source, 300):

@@ -33,6 +33,7 @@ static union {
     struct rpki_header_parts header;
     struct rpki_revoked_certificate revoked;
     struct rpki_manifest_file_parts file;
+    struct rpki_checklist_file_parts listed;
     struct rpki_roa_address_parts address;
     struct rpki_access_parts access;
     struct rpki_general_name_parts name;
@@ -74,6 +75,7 @@ static void judge_spans(void) {
     row("rpki_manifest_file", rpki_manifest_file(&rest, &out.file), RPKI_TRUNCATED);
     row("rpki_roa_address", rpki_roa_address(&rest, RPKI_IPV4, &out.address), RPKI_TRUNCATED);
     row("rpki_aspa_provider", rpki_aspa_provider(&rest, (uint32_t *)(void *)&out), RPKI_TRUNCATED);
+    row("rpki_checklist_file", rpki_checklist_file(&rest, &out.listed), RPKI_TRUNCATED);
 }
 
 /* Parts of what no call has read are no octets. */

@@ -41,6 +41,7 @@ pub(crate) const TOO_DEEP: Status = 44;
 pub(crate) const NO_LIST: Status = 45;
 pub(crate) const SAME_NAMES: Status = 46;
 pub(crate) const OTHER_LIST: Status = 47;
+pub(crate) const NO_MANIFEST: Status = 48;
 pub(crate) const TOO_NEW: Status = 50;
 pub(crate) const TOO_OLD: Status = 51;
 pub(crate) const KEY_NOT_ACCEPTED: Status = 52;
@@ -145,6 +146,16 @@ pub(crate) const PART_ASPA: Status = 148;
 pub(crate) const PART_ASPA_VERSION: Status = 149;
 pub(crate) const PART_CUSTOMER: Status = 150;
 pub(crate) const PART_PROVIDERS: Status = 151;
+pub(crate) const PART_CHECKLIST: Status = 184;
+pub(crate) const PART_CHECKLIST_VERSION: Status = 185;
+pub(crate) const PART_CHECKLIST_RESOURCES: Status = 186;
+pub(crate) const PART_CHECKLIST_ALGORITHM: Status = 187;
+pub(crate) const PART_CHECKLIST_FILES: Status = 188;
+pub(crate) const PART_TAK: Status = 192;
+pub(crate) const PART_TAK_VERSION: Status = 193;
+pub(crate) const PART_TAK_CURRENT: Status = 194;
+pub(crate) const PART_TAK_PREDECESSOR: Status = 195;
+pub(crate) const PART_TAK_SUCCESSOR: Status = 196;
 pub(crate) const NO_ISSUER: Status = 152;
 pub(crate) const OTHER_ISSUER: Status = 153;
 pub(crate) const OTHER_AUTHORITY: Status = 154;
@@ -498,6 +509,49 @@ const _: () = assert!(size_of::<AspaParts>() == 32);
 
 #[repr(C)]
 #[derive(Clone, Copy, Default)]
+pub(crate) struct ChecklistParts {
+    pub(crate) as_numbers: Span,
+    pub(crate) addresses: Span,
+    pub(crate) files: Span,
+    pub(crate) count: usize,
+    pub(crate) has_as_numbers: bool,
+    pub(crate) has_addresses: bool,
+}
+const _: () = assert!(size_of::<ChecklistParts>() == 64);
+
+#[repr(C)]
+#[derive(Clone, Copy, Default)]
+pub(crate) struct ChecklistFileParts {
+    pub(crate) name: Span,
+    pub(crate) digest: [u8; 32],
+    pub(crate) has_name: bool,
+}
+const _: () = assert!(size_of::<ChecklistFileParts>() == 56);
+
+#[repr(C)]
+#[derive(Clone, Copy, Default)]
+pub(crate) struct AnchorKeyParts {
+    pub(crate) comments: Span,
+    pub(crate) comment_count: usize,
+    pub(crate) uris: Span,
+    pub(crate) uri_count: usize,
+    pub(crate) key: Span,
+}
+const _: () = assert!(size_of::<AnchorKeyParts>() == 64);
+
+#[repr(C)]
+#[derive(Clone, Copy, Default)]
+pub(crate) struct TakParts {
+    pub(crate) current: AnchorKeyParts,
+    pub(crate) predecessor: AnchorKeyParts,
+    pub(crate) successor: AnchorKeyParts,
+    pub(crate) has_predecessor: bool,
+    pub(crate) has_successor: bool,
+}
+const _: () = assert!(size_of::<TakParts>() == 200);
+
+#[repr(C)]
+#[derive(Clone, Copy, Default)]
 pub(crate) struct IpBlock {
     pub(crate) low: [u8; 16],
     pub(crate) high: [u8; 16],
@@ -537,6 +591,7 @@ const _: () = assert!(size_of::<KeyOctets>() == 20);
 pub(crate) struct Authority {
     pub(crate) certificate: Span,
     pub(crate) revoked_certs: Span,
+    pub(crate) files: Span,
     pub(crate) ip_blocks: *const IpBlock,
     pub(crate) ip_count: usize,
     pub(crate) as_blocks: *const AsBlock,
@@ -546,8 +601,9 @@ pub(crate) struct Authority {
     pub(crate) keys: [KeyOctets; 33],
     pub(crate) depth: u32,
     pub(crate) has_list: bool,
+    pub(crate) has_manifest: bool,
 }
-const _: () = assert!(size_of::<Authority>() == 800);
+const _: () = assert!(size_of::<Authority>() == 816);
 
 #[repr(C)]
 #[derive(Clone, Copy, Default)]
@@ -685,6 +741,11 @@ extern "C" {
     pub(super) fn rpki_aspa(octets: *const u8, size: usize, out: *mut AspaParts) -> Status;
     pub(super) fn rpki_aspa_error(octets: *const u8, size: usize, error: *mut Status) -> Status;
     pub(super) fn rpki_aspa_provider(rest: *mut Span, out: *mut u32) -> Status;
+    pub(super) fn rpki_checklist(octets: *const u8, size: usize, out: *mut ChecklistParts) -> Status;
+    pub(super) fn rpki_checklist_error(octets: *const u8, size: usize, error: *mut Status) -> Status;
+    pub(super) fn rpki_checklist_file(rest: *mut Span, out: *mut ChecklistFileParts) -> Status;
+    pub(super) fn rpki_tak(octets: *const u8, size: usize, out: *mut TakParts) -> Status;
+    pub(super) fn rpki_tak_error(octets: *const u8, size: usize, error: *mut Status) -> Status;
     pub(super) fn rpki_ip_blocks(
         octets: *const u8,
         size: usize,
@@ -810,12 +871,19 @@ extern "C" {
         as_capacity: usize,
         out: *mut Resources,
     ) -> Status;
-    pub(super) fn rpki_authority_origin(by: *const Authority, octets: *const u8, size: usize, strict: bool) -> Status;
+    pub(super) fn rpki_authority_origin(
+        by: *const Authority,
+        octets: *const u8,
+        size: usize,
+        strict: bool,
+        out: *mut RoaParts,
+    ) -> Status;
     pub(super) fn rpki_authority_providers(
         by: *const Authority,
         octets: *const u8,
         size: usize,
         strict: bool,
+        out: *mut AspaParts,
     ) -> Status;
     pub(super) fn rpki_authority_manifest(
         by: *const Authority,
@@ -824,6 +892,7 @@ extern "C" {
         strict: bool,
         room: *mut Span,
         capacity: usize,
+        out: *mut Authority,
     ) -> Status;
     pub(super) fn rpki_locator(text: *const u8, size: usize, count: *mut usize, line: *mut usize) -> Status;
     pub(super) fn rpki_locator_uri(

@@ -94,6 +94,8 @@ returns c =
     record {
       x = x;
       spelled = h.spelled;
+      known = c.in-Ok-profiled.known;
+      says = says;
       profiled = has;
       locator = root.0;
       at = root.1.0;
@@ -114,4 +116,5 @@ returns c =
           ∙ ap (set (replicate 33 (replicate 20 0)) 0)
           (c.from.ensures ∙ c.key_of.ensures c.args.octets.now x h);
       unlisted = refl;
+      bare = refl;
     }

@@ -1,4 +1,6 @@
 use Rattle.std.proofs.Common.{inl, inr, refl}
+use Rattle.rpki_c.specs.Authority.{HasOwn, Own}
+use Rattle.rpki_c.proofs.PathLaws.{end-path}
 use Rattle.rpki_c.proofs.authority_end.end_below.Goals as goal
 
 pub returns-in-Err-below : goal.returns-in-Err-below
@@ -65,18 +67,22 @@ pub returns : goal.returns
 returns c =
     let (x, h) = c.in-Ok.ensures.ok in
     let (says, below) = c.in-Ok-below.ensures c.args.octets.now x h in
-    let own = c.in-Ok-owned_under in
+    let found = c.in-Ok-owned_under in
+    let own : Own = record { addresses = found.own.addresses; numbers = found.own.numbers } in
+    let has : HasOwn c.args.by.now x c.in-Ok-below.known own =
+    record {
+      addresses = found.ensures.addresses c.args.octets.now x h;
+      numbers = found.ensures.numbers c.args.octets.now x h;
+    } in
     record {
       x = x;
       spelled = h.spelled;
       known = c.in-Ok-below.known;
       says = says;
       below = below;
-      own = record { addresses = own.own.addresses; numbers = own.own.numbers };
-      has = record {
-        addresses = own.ensures.addresses c.args.octets.now x h;
-        numbers = own.ensures.numbers c.args.octets.now x h;
-      };
+      own = own;
+      has = has;
       ip_blocks = c.in-Some.ensures.some;
       as_blocks = c.in-Some-kept_numbers.ensures.some;
+      path = end-path c.args.profile c.args.by.now x c.in-Ok-below.known own says below has;
     }

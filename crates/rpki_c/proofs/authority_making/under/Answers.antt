@@ -97,4 +97,5 @@ returns c =
       no_digest = refl;
       depth = refl;
       unlisted = refl;
+      bare = refl;
     }

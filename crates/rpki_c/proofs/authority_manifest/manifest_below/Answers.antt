@@ -1,5 +1,7 @@
 use Rattle.std.proofs.Common.{inl, inr, refl, sym, ◌∙◌}
 use Rattle.std.proofs.lemmas.Bool.{iff_false}
+use Rattle.rpki_contents.specs.FilesInPlace.{AreFiles}
+use Rattle.rpki_c.specs.AuthorityManifest.{IsManifestHeld}
 use Rattle.rpki_c.proofs.CertificateLaws.{listed}
 use Rattle.rpki_c.proofs.authority_manifest.manifest_below.Goals as goal
 
@@ -36,15 +38,20 @@ returns-in-Ok-manifest_held c =
     let (x, at) = c.in-Ok.ensures.ok in
     let type = rw at.parts.content.content_type.octets at c.rpki_content_type.ensures in
     let said = c.are_inherited.ensures x.cert.tbs.extensions (listed at.parts.cert_parts) in
-    record {
-      x = x;
-      spelled = at.spelled;
-      type = sym type ∙ c.if-rpki_content_type-ne2.false;
-      known = c.in-Ok-signed_below.field-0;
-      signed = c.in-Ok-signed_below.ensures c.args.strict c.args.octets.now x at;
-      inherited = said.0 c.if-not-are_inherited.false;
-      held = rw at.parts.content.content.octets at c.in-Ok-manifest_held.ensures;
-    }
+    let (held, files) : (h : IsManifestHeld c.args.by.now x.content.content)
+    × AreFiles h.content.files c.in-Ok-manifest_held.files.octets.now =
+    rw at.parts.content.content.octets at c.in-Ok-manifest_held.ensures in (
+      record {
+        x = x;
+        spelled = at.spelled;
+        type = sym type ∙ c.if-rpki_content_type-ne2.false;
+        known = c.in-Ok-signed_below.field-0;
+        signed = c.in-Ok-signed_below.ensures c.args.strict c.args.octets.now x at;
+        inherited = said.0 c.if-not-are_inherited.false;
+        held = held;
+      },
+      files,
+    )
 
 pub returns-in-Err-manifest_held : goal.returns-in-Err-manifest_held
 returns-in-Err-manifest_held c =

@@ -66,12 +66,15 @@ returns c =
     let found = c.in-Ok.ensures.ok in
     let told = told-between c.new-period.result v.this_update v.next_update c.in-Some.time c.told_of-told.result
     c.new-period.ensures.not_before c.new-period.ensures.not_after c.told_of-told.ensures in
-    record {
-      content = parts_in v found.0;
-      listing = is-listing s v found.0 found.1;
-      distinct = (c.names_differ.ensures found.0 (held s v found.0 found.1)).0 c.if-not-names_differ.false;
-      list = (c.lists_only.ensures found.0 (held s v found.0 found.1)).0 c.if-not-lists_only.false;
-      at = c.in-Some.time;
-      moment = c.in-Some.ensures.value;
-      now = holds-between v.this_update v.next_update c.in-Some.time (rw c.if-told-ne0.false at told);
-    }
+    let files = held s v found.0 found.1 in (
+      record {
+        content = parts_in v found.0;
+        listing = is-listing s v found.0 found.1;
+        distinct = (c.names_differ.ensures found.0 files).0 c.if-not-names_differ.false;
+        list = (c.lists_only.ensures found.0 files).0 c.if-not-lists_only.false;
+        at = c.in-Some.time;
+        moment = c.in-Some.ensures.value;
+        now = holds-between v.this_update v.next_update c.in-Some.time (rw c.if-told-ne0.false at told);
+      },
+      rw (c.of.ensures, c.octets.ensures) files.files,
+    )

@@ -1,6 +1,9 @@
-use Rattle.std.proofs.Common.{inl, inr, refl, sym, ◌∙◌}
+use Rattle.std.proofs.Common.{◌≡◌, inl, inr, refl, sym, ◌∙◌}
 use Rattle.std.proofs.lemmas.Bool.{iff_false}
+use Rattle.rpki_c.specs.Aspa.{passed}
+use Rattle.rpki_c.specs.AuthorityObject.{IsCustomerWithin}
 use Rattle.rpki_c.proofs.CertificateLaws.{listed}
+use Rattle.rpki_c.proofs.SignerPathLaws.{customer-path}
 use Rattle.rpki_c.proofs.authority_objects.providers_below.Goals as goal
 
 pub returns-then-rpki_content_type-ne3 : goal.returns-then-rpki_content_type-ne3
@@ -52,16 +55,25 @@ returns-in-Ok-customer_within c =
     let (x, at) = c.in-Ok.ensures.ok in
     let type = rw at.parts.content.content_type.octets at c.rpki_content_type.ensures in
     let said = c.lists_numbers.ensures x.cert.tbs.extensions (listed at.parts.cert_parts) in
+    let signed = c.in-Ok-signed_below.ensures c.args.strict c.args.octets.now x at in
+    let kinds = said.0 c.if-not-lists_numbers.false in
+    let has = c.in-Ok-numbers_under.ensures.gives _ x.cert at.parts.cert_parts in
+    let (within, says) : (h : IsCustomerWithin x.content.content c.in-Ok-numbers_under.own)
+    × (passed c.in-Ok-customer_within.parts ≡ h.content) =
+    rw at.parts.content.content.octets at c.in-Ok-customer_within.ensures in
     record {
       x = x;
       spelled = at.spelled;
       type = sym type ∙ c.if-rpki_content_type-ne3.false;
       known = c.in-Ok-signed_below.known;
-      signed = c.in-Ok-signed_below.ensures c.args.strict c.args.octets.now x at;
-      kinds = said.0 c.if-not-lists_numbers.false;
+      signed = signed;
+      kinds = kinds;
       own = c.in-Ok-numbers_under.own;
-      has = c.in-Ok-numbers_under.ensures.gives _ x.cert at.parts.cert_parts;
-      within = rw at.parts.content.content.octets at c.in-Ok-customer_within.ensures;
+      has = has;
+      within = within;
+      path = customer-path c.args.by.now x c.in-Ok-signed_below.known c.in-Ok-numbers_under.own signed kinds has
+          within;
+      says = says;
     }
 
 pub returns : goal.returns

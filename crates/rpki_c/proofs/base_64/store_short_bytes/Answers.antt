@@ -1,5 +1,5 @@
 use Rattle.std.proofs.Common.{◌∙◌, refl}
-use Rattle.rpki_text.proofs.Base64Laws.{xml-bytes-text, xml-bytes-other}
+use Rattle.rpki_base64.proofs.Base64Laws.{xml-bytes-text, xml-bytes-other}
 use Rattle.rpki_c.proofs.base_64.store_short_bytes.Goals as goal
 
 pub returns-in-Ok : goal.returns-in-Ok

@@ -1,5 +1,5 @@
 use Rattle.std.proofs.Common.{◌≡◌, ◌≤◌, take, length}
-use Rattle.rpki_text.specs.Base64Text.{without_white_space}
+use Rattle.rpki_base64.specs.Base64Text.{without_white_space}
 use Rattle.rpki_c.proofs.base_64.store_short_xml.Given as goal
 
 -- what was read of the text, without white space

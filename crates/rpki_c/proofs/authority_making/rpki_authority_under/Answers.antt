@@ -1,0 +1,14 @@
+use Rattle.std.proofs.Common.{inl, inr, refl, sym, ◌∙◌}
+use Rattle.rpki_c.proofs.PathLaws.{under-path}
+use Rattle.rpki_c.proofs.authority_making.rpki_authority_under.Goals as goal
+
+pub returns-then-not-has_manifest : goal.returns-then-not-has_manifest
+returns-then-not-has_manifest c = inr (inl (sym c.has_manifest.ensures ∙ c.if-not-has_manifest.true, refl), refl)
+
+pub returns-in-Ok : goal.returns-in-Ok
+returns-in-Ok c =
+    let has = sym c.has_manifest.ensures ∙ c.if-not-has_manifest.false in
+    inl (refl, has, c.in-Ok.ensures, under-path c.args.by.now c.args.octets.now _ c.in-Ok.ensures)
+
+pub returns-in-Err : goal.returns-in-Err
+returns-in-Err c = inr (inr (sym c.has_manifest.ensures ∙ c.if-not-has_manifest.false, c.in-Err.ensures), refl)
