@@ -100,6 +100,7 @@ module _ (published : Published) (basis : Basis) (x y : Holder) (same : AreAlike
       object = object-alike p.list p.manifest.object h.held h.manifest.object;
       rules = h.manifest.rules;
     };
+    named = h.named;
   }
 
   pub point-alike : (p : PublicationParts) → IsPoint published basis x p → IsPoint published basis y p

@@ -9,7 +9,8 @@
 -- The first trust anchor of a locator: AnchorLaws.
 -- What counts is reached, and is an authority: ReachedLaws.
 -- What is alike publishes and issues the same: AlikeLaws.
--- Lists, and marks in sets: MetLaws, MarkLaws, TakingLaws. Whether an authority is named: NamedLaws.
+-- Lists, and marks in sets: MetLaws, MarkLaws, TakingLaws. Whether an authority is named: NamedLaws; a list:
+--   ListNameLaws.
 -- What waits in a map, and what is below an authority: WaitingLaws, BelowLaws.
 -- What was looked at and what waits, at any moment and in the end; one turn: TraceLaws, TurnLaws.
 -- What octets say under a list, what files say, what the point of an authority says is added: HereLaws (names of files:
@@ -35,6 +36,7 @@ pub mod AlikeLaws
 pub mod MetLaws
 pub mod MarkLaws
 pub mod NamedLaws
+pub mod ListNameLaws
 pub mod WaitingLaws
 pub mod BelowLaws
 pub mod TraceLaws

@@ -102,7 +102,18 @@ same-then x y z h k = record {
 }
 
 pub alike-same : (x y : Holder) → AreAlike x y → PublishTheSame x y
-alike-same x y h = record { subject = h.subject; key = h.key; folder = h.folder; manifest = h.manifest }
+alike-same x y h = record {
+  subject = h.subject;
+  key = h.key;
+  folder = λ place. (
+    λ s. (s.0, (h.folder s.0).0 s.1, s.2),
+    λ s. (s.0, (h.folder s.0).1 s.1, s.2),
+  );
+  manifest = λ place. (
+    λ s. (s.0, (h.manifest s.0).0 s.1, s.2),
+    λ s. (s.0, (h.manifest s.0).1 s.1, s.2),
+  );
+}
 
 placed-same : (x y : Holder) (m : Mark) → HasPlaceMark x m → HasPlaceMark y m → PublishTheSame x y
 placed-same x y m h k =

@@ -27,7 +27,7 @@ use Rattle.rpki_cert.specs.Rule.{Obeys}
 use Rattle.rpki_validation.specs.declared.reason.Reason.{Reason}
 use Rattle.rpki_validation.specs.Finding.{IsCertReason, IsNone, IsRejected, IsSole, invalid_stop_of}
 use Rattle.rpki_validation.specs.Met.{IsPlace}
-use Rattle.rpki_validation.specs.Publication.{SaysOther}
+use Rattle.rpki_validation.specs.Publication.{IsAt, SaysOther, place_text}
 
 module _ (G : Option (List ℕ) → List ℕ → Type 0) (t : TbsParts) where
   abbrev Says' : Option (List ℕ) → Type 0
@@ -112,3 +112,13 @@ pub place-none : (Has : List ℕ → Type 0) → IsNone Has → IsPlace Has None
 place-none Has none uri = (λ s. absurd (none uri s), λ k. absurd (none-is uri k)) where
   none-is : (a : List ℕ) → None ≡ Some a → ⊥
   none-is a e = absurd (cc)
+
+-- and as places
+pub placed-found : (Has : List ℕ → Type 0) (uri : List ℕ) → IsSole Has uri → IsPlace (IsAt Has) (Some (place_text uri))
+placed-found Has uri h = place-found (IsAt Has) (place_text uri) (record {
+  holds = (uri, h.holds, refl);
+  sole = λ place s. sym s.2 ∙ ap place_text (h.sole s.0 s.1);
+})
+
+pub placed-none : (Has : List ℕ → Type 0) → IsNone Has → IsPlace (IsAt Has) None
+placed-none Has none = place-none (IsAt Has) (λ place s. none s.0 s.1)

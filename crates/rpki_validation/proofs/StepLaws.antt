@@ -19,15 +19,18 @@ use Rattle.rpki_valid.specs.ObjectVerified.{IsValidObject, IsInvalidObject}
 use Rattle.rpki_valid.specs.declared.staleness.Staleness.TheVariants.{Refused}
 use Rattle.rpki_valid.specs.CrlIssued.{IsIssuedBy, IsNotIssued, IsRefusedList}
 use Rattle.rpki_valid.specs.Processed.{IsProcessed, IsUnprocessed, KeepsManifestRules, BreaksManifestRules}
+use Rattle.rpki_valid.specs.Valid.{HasReason}
 use Rattle.rpki_valid.specs.Verified.{Verified, IsOffPath, IsRefusedAuthority, IsRefusedLink, IsUnverified}
 use Rattle.rpki_valid.specs.Verified.{IsVerifiedBy}
 use Rattle.rpki_valid.specs.Verified.{holder}
 use Rattle.rpki_validation.specs.declared.reason.Reason.{Reason}
+use Rattle.rpki_validation.specs.declared.reason.Reason.TheVariants as reason
+use Rattle.rpki_validation.specs.declared.stop.Stop.TheVariants.{Rejected}
 use Rattle.rpki_validation.specs.Basis.{Basis}
 use Rattle.rpki_validation.specs.Finding.{IsSole, IsNone, StopsAt, IsCertReason, stop_of, invalid_stop_of}
 use Rattle.rpki_validation.specs.Issued.{IsObjectIn, IsNoAuthorityIn, IsNoObjectIn, IsIssuedCert}
 use Rattle.rpki_validation.proofs.FindingLaws.{stops-invalid, stops-malformed}
-use Rattle.rpki_validation.specs.Point.{HoldsAtMoment, IsNoMoment}
+use Rattle.rpki_validation.specs.Point.{HoldsAtMoment, HoldsManifest, IsNoMoment, NamesItsList, other_list_text}
 use Rattle.rpki_validation.specs.Publication.{PublicationParts}
 use Rattle.rpki_validation.proofs.IssuedLaws.{manifest-broken, one-cert, one-object, unprocessed-none}
 use Rattle.rpki_validation.proofs.MomentLaws.{basis_under, now, moment-holds, cert-now, cert-then, list-now, list-then}
@@ -213,13 +216,25 @@ module _ (v : Verified) (at : DateTime) (period : HoldsAt v.period at) (p : Publ
         (λ r. KeepsManifestRules at p.manifest) (IsInvalidObject (Some p.list) n at p.manifest.object)
         (λ r. BreaksManifestRules at p.manifest) (one-object (Some p.list) n at p.manifest.object)
         (λ r d. manifest-broken at p.manifest d) e k))
-        (inr (list-now v at Refused p.list issued, k))
+        (inr (list-now v at Refused p.list issued, inl k))
 
-    pub publication-holds : IsIssuedBy Refused v at p.list → (held : ResourceSet)
-        → IsProcessed Manifest (λ r. KeepsManifestRules at p.manifest) held → Holds
-    publication-holds issued held h = record {
+    abbrev Processed : ResourceSet → Type 0
+    Processed = IsProcessed Manifest (λ r. KeepsManifestRules at p.manifest)
+
+    held-now : (held : ResourceSet) → Processed held
+        → HoldsManifest (basis_under v at) (holder v.cert v.resources) p held
+    held-now = processed-now v at period p.list p.manifest.object (λ r. KeepsManifestRules at p.manifest)
+
+    pub other-list : IsIssuedBy Refused v at p.list → (held : ResourceSet) → Processed held → (NamesItsList p → ⊥)
+        → (e : ValidationError) → HasReason other_list_text e → StopsAt Both WhyNot (Rejected (reason.Invalid e))
+    other-list issued held h none e text =
+        (λ u k. none k.named, inr (list-now v at Refused p.list issued, inr ((held, held-now held h), none, text)))
+
+    pub publication-holds : IsIssuedBy Refused v at p.list → (held : ResourceSet) → Processed held → NamesItsList p
+        → Holds
+    publication-holds issued held h named = record {
       list = list-now v at Refused p.list issued;
       held = held;
-      manifest =
-          processed-now v at period p.list p.manifest.object (λ r. KeepsManifestRules at p.manifest) held h;
+      manifest = held-now held h;
+      named = named;
     }

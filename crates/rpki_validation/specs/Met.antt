@@ -6,12 +6,13 @@ use Rattle.std.specs.Bool.{OnFalse, OnTrue}
 use Rattle.std.specs.List.{Contains}
 use Rattle.rpki.specs.declared.crypto.keys.PublicKeyFormat.{PublicKeyFormat}
 use Rattle.rpki.specs.declared.crypto.keys.PublicKeyFormat.TheVariants.{Rsa, EcdsaP256}
+use Rattle.rpki_cert.specs.Cert.{TbsParts}
 use Rattle.rpki_resources.specs.declared.block.Block.{Block}
 use Rattle.rpki_valid.specs.declared.resource.set.ResourceSet.{ResourceSet}
 use Rattle.rpki_valid.specs.Verified.{Holder}
 use Rattle.rpki_validation.specs.declared.stop.Stop.{Stop}
 use Rattle.rpki_validation.specs.declared.stop.Stop.TheVariants.{Rejected, OutOfMemory}
-use Rattle.rpki_validation.specs.Publication.{HasManifest, HasRepository}
+use Rattle.rpki_validation.specs.Publication.{HasManifest, HasRepository, IsAt, place_text}
 
 -- ---- numbers
 
@@ -51,12 +52,12 @@ mark name key folder manifest numbers =
 abbrev pub IsPlace : (List ℕ → Type 0) → Option (List ℕ) → Type 0
 IsPlace Has place = (uri : List ℕ) → Has uri ↔ (place ≡ Some uri)
 
--- the mark of where an authority publishes
+-- the mark of where an authority publishes, its places as text
 pub record HasPlaceMark (x : Holder) (m : Mark) : Type 0 where
   pub name : m.name ≡ x.cert.tbs.subject
   pub key : m.key ≡ x.cert.tbs.key.bits.octets
-  pub folder : IsPlace (HasRepository x.cert.tbs) m.folder
-  pub manifest : IsPlace (HasManifest x.cert.tbs) m.manifest
+  pub folder : IsPlace (IsAt (HasRepository x.cert.tbs)) m.folder
+  pub manifest : IsPlace (IsAt (HasManifest x.cert.tbs)) m.manifest
   pub numbers : m.numbers ≡ format_number x.cert.tbs.key.format ∷ x.cert.tbs.key.bits.unused ∷ []
 
 -- that of the authority itself
@@ -68,11 +69,23 @@ pub record HasMark (x : Holder) (m : Mark) : Type 0 where
   pub numbers : m.numbers
       ≡ format_number x.cert.tbs.key.format ∷ x.cert.tbs.key.bits.unused ∷ numbers_of x.resources
 
--- of a URI that was found, or not
-abbrev pub IsPlaceOf : Result (List ℕ) Stop → Option (List ℕ) → Type 0
-IsPlaceOf (Ok uri) place = place ≡ Some uri
-IsPlaceOf (Err (Rejected reason)) place = place ≡ None
-IsPlaceOf (Err OutOfMemory) place = ⊥
+-- the name, the key's bits, and numbers of the key
+pub record HasKeyMarks (t : TbsParts) (subject octets counts : List ℕ) : Type 0 where
+  pub name : subject ≡ t.subject
+  pub bits : octets ≡ t.key.bits.octets
+  pub numbers : counts ≡ format_number t.key.format ∷ t.key.bits.unused ∷ []
+
+-- a URI that was found, or not
+abbrev pub IsUriIn : Result (List ℕ) Stop → Option (List ℕ) → Type 0
+IsUriIn (Ok uri) found = found ≡ Some uri
+IsUriIn (Err (Rejected reason)) found = found ≡ None
+IsUriIn (Err OutOfMemory) found = ⊥
+
+-- its place
+abbrev pub IsPlaceIn : Result (List ℕ) Stop → Option (List ℕ) → Type 0
+IsPlaceIn (Ok uri) place = place ≡ Some (place_text uri)
+IsPlaceIn (Err (Rejected reason)) place = place ≡ None
+IsPlaceIn (Err OutOfMemory) place = ⊥
 
 -- ---- sets of them
 

@@ -1,10 +1,11 @@
 -- What is where an authority publishes: its manifest, and its revocation list. Nothing of it is verified yet (RFC
 -- 9286 6.2 to 6.5).
-use Rattle.std.specs.Prelude.{◌≡◌, ◌≢◌, ℕ, Bool, false, List, [], ◌∷◌, filter, nat_eq, Option, Some, None, codes}
+use Rattle.std.specs.Prelude.{◌≡◌, ◌≢◌, ◌++◌, ℕ, Bool, false, List, [], ◌∷◌, filter, nat_eq, Option, Some, None, codes}
 use Rattle.std.specs.List.{ends_with}
 use Rattle.rpki_der.specs.declared.error.DecodeError.{DecodeError}
 use Rattle.rpki_der.specs.Prelude.{Format, IsWholeFault}
 use Rattle.rpki_text.specs.RsyncText.{RsyncUri, uri_of, joined, joined_uri, join_refusal}
+use Rattle.rpki_text.specs.RsyncText.{canonical_module_of, path_of}
 use Rattle.rpki_cert.specs.Access.{HasUri, SpellsRsyncAccess, ca_repository, rpki_manifest}
 use Rattle.rpki_cert.specs.Cert.{TbsParts}
 use Rattle.rpki_cert.specs.Known.{HasNone, subject_info_access}
@@ -26,6 +27,15 @@ HasRepository t uri = HasUri subject_info_access (SpellsRsyncAccess ca_repositor
 
 abbrev pub HasManifest : TbsParts → List ℕ → Type 0
 HasManifest t uri = HasUri subject_info_access (SpellsRsyncAccess rpki_manifest) t.extensions (Some uri)
+
+-- the text of a place: that of its URI, the scheme and the authority in lower case, since URIs that differ only in the
+-- case of these are one (RFC 5781 2)
+abbrev pub place_text : List ℕ → List ℕ
+place_text uri = canonical_module_of uri ++ path_of uri
+
+-- one of these URIs is at the place
+abbrev pub IsAt : (List ℕ → Type 0) → List ℕ → Type 0
+IsAt Has place = (uri : List ℕ) × Has uri × (place_text uri ≡ place)
 
 -- the certificate says no such URI; or something that is malformed
 abbrev pub SaysNoUri : (Option (List ℕ) → List ℕ → Type 0) → TbsParts → Type 0

@@ -6,6 +6,7 @@
 mod anchor;
 mod issued;
 pub mod laws;
+mod list_name;
 mod looked;
 mod met;
 mod named;

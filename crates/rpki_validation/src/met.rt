@@ -4,13 +4,16 @@ ghost use Rattle.std.specs.Prelude.{◌≡◌, ◌++◌, [], IfOk};
 ghost use Rattle.rpki_valid.specs.Verified.{IsVerified, verified_by};
 ghost use Rattle.rpki_validation.specs.Basis.{holder_of};
 ghost use Rattle.rpki_validation.specs.Met.{counted, format_number, numbers_of, mark_in};
-ghost use Rattle.rpki_validation.specs.Met.{HasMark, HasPlaceMark, InsertsMarkOf, InsertsPlaceOf, IsPlaceOf};
+ghost use Rattle.rpki_validation.specs.Met.{HasKeyMarks, HasMark, HasPlaceMark, InsertsMarkOf, InsertsPlaceOf};
+ghost use Rattle.rpki_validation.specs.Met.{IsPlaceIn, IsUriIn};
+ghost use Rattle.rpki_validation.specs.Publication.{place_text};
 
 use crate::publication::{manifest_place, repository_of};
 use crate::stop::Stop;
 use bytes::Bytes;
 use rpki::crypto::PublicKeyFormat;
 use rpki::uri::Rsync;
+use rpki_cert::TbsCert;
 use rpki_resources::Blocks;
 use rpki_rsa::PreparingProvider;
 use rpki_valid::{ResourceCert, ResourceSet};
@@ -72,8 +75,8 @@ fn format_number(format: PublicKeyFormat) -> u128
 }
 
 /// The octets of the URI; None where there is none.
-fn place_of(found: Result<Rsync, Stop>) -> Result<Option<Bytes>, AllocError>
-    ensures { IfOk result (IsPlaceOf found) }
+fn uri_in(found: Result<Rsync, Stop>) -> Result<Option<Bytes>, AllocError>
+    ensures { IfOk result (IsUriIn found) }
 {
     match found {
         Ok(uri) => {
@@ -85,24 +88,57 @@ fn place_of(found: Result<Rsync, Stop>) -> Result<Option<Bytes>, AllocError>
     }
 }
 
+/// The octets of the URI, its scheme and its authority in lower case: URIs that are one place have the same (RFC 5781
+/// 2).
+fn place_text(alloc: Global, uri: &Rsync) -> Result<Bytes, AllocError>
+    ensures { IfOk result (λ text. text ≡ place_text uri.now) }
+{
+    let module = uri.canonical_module(alloc)?;
+    let mut text = Vec::from_slice(alloc, module.as_str().as_bytes())?;
+    text.extend_from_slice(uri.path_bytes())?;
+    let octets = Bytes::from_vec(text)?;
+    Ok(octets)
+}
+
+/// The place of the URI; None where there is none.
+fn place_in(alloc: Global, found: Result<Rsync, Stop>) -> Result<Option<Bytes>, AllocError>
+    ensures { IfOk result (IsPlaceIn found) }
+{
+    match found {
+        Ok(uri) => {
+            let text = place_text(alloc, &uri)?;
+            Ok(Some(text))
+        }
+        Err(Stop::Rejected(_)) => Ok(None),
+        Err(Stop::OutOfMemory) => Err(AllocError),
+    }
+}
+
+/// What tells the subject's key apart: its name, the key's bits, and as numbers the algorithm of the key and its count
+/// of unused bits.
+fn key_marks(alloc: Global, tbs: &TbsCert) -> Result<(Bytes, Bytes, Vec<u128>), AllocError>
+    ensures { IfOk result (λ k. HasKeyMarks tbs.now k.0 k.1 k.2.items) }
+{
+    let name = Bytes::copy_from_slice(alloc, tbs.subject().as_slice())?;
+    let key = tbs.subject_public_key_info();
+    let bits = key.bits_bytes()?;
+    let mut numbers = Vec::new(alloc);
+    numbers.push(format_number(key.algorithm()))?;
+    numbers.push(u128::from(key.unused()))?;
+    Ok((name, bits, numbers))
+}
+
 /// The mark of where the authority publishes, which is without its resources.
 fn place_mark_of<'p, P: PreparingProvider>(
     alloc: Global,
     authority: &ResourceCert<'p, P>,
 ) -> Result<Mark, AllocError>
-    ensures mark { IfOk result (λ k. HasPlaceMark (holder_of authority.now) (mark_in (λ v. v.items) k)) }
-    // It was verified.
-    ensures verified { IfOk result (λ _. IsVerified (verified_by P.Provider authority.now)) }
+    ensures { IfOk result (λ k. HasPlaceMark (holder_of authority.now) (mark_in (λ v. v.items) k)) }
 {
     let tbs = authority.cert().tbs();
-    let name = Bytes::copy_from_slice(alloc, tbs.subject().as_slice())?;
-    let key = tbs.subject_public_key_info();
-    let bits = key.bits_bytes()?;
-    let folder = place_of(repository_of(alloc, tbs))?;
-    let manifest = place_of(manifest_place(alloc, tbs))?;
-    let mut numbers = Vec::new(alloc);
-    numbers.push(format_number(key.algorithm()))?;
-    numbers.push(u128::from(key.unused()))?;
+    let (name, bits, numbers) = key_marks(alloc, tbs)?;
+    let folder = place_in(alloc, repository_of(alloc, tbs))?;
+    let manifest = place_in(alloc, manifest_place(alloc, tbs))?;
     Ok((name, bits, folder, manifest, numbers))
 }
 
@@ -115,7 +151,10 @@ pub(crate) fn mark_of<'p, P: PreparingProvider>(
     // It was verified.
     ensures verified { IfOk result (λ _. IsVerified (verified_by P.Provider authority.now)) }
 {
-    let (name, bits, folder, manifest, mut numbers) = place_mark_of(alloc, authority)?;
+    let tbs = authority.cert().tbs();
+    let (name, bits, mut numbers) = key_marks(alloc, tbs)?;
+    let folder = uri_in(repository_of(alloc, tbs))?;
+    let manifest = uri_in(manifest_place(alloc, tbs))?;
     push_resources(authority.resources(), &mut numbers)?;
     Ok((name, bits, folder, manifest, numbers))
 }
@@ -146,6 +185,7 @@ impl Met {
         let is_new = self.marks.insert(mark)?;
         Ok(is_new)
     }
+
     /// Adds the mark of where the authority publishes; returns whether it was not among them.
     ///
     /// Returns `AllocError` if allocation fails.

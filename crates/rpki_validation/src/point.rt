@@ -7,7 +7,9 @@ ghost use Rattle.rpki_validation.specs.Basis.{basis_of, holder_of};
 ghost use Rattle.rpki_validation.specs.Point.{VerifiesPublication};
 ghost use Rattle.rpki_validation.specs.Steps.{FindsFiles};
 
+use crate::list_name::names_its_list;
 use crate::publication::{Publication, file_octets};
+use crate::reason::Reason;
 use crate::snapshot::Snapshot;
 use crate::stop::Stop;
 use bytes::Bytes;
@@ -16,16 +18,18 @@ use rpki::repository::x509::Time;
 use rpki::uri::Rsync;
 use rpki_contents::FileAndHash;
 use rpki_rsa::PreparingProvider;
-use rpki_valid::{CurrentCrl, ResourceCert, Staleness};
+use rpki_valid::{CurrentCrl, ResourceCert, Staleness, unverified};
 use std::alloc::Global;
 
 /// Tests that the authority has issued the revocation list and the manifest, and that both hold at the moment: the list
-/// was issued by the moment, and the next was not due (RFC 5280 6.3.3); the manifest isn't revoked, is valid, and keeps
-/// its rules (RFC 9286 5.1, 6.3). Returns the list, which verifies what the authority has issued. Requires that all of
-/// the authority's path is valid at the moment, as its period tells.
+/// was issued by the moment, and the next was not due (RFC 5280 6.3.3); the manifest isn't revoked, is valid, keeps its
+/// rules (RFC 9286 5.1, 6.3), and its certificate names the list (RFC 6487 4.8.6). Returns the list, which verifies
+/// what the authority has issued. Requires that all of the authority's path is valid at the moment, as its period
+/// tells.
 ///
 /// The errors are `Invalid` of those of [ResourceCert::crl](rpki_valid::ResourceCert::crl); then of those of
-/// [CurrentCrl::process_manifest](rpki_valid::CurrentCrl::process_manifest); or `OutOfMemory` if allocation fails.
+/// [CurrentCrl::process_manifest](rpki_valid::CurrentCrl::process_manifest); then `Verification` with the text `RFC
+/// 6487 4.8.6: another revocation list is named`; or `OutOfMemory` if allocation fails.
 pub fn verify_publication<'a, 'p, P: PreparingProvider>(
     alloc: Global,
     issuer: &'a ResourceCert<'p, P>,
@@ -39,7 +43,11 @@ pub fn verify_publication<'a, 'p, P: PreparingProvider>(
 {
     let current = issuer.crl(publication.list(), Staleness::Refused, at)?;
     current.process_manifest(alloc, publication.manifest())?;
-    Ok(current)
+    if names_its_list(alloc, publication)? {
+        return Ok(current);
+    }
+    let other = unverified("RFC 6487 4.8.6: another revocation list is named");
+    Err(Stop::Rejected(Reason::Invalid(other)))
 }
 
 /// The octets of the files of a manifest, which are in the folder, in their order (RFC 9286 6.4, 6.5).

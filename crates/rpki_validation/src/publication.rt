@@ -85,7 +85,7 @@ fn is_list(file: &FileAndHash) -> bool
 }
 
 /// The one file that is a revocation list by its name; None where there is none, or more than one.
-fn list_file(files: &[FileAndHash]) -> Option<&FileAndHash>
+pub(crate) fn list_file(files: &[FileAndHash]) -> Option<&FileAndHash>
     ensures { option_copied result ≡ list_file files.entry.now }
 {
     let mut found = None;

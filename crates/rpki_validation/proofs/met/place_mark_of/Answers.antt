@@ -1,43 +1,35 @@
-use Rattle.std.proofs.Common.{◌++◌, List, [], ◌∷◌, ℕ, Option, Ok, Err, Result, ap, sym, subst, ◌∙◌}
-use Rattle.rpki.specs.PublicKey.{KeyParts}
-use Rattle.rpki.specs.declared.crypto.keys.PublicKeyFormat.{PublicKeyFormat}
+use Rattle.std.proofs.Common.{List, ℕ, Option, Ok, Err, Result, ap, sym, subst, ◌∙◌}
 use Rattle.rpki_cert.specs.Cert.{CertParts, TbsParts}
 use Rattle.rpki_validation.specs.declared.reason.Reason.{Reason}
 use Rattle.rpki_validation.specs.declared.stop.Stop.{Stop}
 use Rattle.rpki_validation.specs.declared.stop.Stop.TheVariants.{Rejected, OutOfMemory}
 use Rattle.rpki_validation.specs.Finding.{Finds}
-use Rattle.rpki_validation.specs.Met.{IsPlace, IsPlaceOf, format_number}
-use Rattle.rpki_validation.specs.Publication.{HasManifest, HasRepository, IsNoManifestPlace, IsNoRepository}
-use Rattle.rpki_validation.proofs.PlaceLaws.{place-found, place-none}
+use Rattle.rpki_validation.specs.Met.{HasKeyMarks, IsPlace, IsPlaceIn}
+use Rattle.rpki_validation.specs.Publication.{HasManifest, HasRepository, IsAt, IsNoManifestPlace, IsNoRepository}
+use Rattle.rpki_validation.proofs.PlaceLaws.{placed-found, placed-none}
 use Rattle.rpki_validation.proofs.met.place_mark_of.Goals as goal
 
--- where a URI was found, it is that which is named
-named : (Has : List ℕ → Type 0) (Why : Reason → Type 0) (r : Result (List ℕ) Stop) (place : Option (List ℕ))
-    → Finds (λ x. x) Has Why r → IsPlaceOf r place → IsPlace Has place
-named Has Why (Ok found) place h e = subst (IsPlace Has) (sym e) (place-found Has found h)
-named Has Why (Err (Rejected reason)) place h e = subst (IsPlace Has) (sym e) (place-none Has h.0)
-named Has Why (Err OutOfMemory) place h e = absurd e
+-- where a URI was found, its place is that which is named
+placed : (Has : List ℕ → Type 0) (Why : Reason → Type 0) (r : Result (List ℕ) Stop) (place : Option (List ℕ))
+    → Finds (λ x. x) Has Why r → IsPlaceIn r place → IsPlace (IsAt Has) place
+placed Has Why (Ok found) place h e = subst (IsPlace (IsAt Has)) (sym e) (placed-found Has found h)
+placed Has Why (Err (Rejected reason)) place h e = subst (IsPlace (IsAt Has)) (sym e) (placed-none Has h.0)
+placed Has Why (Err OutOfMemory) place h e = absurd e
 
-pub returns-clause-mark : goal.returns-clause-mark
-returns-clause-mark g c =
+pub returns : goal.returns
+returns g c =
     let tbs = c.args.authority.now.cert.tbs in
     let is = c.tbs-tbs.ensures ∙ ap (λ (x : CertParts). x.tbs) c.cert.ensures.value in
-    let key = c.subject_public_key_info-key.ensures ∙ ap (λ (t : TbsParts). t.key) is in
-    let format = c.format_number.ensures
-    ∙ ap (λ (f : PublicKeyFormat). format_number f) (c.algorithm.ensures ∙ ap (λ (k : KeyParts). k.format) key) in
-    let unused = c.from.ensures ∙ c.unused.ensures.value ∙ ap (λ (k : KeyParts). k.bits.unused) key in
+    let own = subst (λ (t : TbsParts). HasKeyMarks t c.in_ok-name.name c.in_ok-name.bits c.in_ok-name.numbers.items) is
+    c.in_ok-name.ensures in
     record {
-      name = c.in_ok-name.ensures ∙ c.as_slice.ensures ∙ c.subject.ensures ∙ ap (λ (t : TbsParts). t.subject) is;
-      key = c.in_ok-bits.ensures ∙ ap (λ (k : KeyParts). k.bits.octets) key;
-      folder = named (HasRepository tbs) (IsNoRepository tbs) c.repository_of.result c.in_ok-folder.folder
+      name = own.name;
+      key = own.bits;
+      folder = placed (HasRepository tbs) (IsNoRepository tbs) c.repository_of.result c.in_ok-folder.folder
           (subst (λ (t : TbsParts). Finds (λ x. x) (HasRepository t) (IsNoRepository t) c.repository_of.result) is
           c.repository_of.ensures) c.in_ok-folder.ensures;
-      manifest = named (HasManifest tbs) (IsNoManifestPlace tbs) c.manifest_place.result c.in_ok-manifest.manifest
+      manifest = placed (HasManifest tbs) (IsNoManifestPlace tbs) c.manifest_place.result c.in_ok-manifest.manifest
           (subst (λ (t : TbsParts). Finds (λ x. x) (HasManifest t) (IsNoManifestPlace t) c.manifest_place.result) is
           c.manifest_place.ensures) c.in_ok-manifest.ensures;
-      numbers = c.in_ok-push-2.ensures.items
-          ∙ ap (λ (l : List ℕ). l ++ (c.from.result ∷ [])) (c.in_ok-push.ensures.items
-          ∙ ap (λ (l : List ℕ). l ++ (c.format_number.result ∷ [])) c.new-numbers.ensures.items)
-          ∙ ap (λ (n : ℕ). n ∷ c.from.result ∷ []) format ∙ ap (λ (n : ℕ). format_number tbs.key.format ∷ n ∷ [])
-          unused;
+      numbers = own.numbers;
     }

@@ -16,7 +16,7 @@ returns g c =
     let k = c.in_ok-mark.mark in
     subst (λ (old : List Mark). InsertsPlaceOf old new (holder_of c.args.authority.now) is_new) c.self.view_is (
       mark_in numbers k,
-      c.in_ok-mark.ensures.mark,
+      c.in_ok-mark.ensures,
       inserts numbers c.self.inside.marks c.insert.new.self k is_new
           c.in_ok-is_new.ensures.keys c.in_ok-is_new.ensures.unchanged c.in_ok-is_new.ensures.added,
     )
