@@ -94,7 +94,8 @@ def unwritten(program, folder):
             yield f"a full disk {asked}", (done.returncode, done.stderr), UNWRITTEN
             reader, stream = os.pipe()
             os.close(reader)
-            done = subprocess.run([program, *asked], stdout=stream, stderr=subprocess.PIPE, preexec_fn=ignore, timeout=60)
+            done = subprocess.run([program, *asked], stdout=stream, stderr=subprocess.PIPE, preexec_fn=ignore,
+                                  timeout=60)
             os.close(stream)
             yield f"a pipe without a reader {asked}", (done.returncode, done.stderr), UNWRITTEN
             done = subprocess.run([program, *asked], stdout=full, stderr=full, timeout=60)

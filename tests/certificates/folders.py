@@ -3,6 +3,8 @@ import json
 import os
 import shutil
 import stat
+import subprocess
+import threading
 
 from fields import verdict
 from files import FOLDER, MOST
@@ -107,6 +109,22 @@ def hostile(program, folder):
         os.remove(path)
 
 
+def named(program, folder):
+    """A FIFO that is named is read, for which the run waits for who writes to it; not with -r, as one in a folder."""
+    anchor = authority.paths(folder)["ta"] + ".der"
+    path, octets = os.path.join(folder, "fifo"), octets_of(anchor)
+    os.mkfifo(path)
+    for words in ["--check", path], ["--check", "--issuer", path, anchor]:
+        with subprocess.Popen([program, *words], stdout=subprocess.PIPE, stderr=subprocess.PIPE) as run:
+            threading.Thread(target=write, args=(folder, "fifo", octets), daemon=True).start()
+            output, faults = run.communicate()
+        wanted = ran(program, *(anchor if word == path else word for word in words))
+        yield f"a FIFO {words}", (run.returncode, output.replace(path.encode(), anchor.encode()), faults), tuple(wanted)
+    seen = ran(program, "-r", "--check", path)
+    yield "a FIFO with -r", seen, (2, f"{path}: cannot be read: Not a regular file\n".encode(), b"")
+    os.remove(path)
+
+
 def unreadable(program, folder):
     """A folder that can't be listed and a file that can't be read are told, and those behind them are shown. Whoever is
     root reads all."""
@@ -138,4 +156,4 @@ def many(program, folder):
     yield "a name with a line feed", ran(program, "-r", "--check", path), ran(program, "--check", path)
 
 
-TABLES = [recursive, hostile, unreadable, many]
+TABLES = [recursive, hostile, named, unreadable, many]

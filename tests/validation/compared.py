@@ -3,6 +3,7 @@ import json
 import os
 import shutil
 
+from alterations import removed
 from counting import holds
 from exceptions import ASSERTIONS, slurm
 from programs import TOP
@@ -97,11 +98,28 @@ def no_lists(program, folder, rows):
     holds("no list: no file", status == 2 and not output and "cannot be read" in faults, faults[:200])
 
 
+# How many octets a file of a copy has at most, above which a list may be.
+MOST = 16_777_216
+
+
+def large(program, folder, rows):
+    """A list that is larger than a file of a copy is read to its last row: the world's payloads are such a list."""
+    once, last = as_csv(rows, ""), "AS64496,192.0.2.0/24,24"
+    many = once * (MOST // len(once) + 1)
+    compared(program, "a large list", folder, many, [])
+    compared(program, "the last of a large list", folder, f"{many}{last},example\n", [f"{last}: only there"])
+    edit(os.path.join(folder, "theirs"), f"{many}none\n".encode())
+    status, output, faults = program.run(folder, "--compare", os.path.join(folder, "theirs"))
+    said = f": line {many.count(chr(10)) + 1}: not a payload\n"
+    holds("compared: the last of a large list is none", (status, output) == (2, "") and faults.endswith(said), faults)
+
+
 def comparisons(program, maker):
     """Lists of other validators: what each has alone, and why."""
     folder = maker.repository()
     rows = [line.rsplit(",", 1)[0] for line in payloads(below(0)[1:])]
     alike(program, folder, rows)
+    large(program, folder, rows)
     apart(program, folder, rows)
     no_lists(program, folder, rows)
     local, counts = os.path.join(maker.room, "local.json"), os.path.join(maker.room, "counts")
@@ -131,3 +149,17 @@ def reasons(program, maker):
     compared(program, "another length is not", folder, as_csv([*rows, other]), [f"{other}: only there"])
     compared(program, "both", folder, as_json([*rows, other, said]),
              [f"{said}: only there", f"{other}: only there", *why])
+    rejected_points(program, maker)
+
+
+def rejected_points(program, maker):
+    """Why payloads are theirs alone: their point is rejected, and its files say them."""
+    everyone = [line.rsplit(",", 1)[0] for line in payloads(below(0)[1:])]
+    for it in (authority for authority in below(0)[1:] if below(authority) == [authority]):
+        folder = maker.changed(removed(it, "r1.roa"))
+        uri = f"rsync://rpki.example/repo/d{it}"
+        why = f"example: {uri}/m.mft: publication point rejected: RFC 9286 6.4: no file at {uri}/r1.roa"
+        own = [line.rsplit(",", 1)[0] for line in payloads([it])]
+        said = [line.rsplit(",", 1)[0] for line in payloads([it], without=[(it, 1)])]
+        compared(program, f"a point is rejected: {it}", folder, as_csv(everyone),
+                 [*(f"{row}: only there" for row in own), *(f"{row}: {why}" for row in said)])

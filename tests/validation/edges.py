@@ -10,6 +10,7 @@ import signal
 import stat
 import subprocess
 import threading
+import time
 
 from counting import holds
 from programs import octets_of
@@ -64,6 +65,18 @@ def folder_out_of_the_copy(path, room):
     os.symlink(outside, os.path.dirname(path))
 
 
+def folder_within_the_copy(path, _):
+    shutil.move(os.path.dirname(path), os.path.dirname(path) + ".kept")
+    os.symlink(os.path.basename(os.path.dirname(path)) + ".kept", os.path.dirname(path))
+
+
+def into_another_folder(path, _):
+    other = os.path.join(os.path.dirname(os.path.dirname(path)), "kept")
+    os.mkdir(other)
+    shutil.move(path, other)
+    os.symlink(os.path.join("..", "kept", os.path.basename(path)), path)
+
+
 def through_a_file(path, _):
     shutil.rmtree(os.path.dirname(path))
     edit(os.path.dirname(path), b"no folder")
@@ -85,7 +98,9 @@ COPIES = [
     ("a link to itself", linked_to("r0.roa"), REST, "not read: a loop of links"),
     ("a link out of the copy", out_of_the_copy, REST, "not read: a link out of the copy"),
     ("a folder out of the copy", folder_out_of_the_copy, REST, "not read: a link out of the copy"),
-    ("a link within the copy", within_the_copy, LIST, None),
+    ("a link in its folder", within_the_copy, LIST, None),
+    ("a link to another folder", into_another_folder, REST, "not read: a link to another folder"),
+    ("a folder that is a link", folder_within_the_copy, REST, "not read: a link to another folder"),
 ]
 
 
@@ -98,9 +113,16 @@ def hostile(program, maker):
         status, output, faults = program.run(folder)
         holds(f"{name}: the others count", (status, output.split("\n")) == (0, wanted), (status, output[:200]))
         told = [line for line in faults.split("\n") if line.startswith(f"rpkivalid: {folder}/")]
-        first = file_of(folder, 2, "m.mft") if change is folder_out_of_the_copy else object_of(folder)
+        whole = change in (folder_out_of_the_copy, folder_within_the_copy)
+        first = file_of(folder, 2, "m.mft") if whole else object_of(folder)
         due = [f"rpkivalid: {first}: {said}"] if said else []
         holds(f"{name}: what is told", told == due, faults[:300])
+    again = os.path.join(maker.room, "again.tal")
+    shutil.copyfile(os.path.join(folder, "example.tal"), again)
+    folder = maker.changed(lambda it: as_folder(object_of(it), maker.room))
+    _, _, faults = program.run(folder, "--tal", again)
+    said = f"rpkivalid: {object_of(folder)}: not read: a folder\n"
+    holds("what two locators meet is told once", faults.count(said) == 1, faults[:300])
     folder, nowhere = maker.repository(), os.path.join(maker.room, "nowhere")
     locator, file = os.path.join(folder, "example.tal"), os.path.join(maker.room, "kept.csv")
     edit(file, b"yesterday's")
@@ -108,6 +130,15 @@ def hostile(program, maker):
     ended = subprocess.run(words, capture_output=True, check=False)
     holds("a copy that isn't there: told", f"rpkivalid: {nowhere}: no such folder\n" in ended.stderr.decode(), ended)
     holds("a copy that isn't there: the old list stays", (ended.returncode, octets_of(file)) == (2, b"yesterday's"))
+
+
+def real_sizes(program, maker):
+    """An authority that publishes as much as large ones do: its manifest has more than 65,536 octets."""
+    count = 1500
+    folder = maker.repository(1, 1, count)
+    size = os.path.getsize(file_of(folder, 1, "m.mft"))
+    holds("a manifest of more than 65,536 octets", size > 65536, size)
+    program.holds("a large manifest", folder, payloads([1], count), 0)
 
 
 def unreadable(program, maker):
@@ -129,8 +160,8 @@ def unreadable(program, maker):
 
 
 def failing(program, maker):
-    """A file of which the system fails to read, as of a process's memory, in a mount of the test's own: that is told, and
-    is the run's status, since no one who publishes can choose it."""
+    """A file of which the system fails to read, as of a process's memory, in a mount of the test's own: that is told,
+    and is the run's status, since no one who publishes can choose it."""
     apart = ["unshare", "--map-root-user", "--mount"]
     if subprocess.run([*apart, "true"], stderr=subprocess.DEVNULL, check=False).returncode != 0:
         return
@@ -138,7 +169,8 @@ def failing(program, maker):
     bound = [*apart, "sh", "-c", 'mount --bind "/proc/$$/mem" "$0" && exec "$@"', object_of(folder)]
     ended = subprocess.run([*bound, *program.words(folder)], capture_output=True, check=False)
     seen, faults = ended.stdout.decode().split("\n"), ended.stderr.decode()
-    holds("a file that fails: the others count", (ended.returncode, seen) == (1, REST), (ended.returncode, faults[:300]))
+    is_rest = (ended.returncode, seen) == (1, REST)
+    holds("a file that fails: the others count", is_rest, (ended.returncode, faults[:300]))
     holds("a file that fails: told", f"rpkivalid: {object_of(folder)}: cannot be read\n" in faults, faults[:300])
 
 
@@ -174,6 +206,11 @@ def plain_outputs(program, maker):
         status, _, _ = here.run("--output", here.at("old"))
         seen = stat.S_IMODE(os.stat(here.at("old")).st_mode)
         holds(f"the mode {mode:o} is kept", (status, seen) == (0, mode) and is_list(here.at("old")), oct(seen))
+    with contextlib.suppress(PermissionError):
+        os.chown(here.at("old"), 4321, 1234)
+        status, _, _ = here.run("--output", here.at("old"))
+        seen = os.stat(here.at("old"))
+        holds("the owner is kept", (status, seen.st_uid, seen.st_gid) == (0, 4321, 1234), seen)
     os.symlink("old", here.at("link"))
     edit(here.at("old"), b"before")
     status, _, _ = here.run("--output", here.at("link"))
@@ -192,7 +229,7 @@ def plain_outputs(program, maker):
 
 
 def refused_outputs(program, maker):
-    """What can't be written, and two outputs of one file: nothing is written, and it is told."""
+    """What can't be written, and two outputs of one file: nothing is written, and that alone is told, before a run."""
     here = Place(program, maker, "refused")
     os.symlink("nowhere", here.at("dangling"))
     os.mkdir(here.at("folder"))
@@ -213,7 +250,8 @@ def refused_outputs(program, maker):
             ("a link to the other", "one", "soft", "soft: is the output's file too")):
         words = ["--output", here.at(output), *(["--metrics", here.at(metrics)] if metrics else [])]
         status, printed, faults = here.run(*words)
-        holds(name, (status, printed) == (2, "") and f"{said}\n" in faults, (status, faults))
+        is_alone = faults.startswith("rpkivalid: ") and faults.endswith(f"{said}\n") and faults.count("\n") == 1
+        holds(name, (status, printed) == (2, "") and is_alone, (status, faults))
         kept = [octets_of(here.at(it)) for it in ("one", "two")]
         holds(f"{name}: all is as it was", (kept, here.left()) == ([b"one", b"two"], left), here.left())
 
@@ -245,6 +283,17 @@ def full_disk(program, maker):
         holds(f"a disk that is full, {words}", (ended.returncode, ended.stdout, told) == (2, b"", True), ended)
         holds(f"a disk that is full, {words}: all is as it was",
               (octets_of(here.at("old")), here.left()) == (b"before", ["old"]), here.left())
+    room = len("\n".join(LIST)) + 1
+
+    def for_the_list():
+        signal.signal(signal.SIGXFSZ, signal.SIG_IGN)
+        resource.setrlimit(resource.RLIMIT_FSIZE, (room, room))
+    asked = program.words(here.folder, "--output", here.at("old"), "--metrics", here.at("other"))
+    ended = subprocess.run(asked, capture_output=True, check=False, preexec_fn=for_the_list)
+    said = f"rpkivalid: {here.at('other')}: cannot be written\n".encode()
+    holds("a disk with room for the list alone", (ended.returncode, ended.stderr.endswith(said)) == (2, True), ended)
+    holds("a disk with room for the list alone: all is as it was",
+          (octets_of(here.at("old")), here.left()) == (b"before", ["old"]), here.left())
 
 
 def special_outputs(program, maker):
@@ -276,6 +325,10 @@ def special_outputs(program, maker):
         words = [program.path, "--tal", "none", "--cache", here.room, "--at", AT]
         status = subprocess.run(words, stdout=subprocess.DEVNULL, stderr=full, check=False).returncode
         holds("standard error that is full", status == 2, status)
+        words = program.words(here.folder, "--output", here.at("untold"))
+        ended = subprocess.run(words, stdout=subprocess.PIPE, stderr=full, check=False)
+        is_kept = (ended.returncode, ended.stdout, os.path.exists(here.at("untold"))) == (2, b"", False)
+        holds("standard error that is full, where all is well: nothing is written", is_kept, ended)
         words = [program.path, "--tal", os.path.join(here.folder, "example.tal"), "--cache", here.folder, "--at", AT]
         words += ["--metrics", here.at("metrics")]
         ended = subprocess.run(words, stdout=full, stderr=subprocess.PIPE, check=False)
@@ -285,6 +338,39 @@ def special_outputs(program, maker):
         words = [program.path, "--tal", up, "--cache", here.folder, "--at", AT]
         ended = subprocess.run(words, capture_output=True, check=False)
         holds("a locator above the copy", ended.returncode == 0, ended.stderr)
+
+
+def fifos(program, maker):
+    """A FIFO that is named in order to be read is refused, and no run waits for who writes to it. To one that is named
+    as the output, the metrics or the log the run writes, and waits for who reads it."""
+    here = Place(program, maker, "FIFOs")
+    fifo = here.at("fifo")
+    os.mkfifo(fifo)
+    said = f"rpkivalid: {fifo}: not read: no regular file\nrpkivalid: {fifo}: cannot be read\n"
+    for option in "--tal", "--exceptions", "--compare":
+        words = program.words(here.folder, option, fifo)
+        try:
+            ended = subprocess.run(words, capture_output=True, check=False, timeout=60)
+            seen = ended.returncode, ended.stdout, ended.stderr.decode()
+        except subprocess.TimeoutExpired:
+            seen = "waits"
+        holds(f"a FIFO of {option}", seen == (2, b"", said), seen)
+    for option in "--output", "--metrics", "--log":
+        seen = []
+        with subprocess.Popen(program.words(here.folder, option, fifo), stdout=subprocess.PIPE,
+                              stderr=subprocess.PIPE) as run:
+            if option != "--log":
+                told = run.stderr.readline()
+                holds(f"a FIFO of {option}: the run comes to it", told.startswith(b"rpkivalid: example: "), told)
+            reader = threading.Thread(target=lambda: seen.append(octets_of(fifo)), daemon=True)
+            reader.start()
+            output, _ = run.communicate(timeout=60)
+            reader.join(60)
+        begins = {"--output": TITLES, "--metrics": "# TYPE rpkivalid", "--log": "rpkivalid "}[option].encode()
+        is_whole = (output.decode().split("\n") == LIST) == (option != "--output")
+        is_right = run.returncode == 0 and is_whole and len(seen) == 1 and seen[0].startswith(begins)
+        holds(f"a FIFO of {option}", is_right, (run.returncode, output[:99], seen))
+        holds(f"a FIFO of {option} stays", stat.S_ISFIFO(os.lstat(fifo).st_mode))
 
 
 def at_once(program, maker):
@@ -308,13 +394,19 @@ def stamp(days):
 
 def clock(program, maker):
     """Without --at the moment is the clock's: a list that ends in a day is in force, and one that ended a day ago
-    isn't."""
+    isn't. A run has the moment in which it began, and what it took by the clock when it ends."""
     for name, days, wanted in ("ends in a day", 1, LIST), ("ended a day ago", -1, REST):
         folder = maker.repository(LISTUNTIL=stamp(days), LISTOF="2")
         words = [program.path, "--tal", os.path.join(folder, "example.tal"), "--cache", folder]
         ended = subprocess.run(words, capture_output=True, check=False)
         seen = ended.stdout.decode().split("\n")
         holds(f"by the clock: a list that {name}", (ended.returncode, seen) == (0, wanted), (seen[:5], ended.stderr))
+    file, late, begun = os.path.join(maker.room, "counts"), compiled("late.c", maker.room), int(time.time())
+    status, _, faults = program.run(maker.repository(), "--metrics", file, LD_PRELOAD=late)
+    made, took = (int(re.search(rf"^rpkivalid_{name}_seconds (\d+)$", octets_of(file).decode(), re.M)[1])
+                  for name in ("made", "duration"))
+    holds("the clock's moment is that of the begin", status == 0 and begun <= made <= time.time(), (made, faults))
+    holds("how long a run took", 100 <= took <= 100 + time.time() - begun + 1, took)
 
 
 def least(program, maker):
@@ -331,5 +423,5 @@ def least(program, maker):
             holds(f"--least {number}: told", octets_of(file) == b"before" and said in faults, faults[-200:])
 
 
-EDGES = [hostile, unreadable, failing, plain_outputs, refused_outputs, flushed, full_disk,
-         special_outputs, at_once, clock, least]
+EDGES = [hostile, real_sizes, unreadable, failing, plain_outputs, refused_outputs, flushed, full_disk,
+         special_outputs, fifos, at_once, clock, least]

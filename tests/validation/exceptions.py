@@ -115,6 +115,35 @@ def deviations():
         slurm(key_assertions=[{"asn": 1, "SKI": url_safe(bytes(20))}]))
 
 
+# A member's name among the parts of the two objects, its section, and an element of its array that is one.
+RULES = (("prefixFilters", "3.3.1", {"asn": 1, "comment": "x"}),
+         ("bgpsecFilters", "3.3.2", {"asn": 1}),
+         ("prefixAssertions", "3.4.1", {"asn": 1, "prefix": "192.0.2.0/24"}),
+         ("bgpsecAssertions", "3.4.2", None))
+# Elements that are none, with what a scan of the text may take for something else.
+ELEMENTS = ("{}", "[]", "7", "null", '"x"', "[[1], [2, {}]]", '{"prefixFilters": [1]}',
+            '{"comment": "\\", [{"}', '{"comment": "\\\\"}', '"prefixFilters"', '[\n\n1, 2]')
+
+
+def faulty():
+    """Texts with an element that is none, and what is said of it. Its line is that of a mark, which it replaces."""
+    for member, section, good in RULES:
+        for before in ([0] if good is None else [0, 1, 5]):
+            for indent in 1, None:
+                made = slurm([{"asn": 2, "comment": 'a, "b": [{\n'}] if member != "prefixFilters" else ())
+                for part in made.values():
+                    if isinstance(part, dict) and member in part:
+                        part[member] = [good] * before + ["MARK"] + [7, {}]
+                marked = json.dumps(made, indent=indent)
+                line = marked[:marked.index('"MARK"')].count("\n") + 1
+                for element in ELEMENTS:
+                    text = marked.replace('"MARK"', element)
+                    said = ": line {}: " + f"{member}[{before}] is no such element"
+                    yield text, section + said.format(line)
+                    name = f'"\\u00{ord(member[0]):02X}{member[1:]}" :\n\n['
+                    yield text.replace(f'"{member}": [', name, 1), section + said.format(line + 2)
+
+
 def exceptions(program, maker):
     """Filters take payloads away, assertions are added, and what deviates from RFC 8416 is refused."""
     folder, file = maker.repository(ASPA="1", ROUTER="1"), os.path.join(maker.room, "local.json")
@@ -137,13 +166,17 @@ def exceptions(program, maker):
                        ({**slurm(), "locallyAddedAssertions": []},
                         "3.4: locallyAddedAssertions is not an object of prefixAssertions and bgpsecAssertions"),
                        (other, "3.3.1: prefixFilters is not an array"),
-                       (slurm([{"asn": 1}, {}]), "3.3.1: prefixFilters[1] is no such element"),
-                       (slurm(key_filters=[{}]), "3.3.2: bgpsecFilters[0] is no such element"),
-                       (slurm(assertions=[{}]), "3.4.1: prefixAssertions[0] is no such element"),
-                       (slurm(key_assertions=[{}]), "3.4.2: bgpsecAssertions[0] is no such element")):
+                       (slurm([{"asn": 1}, {}]), "3.3.1: line 1: prefixFilters[1] is no such element"),
+                       (slurm(key_filters=[{}]), "3.3.2: line 1: bgpsecFilters[0] is no such element"),
+                       (slurm(assertions=[{}]), "3.4.1: line 1: prefixAssertions[0] is no such element"),
+                       (slurm(key_assertions=[{}]), "3.4.2: line 1: bgpsecAssertions[0] is no such element")):
         edit(file, (text if isinstance(text, str) else json.dumps(text)).encode("utf-8", "surrogateescape"))
         _, _, faults = program.run(folder, *words)
         holds(f"exceptions: told: {said}", faults == f"rpkivalid: {file}: RFC 8416 {said}\n", faults)
+    for text, said in faulty():
+        edit(file, text.encode())
+        _, _, faults = program.run(folder, *words)
+        holds(f"exceptions: a line: {said}", faults == f"rpkivalid: {file}: RFC 8416 {said}\n", faults)
     for name, text in deviations():
         edit(file, text if isinstance(text, bytes) else text.encode())
         status, output, faults = program.run(folder, *words)

@@ -6,7 +6,7 @@ from alterations import another_anchor, other_octet, removed
 from counting import holds
 from exceptions import ASSERTIONS, slurm
 from programs import TOP
-from repositories import below, edit, parent, payload
+from repositories import STALE_MANIFEST, below, edit, parent, payload
 
 
 def uri_of(authority, name):
@@ -115,3 +115,22 @@ def rejected_routes(program, maker):
             ("10.0.0.0/9", 64500, [f"{covered}no match: the AS number"])):
         first = f"AS{asn},{prefix}: {'valid' if asn == 64496 else 'invalid'}"
         asked(program, f"rejected: {prefix}", folder, [first, *lines], 0, prefix, "--as", str(asn))
+
+
+def rejected_points(program, maker):
+    """What the files of a point that is rejected say of a route, each that is there: of a missing file, and of one
+    with another octet; and where no manifest says which they are, or the point above is rejected, nothing."""
+    for it in below(0)[1:]:
+        missing = whole(it, f"RFC 9286 6.4: no file at {uri_of(it, 'r0.roa')}")
+        other = whole(it, f"RFC 9286 6.5: another digest at {uri_of(it, 'r0.roa')}")
+        for name, change, variant, origin, why in (
+                ("a missing file", removed(it, "r0.roa"), {}, 1, [missing]),
+                ("the missing file itself", removed(it, "r0.roa"), {}, 0, []),
+                ("another octet", other_octet(it, "r0.roa"), {}, 2, [other]),
+                ("no manifest", removed(it, "m.mft"), {}, 1, []),
+                ("above it", None, STALE_MANIFEST, 1, [])):
+            folder = maker.changed(change, **variant)
+            (octets, size, most, number), _ = payload(it, origin)
+            route = f"{'.'.join(map(str, octets))}/{size}"
+            lines = [f"AS{number},{route}: not found", *(f"AS{number},{route},{most}: {line}" for line in why)]
+            asked(program, f"a point is rejected: {it}: {name}", folder, lines, 0, route, "--as", str(number))

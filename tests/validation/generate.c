@@ -7,6 +7,8 @@
  *
  * FOLDER/rpki.example/repo is the rsync module, FOLDER/example.tal the locator. KEYS is a file that keeps the keys.
  * With HOSTS each authority N publishes on a host of its own: FOLDER/hN.example/repo. NUMBER is that of its manifest.
+ * With SAME all route origins of an authority are one; the certificate of number ROAOF of each ends in ROAUNTIL.
+ * OTHERLIST is an authority whose manifest's certificate names another list. With CAPITALS hosts are spelled with some.
  */
 #include <openssl/evp.h>
 #include <openssl/pem.h>
@@ -130,7 +132,9 @@ static struct buf extension(const char *oid, int critical, struct buf value) {
 }
 static struct buf name(const char *cn) { return seq(tlv(0x31, seq(cat(2, hexed("0603550403"), text(0x13, cn))))); }
 static struct buf access(const char *oid, const char *uri) { return seq(cat(2, tlv(6, hexed(oid)), text(0x86, uri))); }
-static struct buf period(void) { return seq(cat(2, text(0x17, "260101000000Z"), text(0x17, FOREVER))); }
+/* the end of a certificate's period */
+static const char *until = FOREVER;
+static struct buf period(void) { return seq(cat(2, text(0x17, "260101000000Z"), text(0x17, until))); }
 
 static struct buf prefix(uint32_t address, int length) {
     uint8_t o[5] = {0, (uint8_t)(address >> 24), (uint8_t)(address >> 16), (uint8_t)(address >> 8), (uint8_t)address};
@@ -218,6 +222,16 @@ static void base_of(char *base, size_t size, const char *dir) {
     char host[32];
     host_of(host, sizeof host, dir);
     snprintf(base, size, "rsync://%s/repo", getenv("URIHOST") ? getenv("URIHOST") : host);
+}
+
+/* spells the host of a URI with capitals, in one of so many ways, where CAPITALS asks for that */
+static void spell(char *uri, int which) {
+    if (!getenv("CAPITALS")) return;
+    for (char *c = uri + strlen("rsync://"); *c && *c != '/'; c++) {
+        if (*c < 'a' || *c > 'z') continue;
+        if (which & 1) *c -= 'a' - 'A';
+        which >>= 1;
+    }
 }
 
 static void keep(const char *dir, const char *file, struct buf b) {
@@ -346,14 +360,15 @@ int main(int count, char **words) {
             struct key *ee = &pool[(i * 7 + r) % POOL];
             char een[32], uri[128];
             struct buf blocks = {malloc(1), 0}, addresses = {malloc(1), 0}, cert, content, o;
+            int said = getenv("SAME") ? 0 : r;
             snprintf(een, sizeof een, "ee%d-%d", i, r);
             snprintf(file, sizeof file, "r%d.roa", r);
             snprintf(uri, sizeof uri, "%s/%s/%s", base, dir, file);
             if (prefixes == 1) {
                 /* one /28 of the authority's /24 a route origin */
-                uint32_t at = address + 16u * (uint32_t)(r % 16);
+                uint32_t at = address + 16u * (uint32_t)(said % 16);
                 blocks = cat(2, blocks, prefix(at, 28));
-                addresses = cat(2, addresses, seq(cat(2, prefix(at, 28), integer(28 + (uint64_t)(r % 4)))));
+                addresses = cat(2, addresses, seq(cat(2, prefix(at, 28), integer(28 + (uint64_t)(said % 4)))));
             } else {
                 for (int p = 0; p < prefixes; p++) {
                     uint32_t at = address + 2u * (uint32_t)p;
@@ -366,13 +381,15 @@ int main(int count, char **words) {
                 snprintf(other, sizeof other, "%s/%s/other.roa", base, dir);
                 snprintf(othercrl, sizeof othercrl, "%s/%s/other.crl", base, dir);
                 snprintf(otheraia, sizeof otheraia, "%s/%s/other.cer", base, dir);
+                if (getenv("ROAOF") && r == atoi(getenv("ROAOF"))) until = getenv("ROAUNTIL");
                 cert = certificate(
                     ee, een, &keys[i], cn, 0, access("2b0601050507300b", r == 0 && getenv("BADSIA") ? other : uri),
                     r == 0 && getenv("BADAIA") ? otheraia : aia, r == 0 && getenv("BADCRL") ? othercrl : crl,
                     seq(seq(cat(2, hexed("04020001"), seq(blocks)))), none);
+                until = FOREVER;
             }
-            content = seq(
-                cat(2, integer(64512 + (uint64_t)(i * 16 + r)), seq(seq(cat(2, hexed("04020001"), seq(addresses))))));
+            content = seq(cat(2, integer(64512 + (uint64_t)(i * 16 + said)),
+                              seq(seq(cat(2, hexed("04020001"), seq(addresses))))));
             o = object(ROA, content, ee, cert);
             keep(dir, file, o);
             listed = cat(2, listed, entry(file, o));
@@ -439,16 +456,21 @@ int main(int count, char **words) {
         for (int j = 0; i == 1 && j < again; j++) {
             struct key same = keys[i];
             struct buf blocks = prefix(0x0a000000u, 9), x;
+            char s1[sizeof sia1], s2[sizeof sia2];
+            memcpy(s1, sia1, sizeof s1);
+            memcpy(s2, sia2, sizeof s2);
+            spell(s1, j + 1);
+            spell(s2, j + 1);
             for (int k = 0; k < again; k++) {
                 if (k != j) blocks = cat(2, blocks, prefix(0x0a800100u + ((uint32_t)k << 9), 24));
             }
             snprintf(file, sizeof file, "again%d.cer", j);
             trimmed = 1;
             x = certificate(&same, cn, &keys[i], cn, 1,
-                            cat(2, access("2b06010505073005", sia1),
+                            cat(2, access("2b06010505073005", s1),
                                 access("2b060105050730"
                                        "0a",
-                                       sia2)),
+                                       s2)),
                             aia, crl, seq(seq(cat(2, hexed("04020001"), seq(blocks)))), none);
             trimmed = 0;
             keep(dir, file, x);
@@ -512,12 +534,15 @@ int main(int count, char **words) {
         free(list_octets.at);
         {
             struct key *ee = &pool[i % POOL];
-            char een[32], stray[160];
+            char een[32], stray[160], list[160];
             struct buf cert, content;
             snprintf(een, sizeof een, "m%d", i);
             snprintf(stray, sizeof stray, "%s/%s/gone.cer", base, dir);
+            snprintf(list, sizeof list, "%s/%s/%s", base, dir,
+                     getenv("OTHERLIST") && i == atoi(getenv("OTHERLIST")) ? "1.crl" : "l.crl");
+            spell(list, 5);
             cert = certificate(ee, een, &keys[i], cn, 0, access("2b0601050507300b", sia2),
-                               getenv("STRAY") && i == atoi(getenv("STRAY")) ? stray : aia, crl, copy(inherit),
+                               getenv("STRAY") && i == atoi(getenv("STRAY")) ? stray : aia, list, copy(inherit),
                                hexed("3004a0020500"));
             content = seq(cat(5, integer(number), text(0x18, manifest_from), text(0x18, manifest_until),
                               hexed("0609608648016503040201"), seq(listed)));

@@ -99,6 +99,27 @@ def ends(program, maker):
         wanted = timed(lines, lambda line: SOON if line in first else FOREVER)
         status, output, _ = program.run(maker.repository(**variant), "--form", "rpki-client")
         holds(f"ends: {name}", status == 0 and output.split("\n") == wanted, output[:300])
+    of_several(program, maker)
+
+
+def of_several(program, maker):
+    """Where several attestations say a payload, it ends with the last of them, whichever that is."""
+    once = payloads(below(0)[1:], origins=1)
+    for early in range(ORIGINS):
+        variant = {"SAME": "1", "ROAOF": str(early), "ROAUNTIL": "261201000000Z"}
+        status, output, _ = program.run(maker.repository(**variant), "--form", "rpki-client")
+        is_last = (status, output.split("\n")) == (0, timed(once, lambda line: FOREVER))
+        holds(f"ends: several, of which number {early} ends early", is_last, output[:300])
+    variant = {"ROAOF": "1", "ROAUNTIL": "261201000000Z"}
+    lines = payloads(below(0)[1:])
+    wanted = timed(lines, lambda line: FOREVER if line in payloads(below(0)[1:], without=early_of(1)) else SOON)
+    status, output, _ = program.run(maker.repository(**variant), "--form", "rpki-client")
+    holds("ends: the certificate of one of each authority's", (status, output.split("\n")) == (0, wanted), output[:300])
+
+
+def early_of(number):
+    """The route origins of this number, one of each authority."""
+    return [(it, number) for it in below(0)[1:]]
 
 
 def twice(program, maker):

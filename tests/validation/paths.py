@@ -28,8 +28,9 @@ def circles(program, maker):
 
 def again(program, maker):
     """An authority that certifies itself many times, each time without another block (RFC 8360), costs what its files
-    do: named by its manifest or not, its point is looked at once."""
-    for name, variant in ("", {}), (", whose manifest names another", {"STRAY": "1"}):
+    do: named by its manifest or not, and however its host is spelled, its point is looked at once."""
+    for name, variant in ("", {}), (", whose manifest names another", {"STRAY": "1"}), \
+            (", its host in other capitals", {"CAPITALS": "1"}):
         counts = []
         for count in (12, 24):
             folder = maker.repository(2, 2, 1, AGAIN=str(count), **variant)

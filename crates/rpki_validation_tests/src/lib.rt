@@ -10,6 +10,8 @@ mod certificates;
 pub mod files;
 #[cfg(test)]
 mod objects;
+#[cfg(test)]
+mod reasons;
 pub mod repository;
 #[cfg(test)]
 mod walks;

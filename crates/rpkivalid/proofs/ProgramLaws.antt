@@ -1,14 +1,19 @@
 -- What a run makes, where it writes, and how it ends.
-use Rattle.std.proofs.Common.{◌≡◌, ◌∙◌, ◌⊎◌, ℕ, Bool, List, ap, subst}
-use Rattle.std.specs.Prelude.{IfOk, None, Ok, Err, Option, Result, Some, codes}
+use Rattle.std.proofs.Common.{◌≡◌, ◌∙◌, ◌⊎◌, inl, ℕ, Bool, false, List, ap, map, refl, string_bytes, subst}
+use Rattle.std.specs.Prelude.{IfErr, IfOk, None, Ok, Err, Option, Result, Some, String, codes, drop}
 use Rattle.jiff.specs.Types.{DateTime}
 use Rattle.rpki_cli.specs.Delivered.{IsDelivered, MadeParts}
 use Rattle.rpki_cli.specs.Ready.{IsReady, IsUnready, OutputParts}
+use Rattle.rpki_cli.specs.Spread.{Listed, spread}
 use Rattle.rpki_cli.specs.World.{Tells, World}
+use Rattle.rpkivalid.specs.declared.arguments.Wordless.{Wordless}
+use Rattle.rpkivalid.specs.declared.arguments.Wordless.TheVariants.{OutOfMemory}
+use Rattle.rpkivalid.specs.Arguments.{wordless_text}
 use Rattle.rpkivalid.specs.Locators.{Holds}
 use Rattle.rpkivalid.specs.declared.run.Ran.{Ran}
 use Rattle.rpkivalid.specs.Complaint.{complaint_text}
-use Rattle.rpkivalid.specs.Program.{IsMade, IsMadeOf, IsProgram, Ran as Ended, Starved, Unready, rpki_basis}
+use Rattle.rpkivalid.specs.Program.{IsMade, IsMadeOf, IsProgram, IsRunOn, Ran as Ended, Starved, Unready}
+use Rattle.rpkivalid.specs.Program.{rpki_basis}
 use Rattle.rpkivalid.specs.Request.{Asked, help, payloads, version, wanted_of}
 use Rattle.rpkivalid.specs.Run.{IsRunOf}
 use Rattle.rpkivalid.specs.RunView.{ComplainsBy, GivesBy, ran_by}
@@ -74,3 +79,56 @@ module _ (help_text version_text : List ℕ) (words : List (List ℕ)) (holds : 
       → IsProgram help_text version_text words holds clock t old new status
   starved mid new e r h n =
       subst (λ x. IsProgram help_text version_text words holds clock x old new status) e (Starved mid r h n)
+
+-- ---- from its arguments
+
+module _ (help_text version_text : List ℕ) (listed : Option Listed) (holds : Holds) (clock : Option (Option DateTime))
+    (old new : World) (status : ℕ) where
+  -- a run without memory, whatever is known of folders
+  pub starved-on : (given : List (List ℕ)) → Tells old new memory_text → status ≡ 2
+      → IsRunOn help_text version_text given listed holds clock old new status
+  starved-on given = of-listed listed
+    where
+      of-listed : (l : Option Listed) → Tells old new memory_text → status ≡ 2
+          → IsRunOn help_text version_text given l holds clock old new status
+      of-listed None t e = record { words = given; are = tt; runs = Starved old (inl refl) t e }
+      of-listed (Some all) t e = record {
+        words = spread (all (codes ".tal")) (codes "--tal") false given;
+        are = refl;
+        runs = Starved old (inl refl) t e;
+      }
+
+  -- the run of words that were made of arguments
+  pub of-words : {A E Z : Type 0} (arguments : Result A E) (all : A → List (String Z)) (words : List (String Z))
+      → IfOk arguments (λ a. words ≡ drop 1 (all a))
+      → IsRunOn help_text version_text (map string_bytes words) listed holds clock old new status
+      → IfOk arguments (λ a.
+      IsRunOn help_text version_text (map string_bytes (drop 1 (all a))) listed holds clock old new status)
+  of-words (Ok a) all words e h =
+      subst (λ ws. IsRunOn help_text version_text (map string_bytes ws) listed holds clock old new status) e h
+  of-words (Err e) all words f h = tt
+
+  -- or there was no memory for them
+  pub no-memory : {A E Z : Type 0} (arguments : Result A E) (all : A → List (String Z)) (wordless : Wordless)
+      → IfOk arguments (λ a. wordless ≡ OutOfMemory) → Tells old new (wordless_text wordless) → status ≡ 2
+      → IfOk arguments (λ a.
+      IsRunOn help_text version_text (map string_bytes (drop 1 (all a))) listed holds clock old new status)
+  no-memory (Ok a) all wordless e t n =
+      starved-on (map string_bytes (drop 1 (all a))) (subst (λ (w : Wordless). Tells old new (wordless_text w)) e t) n
+  no-memory (Err e) all wordless f t n = tt
+
+-- there are arguments
+pub no-fault : {A E X W : Type 0} (arguments : Result A E) (words : X) (fault : E → W) (P : E → Type 0)
+    → IfErr arguments (λ e. Ok words ≡ Err (fault e)) → IfErr arguments P
+no-fault (Ok a) words fault P h = tt
+no-fault (Err e) words fault P h = absurd (let r = h in cc)
+
+-- there are none, and why is told
+pub told-fault : {A E X : Type 0} (arguments : Result A E) (made : Result X Wordless) (wordless : Wordless)
+    (fault : E → Wordless) (old new : World) (status : ℕ) → made ≡ Err wordless
+    → IfErr arguments (λ e. made ≡ Err (fault e)) → Tells old new (wordless_text wordless) → status ≡ 2
+    → IfErr arguments (λ e. (status ≡ 2) × Tells old new (wordless_text (fault e)))
+told-fault (Ok a) made wordless fault old new status m f t n = tt
+told-fault (Err e) made wordless fault old new status m f t n =
+    let same : wordless ≡ fault e = (let r = f in cc) in
+    (n, subst (λ (w : Wordless). Tells old new (wordless_text w)) same t)

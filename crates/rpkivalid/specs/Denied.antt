@@ -47,17 +47,18 @@ member_due Filters = codes "an object of prefixFilters and bgpsecFilters"
 member_due Assertions = codes "an object of prefixAssertions and bgpsecAssertions"
 member_due m = codes "an array"
 
--- with local exceptions: the rule, the member, and which element, counted from 0 on
-abbrev pub exceptions_text : ExceptionsError → List ℕ
-exceptions_text (E.Json n) = codes "3.1: line " ++ (decimal n ++ codes ": not JSON")
-exceptions_text E.Twice = codes "3.1: a member twice in an object"
-exceptions_text E.Members =
+-- with local exceptions: the rule, the member, and which element, counted from 0 on, with its line
+abbrev pub exceptions_text : ExceptionsError → (line : ℕ) → List ℕ
+exceptions_text (E.Json n) line = codes "3.1: line " ++ (decimal n ++ codes ": not JSON")
+exceptions_text E.Twice line = codes "3.1: a member twice in an object"
+exceptions_text E.Members line =
     codes "3.2: not an object of slurmVersion, validationOutputFilters and locallyAddedAssertions"
-exceptions_text (E.Missing m) =
+exceptions_text (E.Missing m) line =
     member_section m ++ (codes ": " ++ (member_name m ++ (codes " is not " ++ member_due m)))
-exceptions_text (E.Element m i) =
-    member_section m ++ (codes ": " ++ (member_name m ++ (codes "[" ++ (decimal i ++ codes "] is no such element"))))
-exceptions_text E.OutOfMemory = []
+exceptions_text (E.Element m i) line =
+    member_section m ++ (codes ": line " ++ (decimal line ++ (codes ": " ++ (member_name m ++ (codes "[" ++ (decimal i
+    ++ codes "] is no such element"))))))
+exceptions_text E.OutOfMemory line = []
 
 -- what two files of them have in common, and may not
 abbrev pub overlap_text : Overlap → List ℕ
@@ -110,8 +111,8 @@ denial_text (D.NoExceptions i) files exceptions compare = unread_text (name_at e
 denial_text (D.InConflict c) files exceptions compare =
     codes "rpkivalid: " ++ (name_at exceptions c.first ++ (codes " and " ++ (name_at exceptions c.second
     ++ (codes ": " ++ (overlap_text c.overlap ++ codes "\n")))))
-denial_text (D.OtherExceptions i e) files exceptions compare =
-    codes "rpkivalid: " ++ (name_at exceptions i ++ (codes ": RFC 8416 " ++ (exceptions_text e ++ codes "\n")))
+denial_text (D.OtherExceptions i e line) files exceptions compare =
+    codes "rpkivalid: " ++ (name_at exceptions i ++ (codes ": RFC 8416 " ++ (exceptions_text e line ++ codes "\n")))
 denial_text D.NoList files exceptions compare = unread_text (name_in compare)
 denial_text (D.OtherList e) files exceptions compare =
     codes "rpkivalid: " ++ (name_in compare ++ (codes ": " ++ (list_text e ++ codes "\n")))

@@ -48,10 +48,10 @@ pub data IsLocatorDenial (holds : Holds) (paths : List (List ℕ)) (d : Denial) 
       → bytes_eq (name_at paths i) (name_at paths j) ≡ false → name_of (name_at paths j) ≡ name_of (name_at paths i)
       → IsLocatorDenial holds paths d
 
--- of a file of local exceptions, which has this number
+-- of a file of local exceptions, which has this number; nothing is said of the line
 abbrev pub IsExceptionsDenialAt : Holds → List ℕ → ℕ → Denial → Type 0
 IsExceptionsDenialAt holds path number (D.NoExceptions i) = (i ≡ number) × IsNoFile holds path
-IsExceptionsDenialAt holds path number (D.OtherExceptions i e) =
+IsExceptionsDenialAt holds path number (D.OtherExceptions i e line) =
     (i ≡ number) × HasOther holds path (λ octets. IsTextFault octets e)
 IsExceptionsDenialAt holds path number D.OutOfMemory = ⊤
 IsExceptionsDenialAt holds path number d = ⊥

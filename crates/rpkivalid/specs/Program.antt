@@ -6,6 +6,7 @@ use Rattle.sha2.specs.Sha256.{sha256}
 use Rattle.rpki.specs.PublicKey.{KeyParts}
 use Rattle.rpki_cli.specs.Delivered.{IsDelivered, MadeParts}
 use Rattle.rpki_cli.specs.Ready.{IsReady, IsUnready}
+use Rattle.rpki_cli.specs.Spread.{Listed, spread}
 use Rattle.rpki_cli.specs.World.{Tells, World}
 use Rattle.rpki_objects.specs.declared.strictness.Strictness.{Strictness}
 use Rattle.rpki_rsa.specs.Key.{IsSignatureBy}
@@ -15,7 +16,7 @@ use Rattle.rpkivalid.specs.Found.{basis_with}
 use Rattle.rpkivalid.specs.Locators.{Holds}
 use Rattle.rpkivalid.specs.Request.{Asked, help, payloads, version, wanted_of}
 use Rattle.rpkivalid.specs.Run.{Complains, Gives, IsRunOf, RanParts}
-use Rattle.rpkivalid.specs.Sinks.{SinkParts}
+use Rattle.rpkivalid.specs.Sinks.{SinkParts, sinks_of}
 use Rattle.rpkivalid.specs.Words.{memory_text}
 
 -- signatures are RSA's (RFC 8017 8.2.2), over SHA-256, and none is ECDSA's; digests are SHA-1 and SHA-256
@@ -78,3 +79,16 @@ pub data IsProgram (help_text version_text : List ℕ) (words : List (List ℕ))
       → IsMade help_text version_text words holds clock sinks.quiet made
       → IsDelivered mid new (codes "rpkivalid") sinks.to made status
       → IsProgram help_text version_text words holds clock sinks old new status
+
+-- the words of a run: those that are given, with the locators in a folder in place of the folder; where nothing is
+-- known of folders, any
+abbrev pub AreWords : Option Listed → (given words : List (List ℕ)) → Type 0
+AreWords listed given words =
+    IfSome listed (λ all. words ≡ spread (all (codes ".tal")) (codes "--tal") false given)
+
+-- a whole run of the words that are given
+pub record IsRunOn (help_text version_text : List ℕ) (given : List (List ℕ)) (listed : Option Listed) (holds : Holds)
+    (clock : Option (Option DateTime)) (old new : World) (status : ℕ) : Type 0 where
+  pub words : List (List ℕ)
+  pub are : AreWords listed given words
+  pub runs : IsProgram help_text version_text words holds clock (sinks_of words) old new status

@@ -1,17 +1,20 @@
--- What attestations of route origins that are rejected say of a route, or of payloads. Nothing of them is verified.
-use Rattle.std.specs.Prelude.{◌≡◌, ◌⊎◌, ℕ, List, [], ◌∷◌, ◌++◌, codes, Option, Some, None, Bool, false}
-use Rattle.std.specs.Prelude.{if◌then◌else◌}
-use Rattle.std.specs.List.{flat_map}
+-- What attestations of route origins that are rejected say of a route, or of payloads: those that are, and those of a
+-- point that is. Nothing of them is verified.
+use Rattle.std.specs.Prelude.{◌≡◌, ◌⊎◌, ◌&&◌, ℕ, List, [], ◌∷◌, ◌++◌, codes, Option, Some, None, Bool, true, false}
+use Rattle.std.specs.Prelude.{if◌then◌else◌, is_none, nat_eq}
+use Rattle.std.specs.List.{ends_with, flat_map}
 use Rattle.rpki_contents.specs.declared.route_origin.RouteOrigin.{RouteOrigin}
+use Rattle.rpki_contents.specs.ListedFile.{ListedFile}
+use Rattle.rpki_contents.specs.Manifest.{ManifestParts}
 use Rattle.rpki_contents.specs.Roa.{AttestationParts}
 use Rattle.rpki_contents.specs.RouteOrigin.{origins}
 use Rattle.rpki_objects.specs.declared.strictness.Strictness.{Strictness}
-use Rattle.rpki_objects.specs.TypedObject.{TypedParts, origin_object}
+use Rattle.rpki_objects.specs.TypedObject.{TypedParts, manifest_object, origin_object}
 use Rattle.rpki_payloads.specs.declared.vrp.Vrp.{Vrp}
 use Rattle.rpki_payloads.specs.Alone.{is_among}
 use Rattle.rpki_payloads.specs.Route.{is_covered_by, payload_text}
 use Rattle.rpki_payloads.specs.Vrp.{vrp_of}
-use Rattle.rpki_text.specs.RsyncText.{uri_of}
+use Rattle.rpki_text.specs.RsyncText.{join_refusal, joined, parent_of, uri_of}
 use Rattle.rpki_validation.specs.declared.outcome.Rejection.{Rejection}
 use Rattle.rpki_validation.specs.Finding.{IsNone}
 use Rattle.rpkivalid.specs.declared.question.Question.{Question}
@@ -40,6 +43,54 @@ abbrev pub SaysAt : (List ℕ → Option (List ℕ)) → List ℕ → Strictness
 SaysAt files folder strictness None all = all ≡ []
 SaysAt files folder strictness (Some uri) all = SaysIn strictness (files (object_path folder (uri_of uri))) all
 
+-- ---- of a point that is rejected, what its files say
+
+-- where a file of a manifest is, in the folder of the manifest, if it is an attestation by its name
+abbrev pub attestation_uri : List ℕ → ListedFile → Option (List ℕ)
+attestation_uri point file =
+    if ends_with nat_eq file.0 (codes ".roa") && is_none (join_refusal point file.0) then Some (joined point file.0)
+    else None
+
+-- what these files say, in their order
+abbrev pub SayFiles : (List ℕ → Option (List ℕ)) → List ℕ → Strictness → List ℕ → List ListedFile → List RouteOrigin
+    → Type 0
+SayFiles files folder strictness point [] all = all ≡ []
+SayFiles files folder strictness point (file ∷ rest) all =
+    (one : List RouteOrigin) × (more : List RouteOrigin)
+    × SaysAt files folder strictness (attestation_uri point file) one
+    × SayFiles files folder strictness point rest more × (all ≡ one ++ more)
+
+abbrev pub IsManifestIn : Strictness → List ℕ → TypedParts ManifestParts → Type 0
+IsManifestIn strictness octets x = (manifest_object strictness.attributes).spells x octets
+
+-- what the files say that the octets list as a manifest; nothing where they are none
+abbrev pub SayListed : (List ℕ → Option (List ℕ)) → List ℕ → Strictness → List ℕ → Option (List ℕ) → List RouteOrigin
+    → Type 0
+SayListed files folder strictness point None all = all ≡ []
+SayListed files folder strictness point (Some octets) all =
+    ((x : TypedParts ManifestParts) × IsManifestIn strictness octets x
+    × SayFiles files folder strictness point x.content.files all)
+    ⊎ (IsNone (IsManifestIn strictness octets) × (all ≡ []))
+
+abbrev pub SayFrom : (List ℕ → Option (List ℕ)) → List ℕ → Strictness → List ℕ → Option (List ℕ) → List RouteOrigin
+    → Type 0
+SayFrom files folder strictness uri None all = all ≡ []
+SayFrom files folder strictness uri (Some point) all =
+    SayListed files folder strictness point (files (object_path folder (uri_of uri))) all
+
+-- what the files say that the manifest at the URI lists
+abbrev pub SaysPoint : (List ℕ → Option (List ℕ)) → List ℕ → Strictness → Option (List ℕ) → List RouteOrigin → Type 0
+SaysPoint files folder strictness None all = all ≡ []
+SaysPoint files folder strictness (Some uri) all = SayFrom files folder strictness uri (parent_of uri) all
+
+-- ---- what is rejected
+
+-- what a point says, or an object, that is rejected
+abbrev pub SaysRejected : (List ℕ → Option (List ℕ)) → List ℕ → Strictness → Bool → Option (List ℕ) → List RouteOrigin
+    → Type 0
+SaysRejected files folder strictness true uri all = SaysPoint files folder strictness uri all
+SaysRejected files folder strictness false uri all = SaysAt files folder strictness uri all
+
 -- what is asked for: payloads that cover a route, or these
 abbrev pub is_wanted : Question → Vrp → Bool
 is_wanted (Object uri) v = false
@@ -56,7 +107,7 @@ abbrev pub AreRefused : (List ℕ → Option (List ℕ)) → List ℕ → Strict
     → Type 0
 AreRefused files folder strictness question name [] text = text ≡ []
 AreRefused files folder strictness question name (r ∷ rs) text =
-    (all : List RouteOrigin) × (more : List ℕ) × SaysAt files folder strictness r.uri all
+    (all : List RouteOrigin) × (more : List ℕ) × SaysRejected files folder strictness r.is_point r.uri all
     × AreRefused files folder strictness question name rs more
     × (text ≡ flat_map (refused_line question name r) all ++ more)
 

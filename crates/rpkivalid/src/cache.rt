@@ -35,7 +35,7 @@ fn object_at<S: Sources>(
     match RsyncView::from_slice(text) {
         Ok(uri) => {
             let path = object_path(alloc, folder, &uri)?;
-            sources.read(alloc, path.as_str())
+            sources.read_in(alloc, folder, path.as_str())
         }
         Err(_) => Ok(None),
     }
@@ -53,7 +53,7 @@ fn fetched_at<S: Sources>(
         found ≡ files (fetched_path folder.now name.now text.now))) }
 {
     let path = fetched_path(alloc, folder, name, text)?;
-    sources.read(alloc, path.as_str())
+    sources.read_in(alloc, folder, path.as_str())
 }
 
 /// The trust anchor at the URI of the locator of this name, in the folder: what is at the place of an object, or, where
@@ -81,7 +81,7 @@ impl<S: Sources> Snapshot for Cache<'_, S> {
 
     fn object(&self, alloc: Global, uri: &Rsync) -> Result<Option<Bytes>, AllocError> {
         let path = object_path(alloc, self.folder, &uri.view())?;
-        self.sources.read(alloc, path.as_str())
+        self.sources.read_in(alloc, self.folder, path.as_str())
     }
 
     fn anchor(&self, alloc: Global, uri: &AnchorUri) -> Result<Option<Bytes>, AllocError> {

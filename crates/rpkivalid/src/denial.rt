@@ -37,8 +37,8 @@ pub enum Denial {
     SameName(usize),
     /// There is no file of this number among those of local exceptions, or it can't be read.
     NoExceptions(usize),
-    /// What is in the file of this number are no local exceptions.
-    OtherExceptions(usize, ExceptionsError),
+    /// What is in the file of this number are no local exceptions: an element that is none begins on this line.
+    OtherExceptions(usize, ExceptionsError, usize),
     /// Two files of local exceptions are in conflict.
     InConflict(Conflict),
     /// There is no file to be compared, or it can't be read.
@@ -124,9 +124,9 @@ fn due_of(member: Member) -> &'static str
     }
 }
 
-/// What is wrong with local exceptions: the rule, the member, and which element, counted from 0 on.
-fn deviation_of(alloc: Global, e: ExceptionsError) -> Result<String, AllocError>
-    ensures { IfOk result (λ text. string_bytes text ≡ exceptions_text e) }
+/// What is wrong with local exceptions: the rule, the member, and which element, counted from 0 on, with its line.
+fn deviation_of(alloc: Global, e: ExceptionsError, line: usize) -> Result<String, AllocError>
+    ensures { IfOk result (λ text. string_bytes text ≡ exceptions_text e line) }
 {
     match e {
         ExceptionsError::Json(line) => format!(in alloc; "3.1: line {line}: not JSON"),
@@ -141,7 +141,7 @@ fn deviation_of(alloc: Global, e: ExceptionsError) -> Result<String, AllocError>
         }
         ExceptionsError::Element(member, at) => {
             let (section, name) = (section_of(member), member.name());
-            format!(in alloc; "{section}: {name}[{at}] is no such element")
+            format!(in alloc; "{section}: line {line}: {name}[{at}] is no such element")
         }
         ExceptionsError::OutOfMemory => Err(AllocError),
     }
@@ -227,9 +227,9 @@ impl Denial {
                 Ok(text.into_bytes())
             }
             Denial::NoExceptions(at) => unread(alloc, file_at(exceptions, at)),
-            Denial::OtherExceptions(at, e) => {
+            Denial::OtherExceptions(at, e, line) => {
                 let file = file_at(exceptions, at);
-                let fault = deviation_of(alloc, e)?;
+                let fault = deviation_of(alloc, e, line)?;
                 let text = format!(in alloc; "rpkivalid: {file}: RFC 8416 {fault}\n")?;
                 Ok(text.into_bytes())
             }

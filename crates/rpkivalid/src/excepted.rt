@@ -6,6 +6,7 @@ ghost use Rattle.rpkivalid.specs.Excepted.{AddsFile, AreFilesIn, AreLocal, Excep
 
 use crate::denial::Denial;
 use crate::locators::name_of;
+use crate::place::line_in;
 use crate::sources::Sources;
 use rpki_payloads::{
     Exceptions, ExceptionsError, NamedExceptions, Payloads, conflict_in, excepted,
@@ -28,7 +29,10 @@ fn exceptions_at<S: Sources>(
     let exceptions = match Exceptions::read(alloc, octets.as_slice()) {
         Ok(exceptions) => exceptions,
         Err(ExceptionsError::OutOfMemory) => return Err(Denial::OutOfMemory),
-        Err(e) => return Err(Denial::OtherExceptions(number, e)),
+        Err(e) => {
+            let line = line_in(octets.as_slice(), e);
+            return Err(Denial::OtherExceptions(number, e, line));
+        }
     };
     let name = String::from_str(alloc, name_of(file))?;
     Ok(NamedExceptions { name, exceptions })

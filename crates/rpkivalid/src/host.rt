@@ -1,7 +1,6 @@
 //! The host's files, and its clock.
 
 use crate::input::{Copied, Unread, read_regular};
-use crate::request::{Request, is_given, matched};
 use crate::sources::Sources;
 use bytes::Bytes;
 use jiff::SignedDuration;
@@ -9,8 +8,7 @@ use rpki::repository::x509::Time;
 use std::alloc::{AllocError, Global};
 use std::cell::{Cell, RefCell};
 use std::collections::BTreeSet;
-use std::fs;
-use std::io::{ErrorKind, IsTerminal};
+use std::io::IsTerminal;
 use std::time::{SystemTime, UNIX_EPOCH};
 
 /// How many octets a file has at most.
@@ -23,12 +21,12 @@ const MOST_LISTED: u64 = 1_073_741_824;
 #[derive(Drop)]
 pub struct HostSources<'a> {
     rt: &'a HostRuntime,
-    /// The moment of the clock, which is read once.
-    at: Option<Time>,
     /// The seconds of the clock since 1970 where the run began.
     begun: Option<u64>,
-    /// The folder of the copy.
-    copied: Copied<'a>,
+    /// The moment that they are.
+    at: Option<Time>,
+    /// The folder of the copy, once a file of it was asked for.
+    copied: RefCell<Option<Copied>>,
     /// Whether the system could read all that is there, until now.
     read: Cell<bool>,
     /// How many files were read, until now.
@@ -37,8 +35,6 @@ pub struct HostSources<'a> {
     told: RefCell<BTreeSet<String>>,
     /// What is told, a line each.
     lines: RefCell<Vec<u8>>,
-    /// The names of folders in that of the copy that have capitals.
-    capitals: BTreeSet<String>,
 }
 
 /// After how many files a terminal is told how many there were.
@@ -51,75 +47,27 @@ fn seconds_since_1970(rt: &HostRuntime) -> Option<u64> {
     Some(since.as_secs())
 }
 
-/// The moment of the clock. None where it has none of the years 0 to 9999.
-fn moment_of(rt: &HostRuntime) -> Option<Time> {
-    let seconds = i64::try_from(seconds_since_1970(rt)?).ok()?;
+/// The moment so many seconds after 1970-01-01T00:00:00Z. None where it is none of the years 0 to 9999.
+fn moment_after(seconds: u64) -> Option<Time> {
+    let seconds = i64::try_from(seconds).ok()?;
     let begin = Time::utc(1970, 1, 1, 0, 0, 0)?;
     begin.checked_add(SignedDuration::from_secs(seconds))
 }
 
-/// The names in the folder that have capitals; none where it can't be listed. What was fetched for locators is in `ta`
-/// alone.
-fn capitals_in(rt: &HostRuntime, folder: Option<&str>) -> Result<BTreeSet<String>, AllocError> {
-    let mut capitals = BTreeSet::new(rt.alloc());
-    let Some(folder) = folder else {
-        return Ok(capitals);
-    };
-    let entries = match fs::read_dir(rt, folder) {
-        Ok(entries) => entries,
-        Err(e) if e.kind() == ErrorKind::OutOfMemory => return Err(AllocError),
-        Err(_) => return Ok(capitals),
-    };
-    for entry in entries {
-        let entry = match entry {
-            Ok(entry) => entry,
-            Err(e) if e.kind() == ErrorKind::OutOfMemory => return Err(AllocError),
-            Err(_) => return Ok(capitals),
-        };
-        let name = entry.file_name();
-        let has_capitals = name.bytes().any(|octet| octet.is_ascii_uppercase());
-        if has_capitals && !name.as_bytes().eq_ignore_ascii_case(b"ta") {
-            capitals.insert(String::from_str(rt.alloc(), name)?)?;
-        }
-    }
-    Ok(capitals)
-}
-
-/// The folder of the copy, if the words ask for a run.
-fn folder_of<'a>(alloc: Global, words: &'a [String]) -> Result<Option<&'a str>, AllocError> {
-    let Some(matches) = matched(alloc, words)? else {
-        return Ok(None);
-    };
-    if is_given(&matches, "help") || is_given(&matches, "version") {
-        return Ok(None);
-    }
-    match Request::of(&matches) {
-        Some(request) => Ok(Some(request.cache)),
-        None => Ok(None),
-    }
-}
-
 impl<'a> HostSources<'a> {
-    /// The host, for a run that these words ask for. It is told where the folder of the copy isn't there.
-    ///
-    /// Returns `AllocError` if allocation fails.
-    pub fn new(rt: &'a HostRuntime, words: &'a [String]) -> Result<HostSources<'a>, AllocError> {
-        let folder = folder_of(rt.alloc(), words)?;
-        let host = HostSources {
+    /// The host, whose moment is that of the clock now.
+    pub fn new(rt: &'a HostRuntime) -> HostSources<'a> {
+        let begun = seconds_since_1970(rt);
+        HostSources {
             rt,
-            at: moment_of(rt),
-            begun: seconds_since_1970(rt),
-            copied: Copied::new(rt, folder)?,
+            begun,
+            at: begun.and_then(moment_after),
+            copied: RefCell::new(None),
             read: Cell::new(true),
             files: Cell::new(0),
             told: RefCell::new(BTreeSet::new(rt.alloc())),
             lines: RefCell::new(Vec::new(rt.alloc())),
-            capitals: capitals_in(rt, folder)?,
-        };
-        if let Some(why) = host.copied.fault() {
-            host.add(host.copied.name(), why)?;
         }
-        Ok(host)
     }
 
     /// Adds a line that says why the path isn't read.
@@ -156,8 +104,14 @@ impl<'a> HostSources<'a> {
 
     /// The octets of the file at the path, of which there are so many at most. None where there is no such file, or it
     /// can't be read, which is told.
-    fn read_at(&self, alloc: Global, path: &str, most: u64) -> Result<Option<Bytes>, AllocError> {
-        match read_regular(self.rt, alloc, &self.copied, path, most) {
+    fn read_at(
+        &self,
+        alloc: Global,
+        copied: Option<&Copied>,
+        path: &str,
+        most: u64,
+    ) -> Result<Option<Bytes>, AllocError> {
+        match read_regular(self.rt, alloc, copied, path, most) {
             Ok(octets) => {
                 self.count();
                 Ok(Some(Bytes::from_vec(octets)?))
@@ -178,25 +132,34 @@ impl<'a> HostSources<'a> {
 }
 
 impl HostSources<'_> {
-    /// The same; where there is none, of a file of the copy the one in a folder whose name is that of the host in other
-    /// letters, the first in the order of their octets.
-    fn read_up_to(
+    /// The folder of the copy. That it isn't there, or can't be read, is told.
+    fn opened(&self, folder: &str) -> Result<Copied, AllocError> {
+        let copied = Copied::new(self.rt, folder)?;
+        if let Some(why) = copied.fault() {
+            self.add(copied.name(), why)?;
+        }
+        Ok(copied)
+    }
+
+    /// The octets of the file of the copy at the path; where there is none, of the one in a folder whose name is that
+    /// of the host in other letters, the first in the order of their octets.
+    fn read_copied(
         &self,
         alloc: Global,
+        copied: &Copied,
         path: &str,
-        most: u64,
     ) -> Result<Option<Bytes>, AllocError> {
-        let found = self.read_at(alloc, path, most)?;
-        if found.is_some() || self.capitals.is_empty() {
+        let found = self.read_at(alloc, Some(copied), path, MOST)?;
+        if found.is_some() || copied.capitals().is_empty() {
             return Ok(found);
         }
-        let Some((host, rest)) = self.copied.parts_of(path) else {
+        let Some((host, rest)) = copied.parts_of(path) else {
             return Ok(None);
         };
-        for name in self.capitals.iter() {
+        for name in copied.capitals().iter() {
             if name.as_bytes().eq_ignore_ascii_case(host.as_bytes()) {
-                let other = format!(in alloc; "{}/{name}/{rest}", self.copied.name())?;
-                let found = self.read_at(alloc, other.as_str(), most)?;
+                let other = format!(in alloc; "{}/{name}/{rest}", copied.name())?;
+                let found = self.read_at(alloc, Some(copied), other.as_str(), MOST)?;
                 if found.is_some() {
                     return Ok(found);
                 }
@@ -214,11 +177,29 @@ impl Sources for HostSources<'_> {
     ghost clock = { λ h. Some h.at };
 
     fn read(&self, alloc: Global, path: &str) -> Result<Option<Bytes>, AllocError> {
-        self.read_up_to(alloc, path, MOST)
+        self.read_at(alloc, None, path, MOST)
+    }
+
+    fn read_in(
+        &self,
+        alloc: Global,
+        folder: &str,
+        path: &str,
+    ) -> Result<Option<Bytes>, AllocError> {
+        let Ok(mut copied) = self.copied.try_borrow_mut() else {
+            return Ok(None);
+        };
+        if copied.is_none() {
+            *copied = Some(self.opened(folder)?);
+        }
+        match &*copied {
+            Some(copied) => self.read_copied(alloc, copied, path),
+            None => Ok(None),
+        }
     }
 
     fn read_large(&self, alloc: Global, path: &str) -> Result<Option<Bytes>, AllocError> {
-        self.read_up_to(alloc, path, MOST_LISTED)
+        self.read_at(alloc, None, path, MOST_LISTED)
     }
 
     fn is_read(&self) -> bool {

@@ -5,6 +5,7 @@
 //! open. The host has no way to open that can't wait: who can write in the copy while it is read can let a run wait.
 
 use std::alloc::{AllocError, Global};
+use std::collections::BTreeSet;
 use std::fs;
 use std::fs::{File, Metadata, OpenFile};
 use std::io::{ErrorKind, Read};
@@ -39,29 +40,52 @@ impl Unread {
     }
 }
 
-/// The folder of the copy.
+/// The folder of a copy.
 #[derive(Drop)]
-pub struct Copied<'a> {
-    name: &'a str,
-    /// Its path without links; None where it isn't there, or none is asked for.
+pub struct Copied {
+    name: String,
+    /// Its path without links; None where it can't be read.
     real: Option<PathBuf>,
     fault: Option<&'static str>,
+    /// The names in it that have capitals.
+    capitals: BTreeSet<String>,
 }
 
-impl<'a> Copied<'a> {
+/// The names in the folder that have capitals; none where it can't be listed. What was fetched for locators is in `ta`
+/// alone.
+fn capitals_in(rt: &HostRuntime, folder: &str) -> Result<BTreeSet<String>, AllocError> {
+    let mut capitals = BTreeSet::new(rt.alloc());
+    let entries = match fs::read_dir(rt, folder) {
+        Ok(entries) => entries,
+        Err(e) if e.kind() == ErrorKind::OutOfMemory => return Err(AllocError),
+        Err(_) => return Ok(capitals),
+    };
+    for entry in entries {
+        let entry = match entry {
+            Ok(entry) => entry,
+            Err(e) if e.kind() == ErrorKind::OutOfMemory => return Err(AllocError),
+            Err(_) => return Ok(capitals),
+        };
+        let name = entry.file_name();
+        let has_capitals = name.bytes().any(|octet| octet.is_ascii_uppercase());
+        if has_capitals && !name.as_bytes().eq_ignore_ascii_case(b"ta") {
+            capitals.insert(String::from_str(rt.alloc(), name)?)?;
+        }
+    }
+    Ok(capitals)
+}
+
+impl Copied {
     /// The folder of this name.
     ///
     /// Returns `AllocError` if allocation fails.
-    pub fn new(rt: &HostRuntime, name: Option<&'a str>) -> Result<Copied<'a>, AllocError> {
+    pub fn new(rt: &HostRuntime, name: &str) -> Result<Copied, AllocError> {
         let mut copied = Copied {
-            name: "",
+            name: String::from_str(rt.alloc(), name)?,
             real: None,
             fault: None,
+            capitals: capitals_in(rt, name)?,
         };
-        let Some(name) = name else {
-            return Ok(copied);
-        };
-        copied.name = name;
         match fs::canonicalize(rt, name) {
             Ok(real) => copied.real = Some(real),
             Err(e) => match Unread::of(e.kind()) {
@@ -76,7 +100,7 @@ impl<'a> Copied<'a> {
 
     /// Its name.
     pub fn name(&self) -> &str {
-        self.name
+        self.name.as_str()
     }
 
     /// Why it can't be read.
@@ -84,23 +108,28 @@ impl<'a> Copied<'a> {
         self.fault
     }
 
-    /// Whether the path is that of a file in it, by the names alone: it begins with its name, and goes nowhere up. No
-    /// URI does.
-    fn has(&self, path: &str) -> bool {
-        match path.strip_prefix(self.name) {
-            Some(rest) => rest.starts_with('/') && !rest.contains("/../"),
-            None => false,
-        }
+    /// The names in it that have capitals.
+    pub fn capitals(&self) -> &BTreeSet<String> {
+        &self.capitals
     }
 
     /// The name of the first folder in it on the way to the path of a file, and the rest of the path.
     pub fn parts_of<'p>(&self, path: &'p str) -> Option<(&'p str, &'p str)> {
-        if !self.has(path) {
-            return None;
-        }
-        path.strip_prefix(self.name)?
+        path.strip_prefix(self.name.as_str())?
             .strip_prefix('/')?
             .split_once('/')
+    }
+
+    /// Whether what a path of a file in it leads to, without links, is in the folder that the path says. Links of
+    /// folders would let one file be many.
+    fn is_in_place(&self, path: &str, real: &str) -> bool {
+        let (Some(folder), Some(rest)) = (&self.real, path.strip_prefix(self.name.as_str())) else {
+            return false;
+        };
+        match real.strip_prefix(folder.as_str()) {
+            Some(found) => folder_of(found) == folder_of(rest),
+            None => false,
+        }
     }
 
     /// Whether what a path of a file in it leads to, without links, is in it too.
@@ -113,6 +142,12 @@ impl<'a> Copied<'a> {
             None => false,
         }
     }
+}
+
+/// The folder of a path below another, without slashes around it.
+fn folder_of(path: &str) -> &str {
+    let (folder, _) = path.rsplit_once('/').unwrap_or(("", path));
+    folder.trim_matches('/')
 }
 
 /// Whether both are one file, and a regular one.
@@ -135,12 +170,12 @@ fn read_bounded(alloc: Global, file: &mut File, size: u64, most: u64) -> Result<
     }
 }
 
-/// The octets of the regular file at the path, of which there are so many at most. A link is followed; one of the copy
-/// only where it leads to a file of the copy.
+/// The octets of the regular file at the path, of which there are so many at most. A link is followed; of a file of a
+/// copy only where it leads to one in its folder.
 pub fn read_regular(
     rt: &HostRuntime,
     alloc: Global,
-    copied: &Copied<'_>,
+    copied: Option<&Copied>,
     path: &str,
     most: u64,
 ) -> Result<Vec<u8>, Unread> {
@@ -154,9 +189,12 @@ pub fn read_regular(
     if !seen.is_file() {
         return Err(Unread::Refused("not read: no regular file"));
     }
-    if copied.has(path) {
+    if let Some(copied) = copied {
         match fs::canonicalize(rt, path) {
-            Ok(real) if copied.keeps(real.as_str()) => {}
+            Ok(real) if copied.is_in_place(path, real.as_str()) => {}
+            Ok(real) if copied.keeps(real.as_str()) => {
+                return Err(Unread::Refused("not read: a link to another folder"));
+            }
             Ok(_) => return Err(Unread::Refused("not read: a link out of the copy")),
             Err(e) => return Err(Unread::of(e.kind())),
         }

@@ -17,10 +17,12 @@ mod input;
 mod locators;
 mod moment;
 mod paths;
+mod place;
 mod program;
 mod question;
 mod reasons;
 mod refused;
+mod rejected_point;
 mod report;
 mod request;
 mod run;
@@ -29,35 +31,18 @@ mod sinks;
 mod sources;
 mod texts;
 mod told;
+mod unverified;
 mod walked;
 mod without;
 
-use crate::arguments::words_of;
 use crate::host::HostSources;
-use crate::program::{give_up, run_to, say};
+use crate::program::run_on;
 use rpki_cli::host::Host;
-use rpki_cli::spread::spread;
-use std::alloc::AllocError;
 use std::env;
 use std::process::ExitCode;
 
-/// Runs what the words ask for, with the locators in a folder in place of the folder, and returns the exit status.
-///
-/// Returns `AllocError` if there is no memory for the words, or to look at the copy.
-fn run_on(rt: &HostRuntime, machine: &mut Host<'_>, words: &[String]) -> Result<u8, AllocError> {
-    let words = spread(rt.alloc(), machine, ".tal", "--tal", words)?;
-    let sources = HostSources::new(rt, words.as_slice())?;
-    Ok(run_to(rt.alloc(), words.as_slice(), &sources, machine))
-}
-
 fn main(rt: HostRuntime) -> ExitCode {
-    let mut machine = Host::new(&rt);
-    let status = match words_of(rt.alloc(), env::args(&rt)) {
-        Ok(words) => match run_on(&rt, &mut machine, words.as_slice()) {
-            Ok(status) => status,
-            Err(_) => give_up(&mut machine),
-        },
-        Err(wordless) => say(wordless, &mut machine),
-    };
+    let (sources, folders, mut machine) = (HostSources::new(&rt), Host::new(&rt), Host::new(&rt));
+    let status = run_on(rt.alloc(), env::args(&rt), &sources, &folders, &mut machine);
     ExitCode::from(status)
 }

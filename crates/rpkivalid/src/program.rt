@@ -1,15 +1,17 @@
 //! The program: from its words to its files and its streams.
 
-ghost use Rattle.std.specs.Prelude.{◌≡◌, ◌++◌, IfOk, codes, map, string_bytes};
+ghost use Rattle.std.specs.Prelude.{◌≡◌, ◌++◌, IfErr, IfOk, codes, map, string_bytes};
+ghost use Rattle.std.specs.IoError.{error_kind};
+ghost use Rattle.std.specs.Vec.Iter.{into_iter_items as items};
 ghost use Rattle.rpki_cli.specs.Delivered.{IsDelivered};
 ghost use Rattle.rpki_cli.specs.Ready.{AreApart};
 ghost use Rattle.rpki_cli.specs.World.{Tells};
-ghost use Rattle.rpkivalid.specs.Arguments.{wordless_text};
+ghost use Rattle.rpkivalid.specs.Arguments.{wordless_of, wordless_text};
 ghost use Rattle.rpkivalid.specs.Program.{AreLines, AreTold, IsEntry, IsMade};
-ghost use Rattle.rpkivalid.specs.ProgramView.{RanTo, RunsAll, made_by, sinks_by};
+ghost use Rattle.rpkivalid.specs.ProgramView.{RanTo, RunsAll, RunsGiven, RunsSpread, made_by, sinks_by};
 ghost use Rattle.rpkivalid.specs.Words.{memory_text};
 
-use crate::arguments::Wordless;
+use crate::arguments::{Wordless, words_of};
 use crate::run::{Ran, run};
 use crate::sinks::{Sinks, sinks_of};
 use crate::sources::Sources;
@@ -19,8 +21,10 @@ use rpki_cli::give;
 use rpki_cli::give::deliver;
 use rpki_cli::machine::Machine;
 use rpki_cli::ready::is_ready;
+use rpki_cli::spread::{Folders, spread};
 use rpki_digests::RsaProvider;
 use std::alloc::{AllocError, Global};
+use std::{env, io};
 
 /// The program's name.
 const PROGRAM: &str = "rpkivalid";
@@ -132,7 +136,7 @@ fn made_of<S: Sources>(
 }
 
 /// Tells standard error that allocation failed, and returns the exit status 2.
-pub fn give_up<M: Machine>(machine: &mut M) -> u8
+fn give_up<M: Machine>(machine: &mut M) -> u8
     ensures known { M.knows machine.old → M.knows machine.new }
     ensures status { result ≡ 2 }
     ensures told { M.knows machine.old → Tells (M.world machine.old) (M.world machine.new) memory_text }
@@ -142,7 +146,7 @@ pub fn give_up<M: Machine>(machine: &mut M) -> u8
 }
 
 /// Tells standard error why there are no words, and returns the exit status 2.
-pub fn say<M: Machine>(wordless: Wordless, machine: &mut M) -> u8
+fn say<M: Machine>(wordless: Wordless, machine: &mut M) -> u8
     ensures known { M.knows machine.old → M.knows machine.new }
     ensures status { result ≡ 2 }
     ensures told { M.knows machine.old → Tells (M.world machine.old) (M.world machine.new) (wordless_text wordless) }
@@ -168,7 +172,7 @@ fn delivered<M: Machine>(machine: &mut M, sinks: &Sinks<'_>, made: &Made) -> u8
     deliver(machine, PROGRAM, &sinks.outputs, &parts)
 }
 
-/// Runs what the words, which are the program's arguments, ask for, and returns the exit status: that of [run]; 2 if an
+/// Runs what the words ask for, and returns the exit status: that of [run]; 2 if an
 /// output can't be written, or allocation fails, which standard error is told; 3 if the metrics are written, and the
 /// list can't be.
 pub fn run_to<S: Sources, M: Machine>(
@@ -190,5 +194,45 @@ pub fn run_to<S: Sources, M: Machine>(
     match made_of(alloc, words, sources, sinks.is_quiet) {
         Ok(made) => delivered(machine, &sinks, &made),
         Err(_) => give_up(machine),
+    }
+}
+
+/// The same of words in which the locators in a folder take the place of the folder.
+fn run_spread<S: Sources, F: Folders, M: Machine>(
+    alloc: Global,
+    words: &[String],
+    sources: &S,
+    folders: &F,
+    m: &mut M,
+) -> u8
+    ensures known { M.knows m.old → M.knows m.new }
+    ensures run { M.knows m.old → RunsSpread HELP.now VERSION.now F.listed folders.now S.holds S.clock sources.now
+        (M.world m.old) (M.world m.new) result words.now }
+{
+    match spread(alloc, folders, ".tal", "--tal", words) {
+        Ok(words) => run_to(alloc, words.as_slice(), sources, m),
+        Err(_) => give_up(m),
+    }
+}
+
+/// Runs what the words ask for that are the arguments after the program's name, with the locators in a folder in place
+/// of the folder, and returns the exit status: that of [run]; 2 if an output can't be written, allocation fails, or the
+/// arguments can't be had, which standard error is told; 3 if the metrics are written, and the list can't be.
+pub fn run_on<S: Sources, F: Folders, M: Machine>(
+    alloc: Global,
+    arguments: io::Result<env::Args>,
+    sources: &S,
+    folders: &F,
+    m: &mut M,
+) -> u8
+    ensures known { M.knows m.old → M.knows m.new }
+    ensures words { M.knows m.old → IfOk arguments (RunsGiven items HELP.now VERSION.now F.listed folders.now
+        S.holds S.clock sources.now (M.world m.old) (M.world m.new) result) }
+    ensures none { M.knows m.old → IfErr arguments (λ e. (result ≡ 2)
+        × Tells (M.world m.old) (M.world m.new) (wordless_text (wordless_of (error_kind e)))) }
+{
+    match words_of(alloc, arguments) {
+        Ok(words) => run_spread(alloc, words.as_slice(), sources, folders, m),
+        Err(wordless) => say(wordless, m),
     }
 }

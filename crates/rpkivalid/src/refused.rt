@@ -1,76 +1,36 @@
-//! What attestations of route origins that are rejected say of a route, or of payloads. Nothing of them is verified.
+//! What attestations of route origins that are rejected say of a route, or of payloads: those that are, and those of a
+//! point that is. Nothing of them is verified.
 
 ghost use Rattle.std.specs.Prelude.{◌≡◌, ◌++◌, IfOk, IfSome, OnOk, string_bytes};
 ghost use Rattle.std.specs.List.{flat_map};
-ghost use Rattle.rpki_contents.specs.RouteOrigin.{origins};
-ghost use Rattle.rpkivalid.specs.Refused.{AreRefused, SaysAt, SaysUnverified, is_wanted, refused_line};
+ghost use Rattle.rpkivalid.specs.Refused.{AreRefused, SaysRejected, is_wanted, refused_line};
 
-use crate::paths::object_path;
 use crate::question::Question;
+use crate::rejected_point::said_by_point;
 use crate::sources::Sources;
 use crate::told::rejected_line;
-use bytes::Bytes;
-use rpki::der::DecodeError;
-use rpki::uri::Rsync;
-use rpki_contents::{RouteOrigin, RouteOrigins};
-use rpki_objects::{Roa, Strictness};
+use crate::unverified::said_at;
+use rpki_contents::RouteOrigin;
+use rpki_objects::Strictness;
 use rpki_payloads::Vrp;
 use rpki_validation::Rejection;
 use std::alloc::{AllocError, Global};
 
-/// These route origins.
-fn collected(alloc: Global, rest: RouteOrigins<'_>) -> Result<Vec<RouteOrigin>, AllocError>
-    ensures { IfOk result (λ all. all.items ≡ rest.entry) }
-{
-    let mut all = Vec::new(alloc);
-    let mut rest = rest;
-    'origins: while let Some(origin) = rest.next_origin() {
-        all.push(origin)?;
-    }
-    Ok(all)
-}
-
-/// What the attestation says.
-fn said_by(alloc: Global, roa: &Roa) -> Result<Vec<RouteOrigin>, AllocError>
-    ensures { IfOk result (λ all. all.items ≡ origins roa.now.content) }
-{
-    collected(alloc, roa.content().origins())
-}
-
-/// What the octets say as an attestation of route origins; nothing if they are none.
-fn said_in(
-    alloc: Global,
-    octets: Bytes,
-    strictness: Strictness,
-) -> Result<Vec<RouteOrigin>, AllocError>
-    ensures { IfOk result (λ all. SaysUnverified strictness octets all.items) }
-{
-    match Roa::decode(alloc, octets, strictness) {
-        Ok(roa) => said_by(alloc, &roa),
-        Err(DecodeError::OutOfMemory) => Err(AllocError),
-        Err(_) => Ok(Vec::new(alloc)),
-    }
-}
-
-/// What the object at the URI says as an attestation of route origins; nothing if there is none.
-fn said_at<S: Sources>(
+/// What is said by a point, or an object, that is rejected.
+fn said_by_rejected<S: Sources>(
     alloc: Global,
     sources: &S,
     folder: &str,
     strictness: Strictness,
-    uri: &Option<Rsync>,
+    rejection: &Rejection,
 ) -> Result<Vec<RouteOrigin>, AllocError>
-    ensures { IfOk result (λ all. IfSome (S.holds sources.now) (λ files. SaysAt files folder.now strictness uri.now
-        all.items)) }
+    ensures { IfOk result (λ all. IfSome (S.holds sources.now) (λ files. SaysRejected files folder.now strictness
+        rejection.now.is_point rejection.now.uri all.items)) }
 {
-    let Some(uri) = uri else {
-        return Ok(Vec::new(alloc));
-    };
-    let path = object_path(alloc, folder, &uri.view())?;
-    match sources.read(alloc, path.as_str())? {
-        Some(octets) => said_in(alloc, octets, strictness),
-        None => Ok(Vec::new(alloc)),
+    if rejection.is_point {
+        return said_by_point(alloc, sources, folder, strictness, &rejection.uri);
     }
+    said_at(alloc, sources, folder, strictness, &rejection.uri)
 }
 
 /// Whether the payload is asked for: it covers the route, or is one of those that another validator alone has.
@@ -123,7 +83,8 @@ fn push_all_refused(
     Ok(())
 }
 
-/// What attestations that are rejected say of what is asked, a line for each payload of theirs that is asked for.
+/// What attestations that are rejected, or are files of a point that is, say of what is asked: a line for each payload
+/// of theirs that is asked for.
 ///
 /// Returns `AllocError` if allocation fails.
 pub fn refused_text<S: Sources>(
@@ -141,7 +102,7 @@ pub fn refused_text<S: Sources>(
     let mut text = Vec::new(alloc);
     let mut rest = rejections;
     'rejections: while let Some((rejection, following)) = rest.split_first() {
-        let origins = said_at(alloc, sources, folder, strictness, &rejection.uri)?;
+        let origins = said_by_rejected(alloc, sources, folder, strictness, rejection)?;
         push_all_refused(&mut text, question, name, rejection, origins.as_slice())?;
         rest = following;
     }

@@ -21,6 +21,12 @@ pub trait Sources {
     fn read(&self, alloc: Global, path: &str) -> Result<Option<Bytes>, AllocError>
         ensures { IfSome (holds self.now) (λ files. IfOk result (λ found. found ≡ files path.now)) };
 
+    /// The same, of a file in the folder of a copy, or below it: None also where what is there is none of the copy.
+    ///
+    /// Returns `AllocError` if allocation fails.
+    fn read_in(&self, alloc: Global, folder: &str, path: &str) -> Result<Option<Bytes>, AllocError>
+        ensures { IfSome (holds self.now) (λ files. IfOk result (λ found. found ≡ files path.now)) };
+
     /// The same, of a file that may be larger than an object of a repository: what another validator wrote.
     ///
     /// Returns `AllocError` if allocation fails.

@@ -28,6 +28,19 @@ impl<S: Sources> Sources for Without<'_, S> {
         self.sources.read(alloc, path)
     }
 
+    fn read_in(
+        &self,
+        alloc: Global,
+        folder: &str,
+        path: &str,
+    ) -> Result<Option<Bytes>, AllocError> {
+        if path == self.path {
+            Ok(None)
+        } else {
+            self.sources.read_in(alloc, folder, path)
+        }
+    }
+
     fn read_large(&self, alloc: Global, path: &str) -> Result<Option<Bytes>, AllocError> {
         if path == self.path {
             Ok(None)

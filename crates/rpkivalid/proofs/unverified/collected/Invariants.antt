@@ -1,5 +1,5 @@
 use Rattle.std.proofs.Common.{◌≡◌, ◌++◌, length}
-use Rattle.rpkivalid.proofs.refused.collected.Given as goal
+use Rattle.rpkivalid.proofs.unverified.collected.Given as goal
 
 -- the rest follow
 abbrev pub invariant-origins : goal.invariant-origins
