@@ -96,9 +96,9 @@ static void say_certificate(struct answer *answer, const struct rpki_certificate
 static void certificate(struct answer *answer, size_t size, bool plainly) {
     struct rpki_certificate_parts parts = {0};
     struct rpki_known_extensions known = {0};
-    answer->is_read =
-        plainly ? plain_certificate(answer->octets, size, &parts, &known)
-                : rpki_certificate_checked(answer->octets, size, RPKI_CERTIFICATE_CA, true, &parts, &known) == RPKI_OK;
+    answer->is_read = plainly ? plain_certificate(answer->octets, size, &parts, &known)
+                              : rpki_certificate_of_profile(answer->octets, size, RPKI_CERTIFICATE_CA, true, &parts,
+                                                            &known) == RPKI_OK;
     if (answer->is_read) say_certificate(answer, &parts, &known);
 }
 

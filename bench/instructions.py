@@ -27,8 +27,8 @@ CALLS = [
     ("public key: plain C", ["rpki_public_key"]),
     ("extension: plain C", ["rpki_extension"]),
     ("rsync URI: plain C", ["rpki_rsync_parse"]),
-    ("each certificate: plain C", ["each: rpki_certificate_checked", "each: three calls"]),
-    ("each: mbedtls_x509_crt_parse_der", ["each: rpki_certificate", "each: rpki_certificate_checked"]),
+    ("each certificate: plain C", ["each: rpki_certificate_of_profile", "each: three calls"]),
+    ("each: mbedtls_x509_crt_parse_der", ["each: rpki_certificate", "each: rpki_certificate_of_profile"]),
     ("mbedtls_x509_crt_parse_der", ["rpki_certificate", "rpki_certificate_extensions", "both, and rpki_walk"]),
 ]
 VERIFIED = [(f"{name} by libcrypto{how}", [name + how]) for name in ("certificate", "list", "manifest", "route origin")

@@ -313,7 +313,7 @@ static bool checks_plainly(const uint8_t *octets, size_t size) {
 static bool checks(const uint8_t *octets, size_t size) {
     struct rpki_certificate_parts parts;
     struct rpki_known_extensions extensions;
-    return rpki_certificate_checked(octets, size, RPKI_CERTIFICATE_CA, true, &parts, &extensions) == RPKI_OK;
+    return rpki_certificate_of_profile(octets, size, RPKI_CERTIFICATE_CA, true, &parts, &extensions) == RPKI_OK;
 }
 
 static bool divides(const uint8_t *octets, size_t size) {
@@ -505,7 +505,7 @@ static const struct contender wholes[CONTENDERS] = {
 /* Of certificates that differ: an authority's parts, known extensions and profile, strict. */
 static const struct contender batches[CONTENDERS] = {
     {"each certificate: plain C", each_plainly},
-    {"each: rpki_certificate_checked", each_checked},
+    {"each: rpki_certificate_of_profile", each_checked},
     {"each: rpki_certificate", each_divided},
     {"each: rpki_certificate_inspect", each_inspected},
     {"each: three calls", each_by_three},

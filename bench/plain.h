@@ -26,7 +26,8 @@ bool plain_name(const uint8_t *octets, size_t size);
 bool plain_sized_name(const uint8_t *octets, size_t size);
 bool plain_any_name(const uint8_t *octets, size_t size);
 
-/* A certificate of an authority, strict, as rpki_certificate_checked reads it in that profile (plain_certificate.c). */
+/* A certificate of an authority, strict, as rpki_certificate_of_profile reads it in that profile (plain_certificate.c).
+ */
 bool plain_certificate(const uint8_t *octets, size_t size, struct rpki_certificate_parts *parts,
                        struct rpki_known_extensions *known);
 

@@ -1,6 +1,6 @@
 /*
- * A certificate in one pass, by hand and unproved, with all the checks of rpki_certificate_checked for the profile of
- * certification authorities, strict: what that call's time is compared with. One word of whether all of them hold.
+ * A certificate in one pass, by hand and unproved, with all the checks of rpki_certificate_of_profile for the profile
+ * of certification authorities, strict: what that call's time is compared with. One word of whether all of them hold.
  */
 #include "plain_parts.h"
 

@@ -38,7 +38,7 @@ static EVP_PKEY *key_of_anchor, *key_of_authority;
 static bool reads_certificate(void) {
     struct rpki_certificate_parts parts;
     struct rpki_known_extensions known;
-    return rpki_certificate_checked(OF(authority), RPKI_CERTIFICATE_CA, true, &parts, &known) == RPKI_OK;
+    return rpki_certificate_of_profile(OF(authority), RPKI_CERTIFICATE_CA, true, &parts, &known) == RPKI_OK;
 }
 
 static bool verifies_certificate(void) {
@@ -60,7 +60,7 @@ static struct rpki_signed_object_parts object;
 static bool reads_object(const struct file *file) {
     struct rpki_certificate_parts parts = {0};
     struct rpki_known_extensions known = {0};
-    return rpki_signed_object_checked(file->octets, file->size, false, true, &object, &parts, &known) == RPKI_OK;
+    return rpki_signed_object_of_profile(file->octets, file->size, false, true, &object, &parts, &known) == RPKI_OK;
 }
 
 static bool is_signed(const struct file *file) {

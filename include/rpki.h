@@ -93,11 +93,14 @@ uint32_t rpki_version(void);
 
 /* ---- Statuses ---- */
 
-/* Compilers that know the attribute warn where a status is not looked at. */
+/* Compilers that know the attributes warn where a status is not looked at, and where a former name is used. */
 #if defined(__GNUC__)
 #define RPKI_CHECKED __attribute__((warn_unused_result))
+#define RPKI_RENAMED \
+    __attribute__((warn_unused_result, deprecated("verifies nothing: its name ends in _of_profile now")))
 #else
 #define RPKI_CHECKED
+#define RPKI_RENAMED
 #endif
 
 /*
@@ -814,8 +817,9 @@ rpki_status rpki_take(struct rpki_span *rest, uint8_t identifier, struct rpki_sp
  * `rest` stays, and `contents` has size 0: the element has its default. So it is too where octets remain that no header
  * begins: a reader whose last elements may be left out has to see in the end that `rest.size` is 0.
  *
- * Where the tag is there the statuses are those of rpki_take: RPKI_UNEXPECTED says that the form is another one. Unless
- * RPKI_OK, `contents` and `*is_there` are left as they were.
+ * Where the tag is there the statuses are those of rpki_take: RPKI_UNEXPECTED says that the form is another one. Before
+ * that RPKI_BAD_TAG, also where nothing remains: `identifier` is 0x00 or 0x20. Unless RPKI_OK, `contents` and
+ * `*is_there` are left as they were.
  */
 rpki_status rpki_take_optional(struct rpki_span *rest, uint8_t identifier, struct rpki_span *contents,
                                bool *is_there) RPKI_CHECKED;
@@ -1043,9 +1047,9 @@ rpki_status rpki_certificate_inspect(const uint8_t *octets, size_t size, uint8_t
  * it is not 0 neither `parts` nor `extensions` is written to. Nothing is verified: neither the signature, nor the
  * period, nor that it isn't revoked.
  */
-rpki_status rpki_certificate_checked(const uint8_t *octets, size_t size, uint8_t profile, bool strict,
-                                     struct rpki_certificate_parts *parts,
-                                     struct rpki_known_extensions *extensions) RPKI_CHECKED;
+rpki_status rpki_certificate_of_profile(const uint8_t *octets, size_t size, uint8_t profile, bool strict,
+                                        struct rpki_certificate_parts *parts,
+                                        struct rpki_known_extensions *extensions) RPKI_CHECKED;
 
 /*
  * Whether a resource certificate may have been issued by another (RFC 5280 6.1.3, RFC 6487 4.8.3): the name of its
@@ -1062,8 +1066,8 @@ rpki_status rpki_certificate_issued_by(const uint8_t *octets, size_t size, const
                                        size_t issuer_size) RPKI_CHECKED;
 
 /*
- * Which profile a certificate says that it has, an RPKI_CERTIFICATE_ constant, which rpki_certificate_checked asks and
- * this call does not: with basic constraints _TA where its issuer is its subject, octet for octet, and else _CA;
+ * Which profile a certificate says that it has, an RPKI_CERTIFICATE_ constant, which rpki_certificate_of_profile asks
+ * and this call does not: with basic constraints _TA where its issuer is its subject, octet for octet, and else _CA;
  * without them _ROUTER where there are extended purposes, else _EE where there is access information of the subject,
  * and else _DETACHED_EE. Takes no memory. The statuses are those of rpki_certificate_extensions.
  */
@@ -1191,22 +1195,23 @@ rpki_status rpki_signed_object(const uint8_t *octets, size_t size, bool strict,
  * What is wrong with the malformed part. The status is that of rpki_signed_object. Where it is an RPKI_PART_ number,
  * `*error` becomes one of RPKI_TRUNCATED to RPKI_TRAILING, as a reader of that part returns it: of a part of the
  * certificate as of rpki_certificate_error; of RPKI_PART_SIGNED_ATTRIBUTES the error of their tag, then that of the
- * first that is no attribute, then RPKI_CONTENT, where they are others than those of RFC 6488 2.1.6.4. RPKI_OK: the
- * octets are a signed object, and `*error` is left as it was. Takes no memory.
+ * first that is no SEQUENCE of an object identifier and a SET, then RPKI_CONTENT, whatever is wrong in such a SET, and
+ * where they are others than those of RFC 6488 2.1.6.4. RPKI_OK: the octets are a signed object, and `*error` is left
+ * as it was. Takes no memory.
  */
 rpki_status rpki_signed_object_error(const uint8_t *octets, size_t size, bool strict, rpki_status *error) RPKI_CHECKED;
 
 /*
  * Reads a signed object and its signer's certificate once: writes what rpki_signed_object writes to `object`, and what
- * rpki_certificate_checked writes of that certificate, by the profile RPKI_CERTIFICATE_EE, to `certificate` and
+ * rpki_certificate_of_profile writes of that certificate, by the profile RPKI_CERTIFICATE_EE, to `certificate` and
  * `extensions`. `attributes` and `names` are what these calls have as `strict`. Takes no memory, and verifies nothing.
  *
  * Where the status is not 0, it is the first that these two calls have, in this order, and nothing is written.
  */
-rpki_status rpki_signed_object_checked(const uint8_t *octets, size_t size, bool attributes, bool names,
-                                       struct rpki_signed_object_parts *object,
-                                       struct rpki_certificate_parts *certificate,
-                                       struct rpki_known_extensions *extensions) RPKI_CHECKED;
+rpki_status rpki_signed_object_of_profile(const uint8_t *octets, size_t size, bool attributes, bool names,
+                                          struct rpki_signed_object_parts *object,
+                                          struct rpki_certificate_parts *certificate,
+                                          struct rpki_known_extensions *extensions) RPKI_CHECKED;
 
 /* ---- What signed objects contain: all of the octets are a content, as of rpki_signed_object ---- */
 
@@ -1420,13 +1425,27 @@ rpki_status rpki_as_block_text(const struct rpki_as_block *block, uint8_t *out, 
  *     rpki_authority_end(&whole, certificate, .., _ROUTER, ..)
  *     rpki_authority_under(&whole, certificate, .., &bare)                      an authority below it; then likewise
  *
- * Each path ends, but many may lead to one authority: visit it once, by its key, keys[depth]. Of a certificate that a
- * manifest lists rpki_certificate_kind says whether it is that of an authority, _CA or _TA, or a router's. Which file
- * the list is says a manifest before it is valid: rpki_authority_manifest refuses another list than the manifest's.
- * That each file is as the manifest has it is in the caller's care (RFC 9286 6.5). The URIs of the list, the issuer and
- * the object that certificates have are not looked at. Of a certificate that has both the extension of RFC 3779 and
- * that of RFC 8360 for one kind of resources the small calls look at the first: rpki_certificate_checked refuses it
- * (RPKI_RULE_RESOURCE_VERSION). examples/validate does all this.
+ * Where things are say the authority's certificate, by rpki_certificate_extensions, and its manifest: the manifest is
+ * at the first rsync URI of RPKI_ACCESS_RPKI_MANIFEST in subject_info_access, and each file that it lists in the folder
+ * of the first of RPKI_ACCESS_CA_REPOSITORY, under its name (rpki_rsync_join). Its contents, by rpki_signed_object and
+ * rpki_manifest, say which file is the list, the one that ends in `.crl`, before the manifest is valid:
+ * rpki_authority_manifest refuses another list than the manifest's. Each file has to be there, with its digest: that is
+ * in the caller's care, and where one isn't, nothing of the authority counts (RFC 9286 6.6). What a file is says the
+ * end of its name: `.roa`, `.asa`, `.cer`; and of a certificate rpki_certificate_kind, whether it is that of an
+ * authority, _CA or _TA, or a router's. One that is refused takes away itself alone, with what is below it.
+ *
+ * Each path ends, but many may lead to one authority: visit it once, by its key, keys[depth], where its manifest is
+ * valid. rpki_rsync_parts_canonical has the host of a URI in lower case, as the names of files have to be.
+ *
+ * The URIs that certificates have of their issuer's list, of its certificate and of their own object are asked for
+ * (RPKI_RULE_REVOCATION_LIST, _ISSUER_CERTIFICATE, _SIGNED_OBJECT; RFC 6487 4.8.6, 4.8.7, 4.8.8.2), but not compared
+ * with where these are. rpkivalid compares one of them: a manifest's certificate has to name the manifest's list.
+ *
+ * The small calls look at no more than they say, so an extension that is unknown and critical, that is missing or is
+ * too much, is for rpki_certificate_inspect to refuse; two of one identifier each call refuses
+ * (RPKI_PART_EXTENSION_IDENTIFIERS). Those that look at resources ask for a policy, and that all resources are of its
+ * version, so that one extension of each kind says what they are: RPKI_RULE_RESOURCE_VERSION where those of RFC 3779
+ * are beside a policy of RFC 8360, or the other way round. examples/validate does all this.
  */
 
 /*
@@ -1482,14 +1501,15 @@ uint8_t rpki_content_type(const uint8_t *octets, size_t size);
  * The addresses that a certificate has under those of its issuer: of each family none, its issuer's (`inherit`), or
  * those that it lists. By the policy of RFC 6484 the issuer has to have all that are listed (RFC 6487 7.2); by that of
  * RFC 8360 those remain that the issuer has (RFC 8360 4.2.4.4). `issuer` are the issuer's blocks, in any order, as this
- * call and rpki_ip_blocks write them; those of another family are not looked at. `blocks` has room for `capacity`
- * entries, and none of it is in `issuer`. They are in canonical form, those of IPv4 first, and none is inherited.
+ * call and rpki_ip_blocks write them: they may overlap or touch, one whose highest address is below its lowest is
+ * empty, and those of another family are not looked at. `blocks` has room for `capacity` entries, and none of it is in
+ * `issuer`. They are in canonical form, those of IPv4 first, and none is inherited.
  *
  * RPKI_OK: `*count` entries were written, and the rest of the array is as it was. RPKI_TOO_SMALL: `*count` is how many
  * entries there are, and none was written. Else neither is written, and the status is, in this order: RPKI_NO_ANSWER: a
  * block of the issuer is inherited; those of rpki_certificate_extensions; RPKI_RULE_CERTIFICATE_POLICIES: there are
- * none; RPKI_RULE_RESOURCE_BLOCKS: the extension is not critical, or not in canonical form; RPKI_OTHER_RESOURCES; or
- * RPKI_OUT_OF_MEMORY.
+ * none; RPKI_RULE_RESOURCE_VERSION; RPKI_RULE_RESOURCE_BLOCKS: the extension is not critical, or not in canonical form;
+ * RPKI_OTHER_RESOURCES; or RPKI_OUT_OF_MEMORY.
  */
 rpki_status rpki_ip_settle(const uint8_t *octets, size_t size, const struct rpki_ip_block *issuer, size_t issuer_count,
                            struct rpki_ip_block *blocks, size_t capacity, size_t *count) RPKI_CHECKED;
@@ -1518,7 +1538,8 @@ rpki_status rpki_aspa_is_within(const uint8_t *octets, size_t size, const struct
 /*
  * Whether a certificate names addresses, none of which are its issuer's (`inherit`), and no AS numbers, as one has to
  * that signs a route origin attestation (RFC 9582 5). Takes no memory. The statuses, in this order: those of
- * rpki_certificate; RPKI_OTHER_KINDS, also where the extension of addresses is not critical, or not in canonical form.
+ * rpki_certificate_extensions; RPKI_RULE_CERTIFICATE_POLICIES: there are none; RPKI_RULE_RESOURCE_VERSION;
+ * RPKI_OTHER_KINDS, also where the extension of addresses is not critical, or not in canonical form.
  */
 rpki_status rpki_roa_signer(const uint8_t *octets, size_t size) RPKI_CHECKED;
 
@@ -1527,7 +1548,8 @@ rpki_status rpki_aspa_signer(const uint8_t *octets, size_t size) RPKI_CHECKED;
 
 /*
  * Whether all resources that a certificate names are its issuer's, as those of a manifest's certificate have to be (RFC
- * 9286 5.1). Takes no memory. The statuses, in this order: those of rpki_certificate; RPKI_NOT_INHERITED, also where an
+ * 9286 5.1). Takes no memory. The statuses, in this order: those of rpki_certificate_extensions;
+ * RPKI_RULE_CERTIFICATE_POLICIES: there are none; RPKI_RULE_RESOURCE_VERSION; RPKI_NOT_INHERITED, also where an
  * extension of resources is not critical, or not in canonical form.
  */
 rpki_status rpki_manifest_inherits(const uint8_t *octets, size_t size) RPKI_CHECKED;
@@ -1543,8 +1565,8 @@ rpki_status rpki_manifest_file_is(const uint8_t digest[32], const uint8_t *octet
  * asked, and of which the seconds are not looked at. Its blocks are written to the front of the two arrays, which are
  * lent to `out`. It has neither a list nor a manifest yet.
  *
- * The statuses, in this order: those of rpki_certificate_checked; RPKI_OTHER_ANCHOR; RPKI_CONTENT: the years 0 to 9999
- * have no such moment; RPKI_OTHER_KEY; RPKI_KEY_NOT_ACCEPTED or RPKI_BAD_SIGNATURE; RPKI_TOO_NEW; RPKI_TOO_OLD;
+ * The statuses, in this order: those of rpki_certificate_of_profile; RPKI_OTHER_ANCHOR; RPKI_CONTENT: the years 0 to
+ * 9999 have no such moment; RPKI_OTHER_KEY; RPKI_KEY_NOT_ACCEPTED or RPKI_BAD_SIGNATURE; RPKI_TOO_NEW; RPKI_TOO_OLD;
  * RPKI_OUT_OF_MEMORY; RPKI_TOO_SMALL: an array has no room. Else than with RPKI_OK the arrays hold nothing of use.
  */
 rpki_status rpki_authority_anchor(const uint8_t *octets, size_t size, const uint8_t *key, size_t key_size,
@@ -1568,12 +1590,12 @@ rpki_status rpki_authority_list(const struct rpki_authority *by, const uint8_t *
  * those that rpki_ip_settle and rpki_as_settle find under the other's, and are written to the front of the two arrays,
  * which are lent to `out`. It has neither a list nor a manifest yet.
  *
- * The statuses, in this order: RPKI_NO_MANIFEST: the other has none; those of rpki_certificate_checked; RPKI_NO_ISSUER:
- * the other has no certificate; RPKI_CONTENT: its moment is none; RPKI_OTHER_ISSUER; RPKI_OTHER_AUTHORITY;
- * RPKI_OTHER_KEY; RPKI_KEY_NOT_ACCEPTED or RPKI_BAD_SIGNATURE; RPKI_TOO_NEW; RPKI_TOO_OLD; RPKI_NO_LIST; those of
- * rpki_crl_contains; RPKI_REVOKED;
- * RPKI_TOO_DEEP; RPKI_ON_PATH; RPKI_NO_ANSWER: a block of the other is inherited; RPKI_OTHER_RESOURCES;
- * RPKI_OUT_OF_MEMORY; RPKI_TOO_SMALL: an array has no room. Else than with RPKI_OK the arrays hold nothing of use.
+ * The statuses, in this order: RPKI_NO_MANIFEST: the other has none; those of rpki_certificate_of_profile;
+ * RPKI_NO_ISSUER: the other has no certificate; RPKI_CONTENT: its moment is none; RPKI_OTHER_ISSUER;
+ * RPKI_OTHER_AUTHORITY; RPKI_OTHER_KEY; RPKI_KEY_NOT_ACCEPTED or RPKI_BAD_SIGNATURE; RPKI_TOO_NEW; RPKI_TOO_OLD;
+ * RPKI_NO_LIST; those of rpki_crl_contains; RPKI_REVOKED; RPKI_TOO_DEEP; RPKI_ON_PATH; RPKI_NO_ANSWER: a block of the
+ * other is inherited; RPKI_OTHER_RESOURCES; RPKI_OUT_OF_MEMORY; RPKI_TOO_SMALL: an array has no room. Else than with
+ * RPKI_OK the arrays hold nothing of use.
  */
 rpki_status rpki_authority_under(const struct rpki_authority *by, const uint8_t *octets, size_t size,
                                  struct rpki_ip_block *ip_room, size_t ip_capacity, struct rpki_as_block *as_room,
@@ -2209,16 +2231,11 @@ RPKI_ASSERT_AT(https_parts, path, 16);
 /* ---- In this header alone: nothing below is in the library, and nothing below is proved ---- */
 
 /*
- * What a status says, in a few words of English: static text, of one line. A status with RPKI_SECOND added has the text
- * of that without it. "unknown status": no call returns it.
+ * What a status says, in a few words of English: static text, of one line. "unknown status": no call returns it. A
+ * status with RPKI_SECOND added has the text of that without it, with "second: " in front.
  */
 static inline const char *rpki_status_text(rpki_status status) {
-    unsigned number = (unsigned)status;
-    if ((number > RPKI_SECOND && number <= RPKI_SECOND + RPKI_TRAILING) ||
-        (number >= RPKI_SECOND + RPKI_URI_INVALID_CHARACTERS && number <= RPKI_SECOND + RPKI_URI_LONG_SEGMENTS)) {
-        number -= RPKI_SECOND;
-    }
-    switch (number) {
+    switch ((unsigned)status) {
         case RPKI_OK: return "no error";
         case RPKI_TOO_SMALL: return "buffer too small";
         case RPKI_NO_ANSWER: return "no answer";
@@ -2378,6 +2395,19 @@ static inline const char *rpki_status_text(rpki_status status) {
         case RPKI_URI_DOT_SEGMENTS: return "URI with dot path segments";
         case RPKI_URI_EMPTY_SEGMENTS: return "URI with empty path segments";
         case RPKI_URI_LONG_SEGMENTS: return "one or more segments are longer than 255 characters";
+        case RPKI_SECOND + RPKI_TRUNCATED: return "second: truncated value";
+        case RPKI_SECOND + RPKI_BAD_TAG: return "second: malformed tag";
+        case RPKI_SECOND + RPKI_BAD_LENGTH: return "second: malformed length";
+        case RPKI_SECOND + RPKI_UNEXPECTED: return "second: unexpected value";
+        case RPKI_SECOND + RPKI_CONTENT: return "second: malformed contents";
+        case RPKI_SECOND + RPKI_TRAILING: return "second: octets after the value";
+        case RPKI_SECOND + RPKI_URI_INVALID_CHARACTERS: return "second: invalid characters";
+        case RPKI_SECOND + RPKI_URI_BAD_URI: return "second: bad URI";
+        case RPKI_SECOND + RPKI_URI_LONG_URI: return "second: URI exceeds 3072 characters";
+        case RPKI_SECOND + RPKI_URI_BAD_SCHEME: return "second: bad URI scheme";
+        case RPKI_SECOND + RPKI_URI_DOT_SEGMENTS: return "second: URI with dot path segments";
+        case RPKI_SECOND + RPKI_URI_EMPTY_SEGMENTS: return "second: URI with empty path segments";
+        case RPKI_SECOND + RPKI_URI_LONG_SEGMENTS: return "second: one or more segments are longer than 255 characters";
         default: return "unknown status";
     }
 }
@@ -2620,8 +2650,31 @@ static inline const char *rpki_rule_text(rpki_status status) {
         case RPKI_REVOKED: return "RFC 6487 7.2";
         case RPKI_SAME_NAMES: return "RFC 9286 4.2.1";
         case RPKI_OTHER_ISSUER: return "RFC 5280 6.1.3";
+        case RPKI_NO_ISSUER: return "RFC 6487 7.2";
+        case RPKI_TOO_NEW:
+        case RPKI_TOO_OLD: return "RFC 5280 4.1.2.5, 5.1.2.4, 5.1.2.5, RFC 9286 6.3";
+        case RPKI_KEY_NOT_ACCEPTED: return "RFC 7935 3";
+        case RPKI_BAD_SIGNATURE: return "RFC 7935 2, RFC 8017 8.2.2";
+        case RPKI_NO_LIST: return "RFC 6487 7.2";
+        case RPKI_OTHER_LIST: return "RFC 6481 2.2, RFC 9286 4.2.1, 6.5";
+        case RPKI_NO_MANIFEST: return "RFC 9286 6.2";
         default: return "";
     }
+}
+
+/* The former name of rpki_certificate_of_profile, which verifies nothing. */
+static inline RPKI_RENAMED rpki_status rpki_certificate_checked(const uint8_t *octets, size_t size, uint8_t profile,
+                                                                bool strict, struct rpki_certificate_parts *parts,
+                                                                struct rpki_known_extensions *extensions) {
+    return rpki_certificate_of_profile(octets, size, profile, strict, parts, extensions);
+}
+
+/* The former name of rpki_signed_object_of_profile, which verifies nothing. */
+static inline RPKI_RENAMED rpki_status rpki_signed_object_checked(const uint8_t *octets, size_t size, bool attributes,
+                                                                  bool names, struct rpki_signed_object_parts *object,
+                                                                  struct rpki_certificate_parts *certificate,
+                                                                  struct rpki_known_extensions *extensions) {
+    return rpki_signed_object_of_profile(octets, size, attributes, names, object, certificate, extensions);
 }
 
 /* No entry: what the calls below return where there is none. */

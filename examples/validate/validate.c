@@ -1,5 +1,4 @@
-/* Validates a copy of a repository, from a trust anchor locator (RFC 8630) on: prints the AS number, the prefix and the
- * maximum length of each valid route origin, providers, and keys of routers; to stderr what isn't valid, and why.
+/* Prints the valid route origins, providers and keys of routers of a copied repository; to stderr what isn't, and why.
  * usage: validate LOCATOR FOLDER [SECONDS]      FOLDER has HOST/MODULE/PATH; SECONDS since 1970, where not now */
 #include <arpa/inet.h>
 #include <stdio.h>
@@ -39,36 +38,37 @@ static void print(const struct rpki_authority *by, struct rpki_span file) {
                 printf("AS%lu,%s/%d,%d\n", (unsigned long)roa.as_id,
                        inet_ntop(v6 ? AF_INET6 : AF_INET, at.address, (char *)text, TEXT), at.length, at.max_length);
     if (ends(".asa") && ok(rpki_authority_providers(by, OF(file), false, &aspa)))
-        for (printf("aspa AS%lu", (unsigned long)aspa.customer); aspa.count > 0; aspa.count--)
-            if (ok(rpki_aspa_provider(&aspa.providers, &provider)))
-                printf(aspa.count > 1 ? " AS%lu" : " AS%lu\n", (unsigned long)provider);
+        for (printf("aspa AS%lu", (unsigned long)aspa.customer); !rpki_aspa_provider(&aspa.providers, &provider);)
+            printf(aspa.providers.size > 0 ? " AS%lu" : " AS%lu\n", (unsigned long)provider);
     if (ends(".cer") && ok(rpki_authority_end(by, OF(file), RPKI_CERTIFICATE_ROUTER, ROOM(MOST - 1), &has)) &&
         ok(rpki_hex(known.subject_key, sizeof known.subject_key, text, TEXT, &length)))
         for (size_t block = 0; block < has.as_count; block++)
             for (uint64_t number = has.as_blocks[block].low; number <= has.as_blocks[block].high; number++)
                 printf("router AS%lu %.40s\n", (unsigned long)number, (char *)text);
 }
-static bool visit(const struct rpki_authority *above) { /* once; all files count, or none, where one is not as listed */
-    struct rpki_span rest = {0}, list = {0}, files, object, found;
+static bool place(uint8_t method) { /* puts the first rsync URI of this method that `known` has in `uri` */
+    struct rpki_span rest = {0}, all = known.subject_info_access.octets;
     struct rpki_access_parts to = {0};
-    struct rpki_rsync_parts parts;
+    struct rpki_rsync_parts at;
+    for (bool is = ok(rpki_take(&all, RPKI_SEQUENCE, &rest)); is && rpki_access_description(&rest, &to) == RPKI_OK;)
+        if (to.method == method && rpki_rsync_parse(OF(to.uri), &at) == RPKI_OK)
+            return ok(rpki_rsync_parts_canonical(OF(to.uri), &at, uri, TEXT - 1, &length));
+    return false;
+}
+static bool visit(const struct rpki_authority *above) { /* once; all files count, or none, where one is not as listed */
+    struct rpki_span list = {0}, files, object, found;
     struct rpki_signed_object_parts cms = {0};
     struct rpki_manifest_parts manifest = {0};
     struct rpki_manifest_file_parts file = {0};
     struct rpki_authority by = {0}, below = {0};
     uint8_t folder[TEXT];
-    size_t size = 0;
-    for (size_t at = 0; at < visited; at++)
-        if (!memcmp(&seen[at], &above->keys[above->depth], sizeof *seen)) return false;
-    if (visited == MOST_FILES || !ok(rpki_certificate_extensions(OF(above->certificate), &known))) return false;
-    seen[visited++] = above->keys[above->depth];
-    if (!ok(rpki_take(&known.subject_info_access.octets, RPKI_SEQUENCE, &rest))) return false;
-    while (rpki_access_description(&rest, &to) == RPKI_OK)
-        if (to.method == RPKI_ACCESS_RPKI_MANIFEST && rpki_rsync_parse(OF(to.uri), &parts) == RPKI_OK)
-            (void)ok(rpki_rsync_parts_canonical(OF(to.uri), &parts, uri, TEXT - 1, &length));
-    object = read_uri();
-    bool reads = ok(rpki_signed_object(OF(object), false, &cms)) && ok(rpki_manifest(OF(cms.content), &manifest));
-    if (!reads || !ok(rpki_rsync_parent(memcpy(folder, uri, TEXT), length, &size))) return false;
+    size_t size = 0, i = 0;
+    while (i < visited && memcmp(&seen[i], &above->keys[above->depth], sizeof *seen)) i++;
+    bool reads = i == visited && i < MOST_FILES && ok(rpki_certificate_extensions(OF(above->certificate), &known));
+    if (!reads || !place(RPKI_ACCESS_CA_REPOSITORY) || !memcpy(folder, uri, size = length)) return false;
+    object = place(RPKI_ACCESS_RPKI_MANIFEST) ? read_uri() : list;
+    reads = ok(rpki_signed_object(OF(object), false, &cms)) && ok(rpki_manifest(OF(cms.content), &manifest));
+    if (!reads) return false;
     for (int pass = 0;; pass++) { /* first whether all files are as listed, then what they are */
         for (files = pass ? by.files : manifest.files; files.size > 0;) {
             if (!ok(rpki_manifest_file(&files, &file))) return false;
@@ -81,9 +81,9 @@ static bool visit(const struct rpki_authority *above) { /* once; all files count
             if (!is_ca) print(&by, found);
             if (is_ca && ok(rpki_authority_under(&by, OF(found), ROOM(by.depth + 1), &below))) visit(&below);
         }
-        if (pass) return true;
-        if (!ok(rpki_authority_list(above, OF(list), &below))) return false;
+        if (pass || !ok(rpki_authority_list(above, OF(list), &below))) return pass;
         if (!ok(rpki_authority_manifest(&below, OF(object), false, names, MOST_FILES, &by))) return false;
+        seen[visited++] = by.keys[by.depth];
     }
 }
 int main(int count, char **words) {

@@ -113,8 +113,9 @@ static bool is_named(unsigned one, bool is_second) {
     return well && (*name == 0 || !strncmp(name, prefix, strlen(prefix)));
 }
 
-/* Each status has a text of its own, and no other number has one. */
+/* Each status has a text of its own, and no other number has one; that of a sum says of which of two it is. */
 bool texts_differ(void) {
+    static const char second[] = "second: ";
     unsigned one, other;
     bool well = true;
     for (one = 0; one < 256; one++) {
@@ -122,8 +123,10 @@ bool texts_differ(void) {
         bool is_second =
             (one > RPKI_SECOND && one <= RPKI_SECOND + RPKI_TRAILING) ||
             (one >= RPKI_SECOND + RPKI_URI_INVALID_CHARACTERS && one <= RPKI_SECOND + RPKI_URI_LONG_SEGMENTS);
-        well = well && is_named(one, is_second);
-        for (other = 0; other < one && !is_second && strcmp(text, "unknown status"); other++) {
+        well = well && is_named(one, is_second) && !strncmp(text, second, sizeof second - 1) == is_second;
+        well = well &&
+               (!is_second || !strcmp(text + sizeof second - 1, rpki_status_text((rpki_status)(one - RPKI_SECOND))));
+        for (other = 0; other < one && strcmp(text, "unknown status"); other++) {
             well = well && strcmp(text, rpki_status_text((rpki_status)other));
         }
     }

@@ -20,7 +20,7 @@ def asked(text):
         for name in re.findall(r"RPKI_\w+", body):
             yield f"constant {name}: %llu", [name]
     for name in re.findall(r"^#define (RPKI_\w+) ", text, re.M):
-        if not name.startswith(("RPKI_VERSION", "RPKI_CHECKED")):
+        if not name.startswith(("RPKI_VERSION", "RPKI_CHECKED", "RPKI_RENAMED")):
             yield f"constant {name}: %llu", [name]
     for name, body in re.findall(r"^struct (rpki_\w+) \{(.*?)^\};", text, re.S | re.M):
         yield f"struct {name}: %llu octets", [f"sizeof(struct {name})"]

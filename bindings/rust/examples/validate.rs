@@ -69,7 +69,7 @@ impl Walk {
         let uri = by.rpki_manifest().ok_or("no manifest")?;
         let (signer, content) = Manifest::decode(self.read(uri)?, false)?.validate_at(by, true, self.now)?;
         let mut files = Vec::new();
-        for listed in content.iter_uris(&uri.parent().ok_or("no folder")?) {
+        for listed in content.iter_uris(by.ca_repository().ok_or("no repository")?) {
             let (uri, hash) = listed?;
             let file = self.read(&uri)?;
             hash.verify(&file).map_err(|error| format!("{uri}: {error}"))?;

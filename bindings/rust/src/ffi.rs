@@ -361,7 +361,7 @@ pub(crate) fn certificate_inspect(octets: &[u8], profile: u8, strict: bool) -> R
 }
 
 /// The parts of a certificate that keeps the profile of this number, and its extensions.
-pub(crate) fn certificate_checked(
+pub(crate) fn certificate_of_profile(
     octets: &[u8],
     profile: u8,
     strict: bool,
@@ -370,7 +370,7 @@ pub(crate) fn certificate_checked(
     // SAFETY: pointer and size are those of one slice, which is borrowed for the call; `extensions` is this function's
     // own.
     let parts = told(|out| unsafe {
-        rpki_certificate_checked(octets.as_ptr(), octets.len(), profile, strict, out, &mut extensions)
+        rpki_certificate_of_profile(octets.as_ptr(), octets.len(), profile, strict, out, &mut extensions)
     })?;
     Ok((parts, extensions))
 }
@@ -408,7 +408,7 @@ pub(crate) fn signed_object(octets: &[u8], strict: bool) -> Result<SignedObjectP
 
 /// The parts of a signed object, and those and the extensions of its certificate, which has the profile of an end
 /// entity.
-pub(crate) fn signed_object_checked(
+pub(crate) fn signed_object_of_profile(
     octets: &[u8],
     attributes: bool,
     names: bool,
@@ -418,7 +418,7 @@ pub(crate) fn signed_object_checked(
     // function's own.
     let object = told(|out| unsafe {
         let (start, size) = (octets.as_ptr(), octets.len());
-        rpki_signed_object_checked(start, size, attributes, names, out, &mut certificate, &mut extensions)
+        rpki_signed_object_of_profile(start, size, attributes, names, out, &mut certificate, &mut extensions)
     })?;
     Ok((object, certificate, extensions))
 }

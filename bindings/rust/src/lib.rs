@@ -38,7 +38,7 @@
 //!     let uri = by.rpki_manifest().ok_or("no manifest")?;
 //!     let (signer, content) = Manifest::decode(read(uri)?, false)?.validate_at(by, true, now)?;
 //!     let mut files = Vec::new();
-//!     for listed in content.iter_uris(&uri.parent().ok_or("no folder")?) {
+//!     for listed in content.iter_uris(by.ca_repository().ok_or("no repository")?) {
 //!         let (uri, hash) = listed?;
 //!         let file = read(&uri)?;
 //!         hash.verify(&file)?;

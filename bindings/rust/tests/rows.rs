@@ -316,14 +316,15 @@ fn oid_text(contents: &[u8]) -> Given {
     Ok(vec![format!("text = {}", hex(extension.id().to_string().as_bytes()))])
 }
 
-/// The text of the error that stands for a status; a second text's has the same.
+/// The text of the error that stands for a status; of a second text's the header says so in front.
 fn status_text(number: u8) -> Given {
     let text = match number {
         1 => DecodeError::Truncated.to_string(),
         2 => DecodeError::BadTag.to_string(),
         3 => DecodeError::BadLength.to_string(),
         4 => DecodeError::Unexpected.to_string(),
-        5 | 21 => DecodeError::Content.to_string(),
+        5 => DecodeError::Content.to_string(),
+        21 => format!("second: {}", DecodeError::Content),
         6 => DecodeError::Trailing.to_string(),
         7 => DecodeError::OutOfMemory.to_string(),
         13 => DecodeError::OtherAlgorithm.to_string(),
@@ -335,7 +336,8 @@ fn status_text(number: u8) -> Given {
         37 => InspectError::AttributeNotPermitted.to_string(),
         160 => UriError::InvalidCharacters.to_string(),
         161 => UriError::BadUri.to_string(),
-        162 | 178 => UriError::LongUri.to_string(),
+        162 => UriError::LongUri.to_string(),
+        178 => format!("second: {}", UriError::LongUri),
         163 => UriError::BadScheme.to_string(),
         164 => UriError::DotSegments.to_string(),
         165 => UriError::EmptySegments.to_string(),

@@ -1,10 +1,9 @@
 -- What a certificate has in it.
 use Rattle.std.proofs.Common.{ℕ, List, sym, subst, ◌≡◌, Bool, true, false, refl, Option, Some, None}
-use Rattle.std.specs.Prelude.{is_some}
 use Rattle.rpki_der.specs.Each.{SpellsEach}
 use Rattle.rpki_time.specs.TimeValue.{SpellsTime}
 use Rattle.rpki.specs.ExtensionValue.{SpellsExtension}
-use Rattle.rpki_cert.specs.Cert.{CertParts, SpellsCert}
+use Rattle.rpki_cert.specs.Cert.{CertParts, SpellsCert, is_there}
 use Rattle.rpki_cert.specs.View.{IsCertAt}
 use Rattle.rpki_cert.specs.declared.read.view.CertView.{CertView}
 use Rattle.rpki_cert.specs.declared.profile.Profile.{Profile}
@@ -57,7 +56,7 @@ refused-as x spelled (CheckError.Rule rule) h is =
     (record { cert = x; spelled = spelled; first = h.1; other = h.2 })
 
 -- whether an extension is there
-pub there-of : (found : Option ExtensionParts) (p : KnownExtension) → IsKnownAs found p → p.is_there ≡ is_some found
+pub there-of : (found : Option ExtensionParts) (p : KnownExtension) → IsKnownAs found p → p.is_there ≡ is_there found
 there-of None p h = h.0
 there-of (Some x) p h = h.0
 

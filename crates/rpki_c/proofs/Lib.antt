@@ -12,7 +12,8 @@
 -- Certificates, lists and objects of which each status is 0, as the layer says it: BelowLaws. Paths of authorities:
 --   PathLaws; the resources of their certificates: HeldLaws, BlocksBackLaws; of objects' certificates: SignerPathLaws;
 --   octets are one certificate at most: OneCertLaws.
--- Resources: entries of blocks, how many there are, what their contents' statuses say, and settled: ResourceLaws.
+-- Resources: entries of blocks, how many there are, what their contents' statuses say, and settled: ResourceLaws;
+--   their version: PolicyLaws.
 
 mod VerificationLaws
 mod MomentLaws
@@ -28,6 +29,7 @@ pub mod ObjectLaws
 mod ResourceLaws
 mod BelowLaws
 mod ListingLaws
+mod PolicyLaws
 mod RevokedLaws
 mod OneCertLaws
 mod BlocksBackLaws

@@ -1,9 +1,9 @@
 -- What a status says of what a certificate says that it is.
-use Rattle.std.specs.Prelude.{◌≡◌, ◌⊎◌, ◌↔◌, ℕ, Bool, List, IsTrue, is_some, if◌then◌else◌}
+use Rattle.std.specs.Prelude.{◌≡◌, ◌⊎◌, ◌↔◌, ℕ, Bool, List, IsTrue, if◌then◌else◌}
 use Rattle.rpki_cert.specs.declared.extension.known_view.KnownView.{KnownView}
 use Rattle.rpki_cert.specs.declared.profile.Profile.{Profile}
 use Rattle.rpki_cert.specs.declared.profile.Profile.TheVariants.{Ta, Ca, Ee, Router, DetachedEe}
-use Rattle.rpki_cert.specs.Cert.{CertParts, find}
+use Rattle.rpki_cert.specs.Cert.{CertParts, find, is_there}
 use Rattle.rpki_cert.specs.Known.{extended_key_usage, subject_info_access}
 use Rattle.rpki_c.specs.Certificate.{HasKnown, IsUnknown}
 use Rattle.rpki_c.specs.CertificateProfile.{profile_number}
@@ -22,8 +22,8 @@ pub record HasKind (s : List ℕ) (kind : ℕ) : Type 0 where
   pub read : HasKnown s x known
   pub self_issued : Bool
   pub issued : IsTrue self_issued ↔ (x.tbs.issuer ≡ x.tbs.subject)
-  pub is : kind ≡ profile_number (profile_by known.ca self_issued (is_some (find extended_key_usage x.tbs.extensions))
-      (is_some (find subject_info_access x.tbs.extensions)))
+  pub is : kind ≡ profile_number (profile_by known.ca self_issued (is_there (find extended_key_usage x.tbs.extensions))
+      (is_there (find subject_info_access x.tbs.extensions)))
 
 -- Status 0: the number is written. Else the certificate isn't read, and nothing is written.
 abbrev pub IsKindRead : List ℕ → ℕ → ℕ → ℕ → Type 0

@@ -15,6 +15,7 @@ pub mod Extension
 pub mod Certificate
 pub mod CertificateProfile
 pub mod CertificateKind
+pub mod Policy
 pub mod Made
 pub mod Filled
 pub mod Resources

@@ -15,16 +15,15 @@ use Rattle.rpki_resources.specs.Encoded.{AreBlocksOf}
 use Rattle.rpki_cert.specs.declared.extension.policy.Overclaim.{Overclaim}
 use Rattle.rpki_valid.specs.ResourceSet.{IsSettledBy as IsSettledAs}
 use Rattle.rpki_c.specs.Filled.{IsFilled, IsUnfilled}
-use Rattle.rpki_c.specs.Status.{out_of_memory, other_resources, no_answer, no_policies, wrong_resources}
+use Rattle.rpki_c.specs.Policy.{HasPolicy, HasNoPolicy}
+use Rattle.rpki_c.specs.Status.{out_of_memory, other_resources, no_answer, wrong_resources}
 use Rattle.rpki_resources.specs.declared.choice_view.ChoiceView.{ChoiceView}
 use Rattle.rpki_resources.specs.declared.ip_view.IpResourcesView.{IpResourcesView}
 use Rattle.rpki_resources.specs.Extension.{SpellsIpResources, SpellsAsResources}
 use Rattle.rpki_resources.specs.Kept.{IsChoiceOf, AreIpResourcesOf}
-use Rattle.rpki_cert.specs.declared.extension.known_view.KnownView.{KnownView}
 use Rattle.rpki_cert.specs.Cert.{CertParts}
 use Rattle.rpki_cert.specs.Known.{Says, SaysNone}
 use Rattle.rpki_cert.specs.ResourceExtensions.{addresses_of, numbers_of as numbers_in}
-use Rattle.rpki_c.specs.Certificate.{HasKnown, IsUnknown}
 
 -- ---- The resources of an issuer, as blocks in the caller's array say them
 
@@ -137,24 +136,11 @@ pub record ClaimsNumbers (x : CertParts) (claim : ResourcesChoice) : Type 0 wher
   pub says : Says true SpellsAsResources (numbers_in x.tbs.extensions) said
   pub claimed : IsChoiceOf claim (claimed_numbers said)
 
--- ---- why there is nothing to settle
-
--- 64 to 84: the certificate isn't read. 108: it has no policies.
-abbrev pub HasNoPolicy : List ℕ → ℕ → Type 0
-HasNoPolicy s status =
-    IsUnknown s status
-    ⊎ ((x : CertParts) × (known : KnownView) × (status ≡ no_policies) × HasKnown s x known × (known.overclaim ≡ None))
-
--- the octets are a certificate of this policy (RFC 6487 4.8.9, RFC 8360 4.2.1)
-pub record HasPolicy (s : List ℕ) (x : CertParts) (policy : Overclaim) : Type 0 where
-  pub known : KnownView
-  pub read : HasKnown s x known
-  pub policy_is : known.overclaim ≡ Some policy
-
 -- ---- what a status says
 
 -- 10: a block of the issuer says that addresses are those of its own issuer. Else of the certificate: that it isn't
--- read, or has no policy; 116: that its addresses are not critical, or not in canonical form; or what is settled.
+-- read, has no policy, or has resources of the other version; 116: that its addresses are not critical, or not in
+-- canonical form; or what is settled.
 abbrev pub IsIpSettled : List ℕ → List IpEntry → ℕ → List IpEntry → List IpEntry → ℕ → ℕ → Type 0
 IsIpSettled s issuer status old new before after =
     ((are_untold issuer ≡ true) × (status ≡ no_answer) × IsUnfilled old new before after)

@@ -107,6 +107,10 @@ other_resources = 58
 abbrev pub no_policies : ℕ
 no_policies = 108
 
+-- a certificate has resources of the other version than its policy's: the number of that rule
+abbrev pub other_version : ℕ
+other_version = 115
+
 -- the resources of a certificate are not critical, or not in canonical form: the number of that rule
 abbrev pub wrong_resources : ℕ
 wrong_resources = 116

@@ -2,9 +2,8 @@
 use Rattle.std.specs.Prelude.{◌≡◌, ◌⊎◌, ℕ, Bool, true, List, Ok}
 use Rattle.rpki_resources.specs.declared.block.Block.{Block}
 use Rattle.rpki_resources.specs.Blocks.{IsAmong}
-use Rattle.rpki_cert.specs.declared.read.cert_part.CertPart.{CertPart}
-use Rattle.rpki_cert.specs.Cert.{CertParts, SpellsCert}
-use Rattle.rpki_cert.specs.View.{IsCertWrong}
+use Rattle.rpki_cert.specs.declared.extension.policy.Overclaim.{Overclaim}
+use Rattle.rpki_cert.specs.Cert.{CertParts}
 use Rattle.rpki_contents.specs.declared.aspa_view.AspaPart.{AspaPart}
 use Rattle.rpki_contents.specs.declared.roa_view.RoaPart.{RoaPart}
 use Rattle.rpki_contents.specs.AspaView.{FoundAspa, attestation}
@@ -14,7 +13,7 @@ use Rattle.rpki_valid.specs.ObjectResources.{AreInherited}
 use Rattle.rpki_c.specs.declared.ip_blocks.IpEntry.{IpEntry}
 use Rattle.rpki_c.specs.declared.as_blocks.AsEntry.{AsEntry}
 use Rattle.rpki_c.specs.Aspa.{IsAspaWrong, aspa_part_number}
-use Rattle.rpki_c.specs.Certificate.{part_number}
+use Rattle.rpki_c.specs.Policy.{HasPolicy, HasNoPolicy}
 use Rattle.rpki_c.specs.Settling.{are_untold, are_as_untold, as_blocks, AreHeld}
 use Rattle.rpki_c.specs.Roa.{IsRoaWrong, roa_part_number}
 use Rattle.rpki_c.specs.Status.{no_answer, not_inherited, other_resources, out_of_memory}
@@ -39,11 +38,12 @@ IsAspaTold s blocks status =
     × (((status ≡ 0) × IsAmong x.customer (as_blocks blocks))
     ⊎ ((status ≡ other_resources) × (IsAmong x.customer (as_blocks blocks) → ⊥))))
 
--- 64 to 79: this part of the certificate is wrong. Else it is a certificate. 0: all resources that it names are those
--- of its issuer. 59: they are not.
+-- 64 to 84, 108, 115: the certificate isn't read, has no policies, or has resources of the other version than its
+-- policy's. Else it is one whose resources its policy's extensions alone say. 0: all that it names are those of its
+-- issuer. 59: they are not.
 abbrev pub IsManifestTold : List ℕ → ℕ → Type 0
 IsManifestTold s status =
-    ((q : CertPart) × (status ≡ part_number q) × IsCertWrong s q)
-    ⊎ ((x : CertParts) × SpellsCert x s
+    HasNoPolicy s status
+    ⊎ ((x : CertParts) × (policy : Overclaim) × HasPolicy s x policy
     × (((status ≡ 0) × AreInherited x.tbs.extensions)
     ⊎ ((status ≡ not_inherited) × (AreInherited x.tbs.extensions → ⊥))))

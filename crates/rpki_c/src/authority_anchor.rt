@@ -145,8 +145,8 @@ fn root<'a>(
 /// Its resources are written to the front of the two arrays, which are lent to it. It has neither a list nor a manifest
 /// yet.
 ///
-/// The status is 0. Else it is, in this order: as of `rpki_certificate_checked`; `OTHER_ANCHOR`; `CONTENT`, where the
-/// years 0 to 9999 have no such time as the moment; `OTHER_KEY`; `KEY_NOT_ACCEPTED` or `BAD_SIGNATURE`, as of
+/// The status is 0. Else it is, in this order: as of `rpki_certificate_of_profile`; `OTHER_ANCHOR`; `CONTENT`, where
+/// the years 0 to 9999 have no such time as the moment; `OTHER_KEY`; `KEY_NOT_ACCEPTED` or `BAD_SIGNATURE`, as of
 /// `rpki_verify`; `TOO_NEW`; `TOO_OLD`; `OUT_OF_MEMORY`; or `TOO_SMALL`, where an array has too few places. Then `out`
 /// is unchanged, and the arrays may be written over.
 #[unsafe(no_mangle)]

@@ -171,10 +171,10 @@ fn under<'a>(
 /// front of the two arrays, which are lent to it. It has neither a list nor a manifest yet.
 ///
 /// The status is 0. Else it is, in this order: `NO_MANIFEST`, where the other has none yet; as of
-/// `rpki_certificate_checked`; `NO_ISSUER`, where the other has no certificate; `CONTENT`, where its moment is none; as
-/// of `rpki_certificate_signed_by`; `TOO_NEW`; `TOO_OLD`; `NO_LIST`; as of `rpki_crl_contains`; `REVOKED`; `TOO_DEEP`;
-/// `ON_PATH`; as of `rpki_ip_settle` and `rpki_as_settle`; `OTHER_RESOURCES`; `OUT_OF_MEMORY`; or `TOO_SMALL`, where an
-/// array has too few places. Then `out` is unchanged, and the arrays may be written over.
+/// `rpki_certificate_of_profile`; `NO_ISSUER`, where the other has no certificate; `CONTENT`, where its moment is none;
+/// as of `rpki_certificate_signed_by`; `TOO_NEW`; `TOO_OLD`; `NO_LIST`; as of `rpki_crl_contains`; `REVOKED`;
+/// `TOO_DEEP`; `ON_PATH`; as of `rpki_ip_settle` and `rpki_as_settle`; `OTHER_RESOURCES`; `OUT_OF_MEMORY`; or
+/// `TOO_SMALL`, where an array has too few places. Then `out` is unchanged, and the arrays may be written over.
 #[unsafe(no_mangle)]
 pub extern "C" fn rpki_authority_under<'a>(
     alloc: Global,

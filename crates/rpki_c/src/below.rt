@@ -11,7 +11,7 @@ ghost use Rattle.rpki_c.specs.Moments.{IsToldOf};
 ghost use Rattle.rpki_c.specs.Below.{Then, IsIssuedTold, IsListedBy, IsBelowTold, TestsBelow};
 
 use crate::authority::Authority;
-use crate::certificate_checked::check_number;
+use crate::certificate_of_profile::check_number;
 use crate::issued::{key_of, test_names};
 use crate::periods::told_of;
 use crate::status::{CONTENT, NO_ISSUER, NO_LIST, OTHER_KEY, REVOKED};

@@ -1,7 +1,7 @@
 //! What certificates say that they are.
 
-ghost use Rattle.std.specs.Prelude.{◌≡◌, ◌↔◌, List, ℕ, IsTrue, is_some};
-ghost use Rattle.rpki_cert.specs.Cert.{CertParts, find};
+ghost use Rattle.std.specs.Prelude.{◌≡◌, ◌↔◌, List, ℕ, IsTrue};
+ghost use Rattle.rpki_cert.specs.Cert.{CertParts, find, is_there};
 ghost use Rattle.rpki_cert.specs.View.{IsCertAt};
 ghost use Rattle.rpki_cert.specs.ExtensionTable.{identifier_of};
 ghost use Rattle.rpki_c.specs.CertificateKind.{profile_by, IsKindRead};
@@ -52,9 +52,9 @@ fn is_self_issued(cert: &CertView<'_>) -> bool
 }
 
 /// Whether an extension of this kind is there.
-fn has(cert: &CertView<'_>, kind: ExtensionKind) -> bool
+pub(crate) fn has(cert: &CertView<'_>, kind: ExtensionKind) -> bool
     ensures { (s : List ℕ) (x : CertParts) → IsCertAt s cert.now x
-        → result ≡ is_some (find (identifier_of kind) x.tbs.extensions) }
+        → result ≡ is_there (find (identifier_of kind) x.tbs.extensions) }
 {
     extension_of(cert, kind).is_there
 }

@@ -1,18 +1,14 @@
 //! The resources that a certificate has under those of its issuer.
 
-ghost use Rattle.std.specs.Prelude.{◌≡◌, IfOk, IfErr};
-ghost use Rattle.rpki_cert.specs.Cert.{CertParts};
-ghost use Rattle.rpki_cert.specs.View.{IsCertAt};
-ghost use Rattle.rpki_c.specs.Settling.{claimed_addresses, claimed_numbers, HasPolicy, HasNoPolicy, IsIpSettled};
-ghost use Rattle.rpki_c.specs.Settling.{IsAsSettled};
+ghost use Rattle.std.specs.Prelude.{◌≡◌};
+ghost use Rattle.rpki_c.specs.Settling.{claimed_addresses, claimed_numbers, IsIpSettled, IsAsSettled};
 
 use crate::as_blocks::AsEntry;
 use crate::held::{are_as_untold, are_untold};
 use crate::ip_blocks::IpEntry;
-use crate::known_cert::{KnownCert, known_cert};
+use crate::policies::read_policy;
 use crate::settling::{settle_addresses, settle_numbers};
-use crate::status::{NO_ANSWER, NO_POLICIES, WRONG_RESOURCES};
-use rpki_cert::Overclaim;
+use crate::status::{NO_ANSWER, WRONG_RESOURCES};
 use rpki_resources::{ChoiceView, IpResourcesView};
 use std::alloc::Global;
 
@@ -39,24 +35,6 @@ pub(crate) fn claimed_numbers<'a>(found: Option<ChoiceView<'a>>) -> ChoiceView<'
     }
 }
 
-/// The certificate that the octets are, and its policy.
-///
-/// The error is the status of a certificate that isn't read, or else the rule that a certificate has policies.
-fn read_policy(octets: &[u8]) -> Result<(KnownCert<'_>, Overclaim), u8>
-    ensures ok { IfOk result (λ read. (x : CertParts) × IsCertAt octets.now read.0.cert x
-        × HasPolicy octets.now x read.1) }
-    ensures err { IfErr result (λ status. HasNoPolicy octets.now status) }
-{
-    let found = match known_cert(octets) {
-        Ok(found) => found,
-        Err(status) => return Err(status),
-    };
-    match found.known.overclaim {
-        Some(policy) => Ok((found, policy)),
-        None => Err(NO_POLICIES),
-    }
-}
-
 /// Reads a resource certificate, and writes the addresses that it has under those of its issuer: for each family it
 /// claims none, its issuer's, or those that it lists. With the policy of RFC 6484 the issuer has to have what is listed
 /// (RFC 6487 7.2); with that of RFC 8360 so much of it is written as the issuer has (RFC 8360 4.2.4.4). The issuer's
@@ -67,8 +45,9 @@ fn read_policy(octets: &[u8]) -> Result<(KnownCert<'_>, Overclaim), u8>
 /// `TOO_SMALL` where the array has no room for all of them: `count` says how many there are, and no entry is written.
 /// Else neither is written, and it is, in this order: `NO_ANSWER`, where a block of the issuer says that addresses are
 /// those of its own issuer; as of `rpki_certificate_extensions`; the rule that a certificate has policies; the rule
-/// that its resources are critical and in canonical form; `OTHER_RESOURCES`, where the issuer doesn't have what is
-/// listed; or `OUT_OF_MEMORY`.
+/// that policy and resources are of one version (RFC 8360 4.2), so that one extension at most says which addresses
+/// these are; the rule that its resources are critical and in canonical form; `OTHER_RESOURCES`, where the issuer
+/// doesn't have what is listed; or `OUT_OF_MEMORY`.
 #[unsafe(no_mangle)]
 pub extern "C" fn rpki_ip_settle(
     alloc: Global,

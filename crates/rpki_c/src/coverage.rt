@@ -12,12 +12,12 @@ ghost use Rattle.rpki_c.specs.Within.{IsRoaTold, IsAspaTold, IsManifestTold};
 
 use crate::as_blocks::AsEntry;
 use crate::aspa::aspa_part_number;
-use crate::certificate::part_number;
 use crate::held::{are_as_untold, are_untold, held};
 use crate::ip_blocks::IpEntry;
+use crate::policies::read_policy;
 use crate::roa::roa_part_number;
 use crate::status::{NO_ANSWER, NOT_INHERITED, OTHER_RESOURCES, OUT_OF_MEMORY};
-use rpki_cert::{CertView, Keyed};
+use rpki_cert::Keyed;
 use rpki_contents::{AspaView, RoaView, RouteOriginAttestation};
 use rpki_resources::{AddressFamily, ChoiceView, IpResourcesView};
 use std::alloc::Global;
@@ -160,20 +160,21 @@ pub(crate) fn are_inherited(keyed: &Keyed<'_>) -> bool
 /// Reads a resource certificate, and says whether all resources that it names are those of its issuer, as those of the
 /// certificate that signs a manifest have to be (RFC 9286 5.1).
 ///
-/// The status is 0. Else it is, in this order: as of `rpki_certificate`; `NOT_INHERITED`, where it lists resources, or
-/// where an extension of them is not critical, or not in canonical form. Nothing is allocated.
+/// The status is 0. Else it is, in this order: as of `rpki_certificate_extensions`; the rule that a certificate has
+/// policies; the rule that policy and resources are of one version (RFC 8360 4.2); `NOT_INHERITED`, where it lists
+/// resources, or where an extension of them is not critical, or not in canonical form. Nothing is allocated.
 #[unsafe(no_mangle)]
 pub extern "C" fn rpki_manifest_inherits(octets: &[u8]) -> u8
     ensures { IsManifestTold octets.now result }
 {
-    match CertView::read(octets) {
-        Ok(found) => {
-            if are_inherited(&found.tbs.named.keyed) {
+    match read_policy(octets) {
+        Ok(read) => {
+            if are_inherited(&read.0.cert.tbs.named.keyed) {
                 0
             } else {
                 NOT_INHERITED
             }
         }
-        Err(wrong) => part_number(wrong.part),
+        Err(status) => status,
     }
 }

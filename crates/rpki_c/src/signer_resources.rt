@@ -6,9 +6,9 @@ ghost use Rattle.rpki_cert.specs.ResourceExtensions.{are_own_addresses, are_own_
 ghost use Rattle.rpki_valid.specs.ObjectResources.{HasAddresses, HasNumbers, AreOwnAddresses, AreOwnNumbers};
 ghost use Rattle.rpki_c.specs.SignerResources.{ListsAddresses, ListsNumbers, IsRoaSigner, IsAspaSigner};
 
-use crate::certificate::part_number;
+use crate::policies::read_policy;
 use crate::status::OTHER_KINDS;
-use rpki_cert::{CertView, Keyed, are_own_addresses, are_own_numbers};
+use rpki_cert::{Keyed, are_own_addresses, are_own_numbers};
 
 /// Whether an extension of addresses is there.
 fn has_addresses(keyed: &Keyed<'_>) -> bool
@@ -67,21 +67,22 @@ pub(crate) fn lists_numbers(keyed: &Keyed<'_>) -> bool
 /// Reads a resource certificate, and says whether it names addresses, none of which are its issuer's, and no AS
 /// numbers, as one has to that signs a route origin attestation (RFC 9582 5).
 ///
-/// The status is 0. Else it is, in this order: as of `rpki_certificate`; `OTHER_KINDS`, also where the extension of
-/// addresses is not critical, or not in canonical form. Nothing is allocated.
+/// The status is 0. Else it is, in this order: as of `rpki_certificate_extensions`; the rule that a certificate has
+/// policies; the rule that policy and resources are of one version (RFC 8360 4.2); `OTHER_KINDS`, also where the
+/// extension of addresses is not critical, or not in canonical form. Nothing is allocated.
 #[unsafe(no_mangle)]
 pub extern "C" fn rpki_roa_signer(octets: &[u8]) -> u8
     ensures { IsRoaSigner octets.now result }
 {
-    match CertView::read(octets) {
-        Ok(found) => {
-            if lists_addresses(&found.tbs.named.keyed) {
+    match read_policy(octets) {
+        Ok(read) => {
+            if lists_addresses(&read.0.cert.tbs.named.keyed) {
                 0
             } else {
                 OTHER_KINDS
             }
         }
-        Err(wrong) => part_number(wrong.part),
+        Err(status) => status,
     }
 }
 
@@ -91,14 +92,14 @@ pub extern "C" fn rpki_roa_signer(octets: &[u8]) -> u8
 pub extern "C" fn rpki_aspa_signer(octets: &[u8]) -> u8
     ensures { IsAspaSigner octets.now result }
 {
-    match CertView::read(octets) {
-        Ok(found) => {
-            if lists_numbers(&found.tbs.named.keyed) {
+    match read_policy(octets) {
+        Ok(read) => {
+            if lists_numbers(&read.0.cert.tbs.named.keyed) {
                 0
             } else {
                 OTHER_KINDS
             }
         }
-        Err(wrong) => part_number(wrong.part),
+        Err(status) => status,
     }
 }

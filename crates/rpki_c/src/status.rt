@@ -102,6 +102,9 @@ pub(crate) const OTHER_RESOURCES: u8 = 58;
 /// A certificate has no policies: the number of that rule of certificates.
 pub(crate) const NO_POLICIES: u8 = 108;
 
+/// A certificate has resources of the other version than its policy's: the number of that rule.
+pub(crate) const OTHER_VERSION: u8 = 115;
+
 /// The resources of a certificate are not critical, or not in canonical form: the number of that rule of certificates.
 pub(crate) const WRONG_RESOURCES: u8 = 116;
 

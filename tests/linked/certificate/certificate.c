@@ -2,7 +2,7 @@
  * Reads certificates with rpki_certificate and rpki_certificate_extensions, and compares statuses and places with those
  * of rows that rows.py writes, and what rpki_certificate_error writes. What a call refuses leaves `out` as it was. Each
  * beginning of a certificate is none, nor is one with an octet more. Then holds them to each profile with
- * rpki_certificate_inspect, and asks for all of this at once with rpki_certificate_checked. No call allocates.
+ * rpki_certificate_inspect, and asks for all of this at once with rpki_certificate_of_profile. No call allocates.
  *
  * usage: certificate ROWS
  */
@@ -146,7 +146,8 @@ static rpki_status checked(const uint8_t *octets, size_t size, unsigned profile,
     memset(parts, FILL, sizeof *parts);
     memset(extensions, FILL, sizeof *extensions);
     count_allocations(0);
-    status = rpki_certificate_checked(copy.at, size, (uint8_t)profile, strict, &parts->parts, &extensions->extensions);
+    status =
+        rpki_certificate_of_profile(copy.at, size, (uint8_t)profile, strict, &parts->parts, &extensions->extensions);
     *clean = took_none();
     if (status != RPKI_OK) {
         *clean = *clean && untouched(parts, sizeof *parts) && untouched(extensions, sizeof *extensions);

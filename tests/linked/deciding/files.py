@@ -51,22 +51,24 @@ class Maker:
 
     def certificate(self, kind, by, issuer, subject, ip=(), numbers=(), trims=False, until=UNTIL, serial=9,
                     identifier=None, authority_key=None, place=b"ca/object.roa", key=None,
-                    home=b"rpki.example/repo/ca/ca.mft"):
+                    home=b"rpki.example/repo/ca/ca.mft", access=None, above=(BASE + b"/ca/ca.crl", BASE + b"/ca.cer")):
         """A certificate of one of the five kinds, by this key; `ip` and `numbers` of None are the issuer's, `home` is
-        where an authority's manifest is."""
+        where an authority's manifest is, `access` each method and URI in place of that, and `above` the URIs of the
+        issuer's list and certificate."""
         is_authority, key = kind in ("ta", "ca"), key or {"ta": self.top, "ca": self.own}.get(kind, self.end)
         public = self.point if kind == "router" else x509.rsa_key(key.bits)
         own = hashlib.sha1(self.point[-65:]).digest() if kind == "router" else key.identifier
         listed = [extension(x509.SUBJECT_KEY, tlv(4, identifier or own))]
         if kind != "ta":
             listed.append(authority(authority_key or by.identifier))
-            listed.append(extension(x509.REVOCATION, sequence(x509.point(uri(BASE + b"/ca/ca.crl")))))
-            listed.append(extension(x509.AUTHORITY_ACCESS, x509.accesses((x509.CA_ISSUERS, uri(BASE + b"/ca.cer")))))
+            listed.append(extension(x509.REVOCATION, sequence(x509.point(uri(above[0])))))
+            listed.append(extension(x509.AUTHORITY_ACCESS, x509.accesses((x509.CA_ISSUERS, uri(above[1])))))
         if is_authority:
             listed.append(extension(x509.CONSTRAINTS, IS_CA, TRUE))
-            listed.append(extension(x509.SUBJECT_ACCESS, x509.accesses(
-                (x509.REPOSITORY, uri(b"rsync://" + home.rpartition(b"/")[0] + b"/")),
-                (x509.MANIFEST, uri(b"rsync://" + home)))))
+            home = b"rsync://" + home
+            access = access or [(x509.REPOSITORY, home.rpartition(b"/")[0] + b"/"), (x509.MANIFEST, home)]
+            named = [(method, uri(text)) for method, text in access]
+            listed.append(extension(x509.SUBJECT_ACCESS, x509.accesses(*named)))
         if kind == "ee":
             listed.append(extension(x509.SUBJECT_ACCESS, x509.accesses((x509.OBJECT, uri(BASE + b"/" + place)))))
         if kind == "router":

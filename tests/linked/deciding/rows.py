@@ -46,7 +46,7 @@ from programs import TOP
 (TOO_SMALL, NO_ANSWER, TOO_NEW, TOO_OLD, NO_KEY, BAD_SIGNATURE, DIGEST, TYPE, SIGNER, KEY, RESOURCES,
  INHERITED, OTHER_ANCHOR, OTHER_KINDS) = 9, 10, *range(50, 62)
 PART_CERTIFICATE, PART_OBJECT, PART_ROA, PART_ASPA, PART_EXTENSIONS = 64, 123, 145, 148, 76
-WRONG_SUBJECT_KEY, WRONG_POLICIES, NO_POLICIES, BLOCKS = 81, 84, 108, 116
+WRONG_SUBJECT_KEY, WRONG_POLICIES, NO_POLICIES, VERSION, BLOCKS = 81, 84, 108, 115, 116
 NO_ISSUER, OTHER_ISSUER, OTHER_AUTHORITY = 152, 153, 154
 FROM, UNTIL = "260101000000Z", "270101000000Z"
 NOW = x509.seconds("260601000000Z")
@@ -270,6 +270,21 @@ def settle_numbers(own, top, claim, held, trims=False, version=1):
         row("as", cert, TOO_SMALL, len(words), *(f"{low}:{high}" for low, high in held), "/")
 
 
+def of_other_versions(own, top):
+    """Certificates with resources of the other version than their policy's (RFC 8360 4.2): in place of those of its
+    version, and beside them, also of the other kind, malformed, and where none are of its version."""
+    for policy, right, wrong in (x509.POLICY, 1, 2), (x509.POLICY_V2, 2, 1):
+        listed = [addresses(resources.addresses("10.0.0.0/8"), wrong), numbers(resources.numbers(64496), wrong),
+                  addresses(resources.INHERITED_ADDRESSES, wrong), addresses(b"", wrong, critical=b"")]
+        beside = [addresses(resources.addresses("10.0.0.0/8"), right), numbers(resources.numbers(64496), right),
+                  addresses(resources.INHERITED_ADDRESSES, right)]
+        for one in listed:
+            yield certificate(own, top, one, policy=policy)
+            for other in beside:
+                yield certificate(own, top, one, other, policy=policy)
+                yield certificate(own, top, other, one, policy=policy)
+
+
 def settling(own, top):
     """Resources of certificates under those of an issuer (RFC 6487 7.2, RFC 8360 4.2.4, with its example in 4.3)."""
     both = ["10.0.0.0/8", "192.0.2.0/24", "2001:db8::/32"]
@@ -302,6 +317,9 @@ def settling(own, top):
         row(call, certificate(own, top, identifier=bytes(19)), WRONG_SUBJECT_KEY, "-", "/")
         row(call, certificate(own, top, policy=None), NO_POLICIES, "-", "/")
         row(call, certificate(own, top, policy="2.5.29.32.0"), WRONG_POLICIES, "-", "/")
+    for cert in of_other_versions(own, top):
+        row("ip", cert, VERSION, "-", ten, "/")
+        row("as", cert, VERSION, "-", "64496:64496", "/")
     row("ip", certificate(own, top, addresses(resources.addresses("10.0.0.0/8"), critical=b"")), BLOCKS, "-", ten, "/")
     row("as", certificate(own, top, numbers(resources.numbers(64496), critical=b"")), BLOCKS, "-", "1:2", "/")
     for _, octets in resources.MALFORMED_ADDRESSES:
@@ -341,11 +359,25 @@ def contents():
     row("aspa", b"", PART_ASPA, "1:2")
 
 
+def unsettled(call, own, top):
+    """Certificates that don't tell which extensions have their resources."""
+    row(call, b"", PART_CERTIFICATE)
+    row(call, certificate(own, top, identifier=bytes(19)), WRONG_SUBJECT_KEY)
+    row(call, certificate(own, top, policy="2.5.29.32.0"), WRONG_POLICIES)
+    row(call, certificate(own, top, policy=None), NO_POLICIES)
+    for cert in of_other_versions(own, top):
+        row(call, cert, VERSION)
+
+
 def manifests(own, top):
     """Certificates of manifests (RFC 9286 5.1), and files (RFC 9286 6.5)."""
     inherited = addresses(resources.INHERITED_ADDRESSES), numbers(resources.INHERITED_NUMBERS)
+    trimmed = addresses(resources.INHERITED_ADDRESSES, 2), numbers(resources.INHERITED_NUMBERS, 2)
+    row("manifest", certificate(own, top, *trimmed, policy=x509.POLICY_V2), 0)
+    row("manifest", certificate(own, top, trimmed[0], numbers(resources.numbers(1), 2), policy=x509.POLICY_V2),
+        INHERITED)
     for listed, status in [
-            (inherited, 0), (inherited[:1], 0), ((), 0), ([addresses(resources.INHERITED_ADDRESSES, 2)], 0),
+            (inherited, 0), (inherited[:1], 0), ((), 0),
             ([addresses(resources.addresses("10.0.0.0/8"))], INHERITED),
             ([addresses(sequence(resources.family(1), resources.family(2, resources.prefix("::/0"))))], INHERITED),
             ([inherited[0], numbers(resources.numbers(1))], INHERITED),
@@ -353,7 +385,7 @@ def manifests(own, top):
             ([numbers(resources.INHERITED_NUMBERS, critical=b"")], INHERITED),
             ([addresses(sequence())], INHERITED)]:
         row("manifest", certificate(own, top, *listed), status)
-    row("manifest", b"", PART_CERTIFICATE)
+    unsettled("manifest", own, top)
     for octets in b"", b"abc", bytes(100000):
         digest = hashlib.sha256(octets).digest()
         row("file", digest, octets, 0)
@@ -369,15 +401,20 @@ def signers(own, top):
     numbered, inherited = numbers(resources.numbers(64496)), numbers(resources.INHERITED_NUMBERS)
     loose, broken = addresses(resources.addresses("10.0.0.0/8"), critical=b""), addresses(sequence())
     for extensions, of_roa, of_aspa in [
-            ([listed], 0, OTHER_KINDS), ([addresses(resources.addresses("::/0"), 2)], 0, OTHER_KINDS),
-            ([numbered], OTHER_KINDS, 0), ([numbers(resources.numbers(1), 2)], OTHER_KINDS, 0),
+            ([listed], 0, OTHER_KINDS), ([numbered], OTHER_KINDS, 0),
             *((extensions, OTHER_KINDS, OTHER_KINDS) for extensions in (
                 [], [ours], [half], [inherited], [listed, numbered], [listed, inherited], [ours, numbered],
                 [ours, inherited], [loose], [broken], [numbers(resources.numbers(1), critical=b"")], [numbers(b"")]))]:
         row("roasigner", certificate(own, top, *extensions), of_roa)
         row("aspasigner", certificate(own, top, *extensions), of_aspa)
-    row("roasigner", b"", PART_CERTIFICATE)
-    row("aspasigner", b"", PART_CERTIFICATE)
+    for extensions, of_roa, of_aspa in [
+            ([addresses(resources.addresses("::/0"), 2)], 0, OTHER_KINDS),
+            ([numbers(resources.numbers(1), 2)], OTHER_KINDS, 0),
+            ([addresses(resources.INHERITED_ADDRESSES, 2)], OTHER_KINDS, OTHER_KINDS)]:
+        row("roasigner", certificate(own, top, *extensions, policy=x509.POLICY_V2), of_roa)
+        row("aspasigner", certificate(own, top, *extensions, policy=x509.POLICY_V2), of_aspa)
+    unsettled("roasigner", own, top)
+    unsettled("aspasigner", own, top)
 
 
 def types():
@@ -412,6 +449,11 @@ def sections():
         for rule in re.findall(r"CertRule::(\w+)", rules):
             row("section", numbers_of_rules.pop(rule), text)
     assert not numbers_of_rules, numbers_of_rules
+    # Of the calls that decide: an issuer, a period, a key, a signature, and an authority's list and manifest.
+    for status, text in [(NO_ISSUER, "RFC 6487 7.2"), (TOO_NEW, "RFC 5280 4.1.2.5"), (TOO_OLD, "RFC 5280 4.1.2.5"),
+                         (NO_KEY, "RFC 7935 3"), (BAD_SIGNATURE, "RFC 7935 2"), (45, "RFC 6487 7.2"),
+                         (47, "RFC 6481 2.2"), (48, "RFC 9286 6.2")]:
+        row("section", status, text)
 
 
 def sizes(own, top):

@@ -1,8 +1,8 @@
 /*
  * Reads signed objects with rpki_signed_object, and compares statuses and what is found with those of rows that rows.py
- * writes; a certificate that rpki_certificate refuses has the status that it names. rpki_signed_object_checked says the
- * same, and of the certificate what rpki_certificate_checked says; rpki_signed_object_error says what is wrong. What a
- * call refuses leaves `out` as it was. They do not allocate.
+ * writes; a certificate that rpki_certificate refuses has the status that it names. rpki_signed_object_of_profile says
+ * the same, and of the certificate what rpki_certificate_of_profile says; rpki_signed_object_error says what is wrong.
+ * What a call refuses leaves `out` as it was. They do not allocate.
  *
  * usage: objects ROWS
  */
@@ -98,11 +98,11 @@ static bool checks(const uint8_t *octets, size_t size, bool strict, bool names, 
     memset(&out, FILL, sizeof out);
     wanted.object = *object;
     if (first == RPKI_OK) {
-        other = rpki_certificate_checked(object->certificate.data, object->certificate.size, RPKI_CERTIFICATE_EE, names,
-                                         &wanted.certificate, &wanted.extensions);
+        other = rpki_certificate_of_profile(object->certificate.data, object->certificate.size, RPKI_CERTIFICATE_EE,
+                                            names, &wanted.certificate, &wanted.extensions);
     }
     count_allocations(0);
-    status = rpki_signed_object_checked(octets, size, strict, names, &out.object, &out.certificate, &out.extensions);
+    status = rpki_signed_object_of_profile(octets, size, strict, names, &out.object, &out.certificate, &out.extensions);
     clean = took_none();
     if (!clean || status != other) return false;
     if (status != RPKI_OK) return untouched(&out, sizeof out);

@@ -63,7 +63,7 @@ static const char *read_holder(struct rpki_span all, uint8_t profile, struct hol
     struct rpki_span key;
     uint8_t identifier[20];
     out->all = all;
-    if (rpki_certificate_checked(all.data, all.size, profile, true, &out->parts, &out->known) != RPKI_OK) {
+    if (rpki_certificate_of_profile(all.data, all.size, profile, true, &out->parts, &out->known) != RPKI_OK) {
         return "no certificate of the profile";
     }
     key = out->parts.public_key;

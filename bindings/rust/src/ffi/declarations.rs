@@ -678,7 +678,7 @@ extern "C" {
         out: *mut KnownExtension,
     ) -> Status;
     pub(super) fn rpki_certificate_inspect(octets: *const u8, size: usize, profile: u8, strict: bool) -> Status;
-    pub(super) fn rpki_certificate_checked(
+    pub(super) fn rpki_certificate_of_profile(
         octets: *const u8,
         size: usize,
         profile: u8,
@@ -716,7 +716,7 @@ extern "C" {
         out: *mut SignedObjectParts,
     ) -> Status;
     pub(super) fn rpki_signed_object_error(octets: *const u8, size: usize, strict: bool, error: *mut Status) -> Status;
-    pub(super) fn rpki_signed_object_checked(
+    pub(super) fn rpki_signed_object_of_profile(
         octets: *const u8,
         size: usize,
         attributes: bool,

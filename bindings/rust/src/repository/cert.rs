@@ -197,7 +197,7 @@ impl Cert {
 
     /// Reads a certificate, in one call where it keeps the profile of this number.
     pub(crate) fn read(octets: Bytes, profile: u8) -> Result<Self, CertError> {
-        if let Ok((found, extensions)) = ffi::certificate_checked(&octets, profile, true) {
+        if let Ok((found, extensions)) = ffi::certificate_of_profile(&octets, profile, true) {
             let kept = Arc::new(Kept::of(&octets, &extensions));
             return Ok(Cert::of(octets, found, Ok(kept), Some(profile)));
         }

@@ -276,7 +276,7 @@ impl SignedObject {
     pub fn decode(octets: impl IntoOctets, strict: bool) -> Result<Self, SignedObjectError> {
         let octets = octets.into_octets();
         let part = |part: ffi::Span| octets.slice(part.range(&octets));
-        let (found, cert) = match ffi::signed_object_checked(&octets, strict, true) {
+        let (found, cert) = match ffi::signed_object_of_profile(&octets, strict, true) {
             Ok((found, parts, extensions)) => (found, Cert::checked(part(found.certificate), parts, extensions)),
             // An object is read as well whose certificate is not of the profile.
             Err(_) => {

@@ -5,12 +5,12 @@ use Rattle.rpki_c.proofs.signer_resources.rpki_aspa_signer.Goals as goal
 
 pub returns-then-lists_numbers : goal.returns-then-lists_numbers
 returns-then-lists_numbers c =
-    let (x, h) = c.in-Ok.ensures.ok in
-    let said = c.lists_numbers.ensures x.tbs.extensions (listed h) in
-    inr (x, h.spelled, inl (refl, said.0 c.if-lists_numbers.true))
+    let (x, cert, has) = c.in-Ok.ensures.ok in
+    let said = c.lists_numbers.ensures x.tbs.extensions (listed cert) in
+    inr (x, c.in-Ok.read.1, has, inl (refl, said.0 c.if-lists_numbers.true))
 
 pub returns-else-lists_numbers : goal.returns-else-lists_numbers
 returns-else-lists_numbers c =
-    let (x, h) = c.in-Ok.ensures.ok in
-    let said = c.lists_numbers.ensures x.tbs.extensions (listed h) in
-    inr (x, h.spelled, inr (refl, iff_false said c.if-lists_numbers.false))
+    let (x, cert, has) = c.in-Ok.ensures.ok in
+    let said = c.lists_numbers.ensures x.tbs.extensions (listed cert) in
+    inr (x, c.in-Ok.read.1, has, inr (refl, iff_false said c.if-lists_numbers.false))

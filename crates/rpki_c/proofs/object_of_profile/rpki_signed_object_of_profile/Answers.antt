@@ -3,7 +3,7 @@ use Rattle.rpki_cert.specs.declared.profile.Profile.TheVariants.{Ee}
 use Rattle.rpki_cert.specs.Cert.{SpellsCert}
 use Rattle.rpki_c.specs.CertificateProfile.{HasAll}
 use Rattle.rpki_c.proofs.CertificateLaws.{refused-as}
-use Rattle.rpki_c.proofs.object_checked.rpki_signed_object_checked.Goals as goal
+use Rattle.rpki_c.proofs.object_of_profile.rpki_signed_object_of_profile.Goals as goal
 
 pub parts_of-requires : goal.parts_of-requires
 parts_of-requires c =

@@ -1,7 +1,7 @@
 use Rattle.std.proofs.Common.{inl, inr, refl}
 use Rattle.rpki_c.specs.CertificateProfile.IsRefusedAs.{WrongPart}
 use Rattle.rpki_c.proofs.CertificateLaws.{refused-as}
-use Rattle.rpki_c.proofs.certificate_checked.check.Goals as goal
+use Rattle.rpki_c.proofs.certificate_of_profile.check.Goals as goal
 
 pub extensions_of-requires : goal.extensions_of-requires
 extensions_of-requires c =

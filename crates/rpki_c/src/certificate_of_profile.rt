@@ -50,7 +50,7 @@ fn check<'a>(
 /// The status is 0. Else it is the first that these three calls have, in this order, but that 12, for another number of
 /// a profile, comes before the octets are looked at; and `parts` and `extensions` are unchanged. Nothing is allocated.
 #[unsafe(no_mangle)]
-pub extern "C" fn rpki_certificate_checked<'a>(
+pub extern "C" fn rpki_certificate_of_profile<'a>(
     octets: &'a [u8],
     profile: u8,
     strict: bool,
