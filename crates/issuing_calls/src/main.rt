@@ -5,12 +5,14 @@
 mod cert;
 mod checked;
 mod object;
+mod request;
 mod signing;
 mod words;
 
 use crate::cert::certificate;
 use crate::checked::{checked, issued, top};
 use crate::object::{aspa, list, manifest, object, roa};
+use crate::request::asked;
 use crate::words::Text;
 use std::alloc::Global;
 use std::io;
@@ -37,6 +39,7 @@ fn answer(alloc: Global, row: &str) -> Text {
         "checked" => checked(alloc, words),
         "issued" => issued(alloc, words),
         "top" => top(alloc, words),
+        "asked" => asked(alloc, words),
         _ => Err("usage"),
     }
 }

@@ -1,0 +1,15 @@
+use Rattle.std.proofs.Common.{◌≢◌, ℕ, List, rules, subst}
+use Rattle.rpki_der.specs.declared.error.DecodeError.{DecodeError}
+use Rattle.rpki_der.specs.declared.error.DecodeError.TheVariants.{OutOfMemory}
+use Rattle.rpki_der.proofs.InsideLaws.{read-whole-exactly}
+use Rattle.rpki_cert.specs.ExtensionContent.{constraints_content}
+use Rattle.rpki_cert.specs.ContentLaws.{constraints-never}
+use Rattle.rpki_request.proofs.extensions.read_constraints.Goals as goal
+
+never : (s : List ℕ) (e : DecodeError) → constraints_content.fault s e → e ≢ OutOfMemory
+never s e h z = constraints-never s (subst (constraints_content.fault s) z h)
+
+pub returns : goal.returns
+returns c =
+    read-whole-exactly (λ _. tt) constraints_content.spells constraints_content.fault never _
+    (λ b a x h. search rules) _ _ (rw c.from_slice.ensures at c.whole.ensures)
