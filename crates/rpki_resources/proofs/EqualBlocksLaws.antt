@@ -15,7 +15,7 @@ block-decides x y = Decides-and (nat_eq x.low y.low) (nat_eq x.high y.high) (Dec
 known : (b : Bool) → Decides b (b ≡ true)
 known b = (λ e. e, λ e. e)
 
-equal : (xs ys : List Block) → same_blocks xs ys ≡ true → xs ≡ ys
+pub equal : (xs ys : List Block) → same_blocks xs ys ≡ true → xs ≡ ys
 equal [] [] h = refl
 equal [] (y ∷ ys) h = absurd (cc)
 equal (x ∷ xs) [] h = absurd (cc)

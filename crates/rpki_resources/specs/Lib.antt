@@ -1,5 +1,6 @@
 -- Definitions: what the contracts say. They are trusted, and read against the standards.
 pub mod Blocks
+pub mod Items
 pub mod Union
 pub mod Composing
 pub mod Address

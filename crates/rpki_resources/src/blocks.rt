@@ -15,24 +15,34 @@ use crate::set::numbers_of;
 use crate::union::united;
 use crate::view::BlocksView;
 use std::alloc::{AllocError, Global};
+use std::cmp::Ordering;
 use std::marker::Model;
+use std::sync::Arc;
+
+/// The blocks of a set: its own, or those that it shares with its copies.
+#[derive(Debug, Drop)]
+enum Items {
+    Own(Vec<Block>),
+    Shared(Arc<Vec<Block>>),
+}
 
 /// A set of numbers, as the blocks that it is made of: in canonical form, so that a set has one list.
 #[derive(Debug, Drop)]
 pub struct Blocks {
-    items: Vec<Block>,
+    items: Items,
 }
 
 impl Model for Blocks {
     ghost use Rattle.std.specs.Prelude.{List};
     ghost use Rattle.rpki_resources.specs.declared.block.Block.{Block};
     ghost use Rattle.rpki_resources.specs.Blocks.{AreCanonical};
+    ghost use Rattle.rpki_resources.specs.Items.{items_of};
 
     ghost Value = { List Block };
 
-    ghost view = { λ x. x.items.items };
+    ghost view = { λ x. items_of x.items };
 
-    ghost invariant = { λ x. AreCanonical x.items.items };
+    ghost invariant = { λ x. AreCanonical (items_of x.items) };
 }
 
 /// A set of addresses of one family (RFC 3779 2.2.3.5).
@@ -111,12 +121,48 @@ fn is_among(number: u128, blocks: &[Block]) -> bool
 }
 
 impl Blocks {
+    /// The set of these blocks, which copies of it share.
+    ///
+    /// Returns `AllocError` if allocation fails, only where there is a block.
+    fn shared(alloc: Global, items: Vec<Block>) -> Result<Blocks, AllocError>
+        requires { AreCanonical items.items }
+        ensures same { IfOk result (λ x. x ≡ items.items) }
+        ensures memory { IfErr result (λ _. items.items ≢ []) }
+    {
+        if items.is_empty() {
+            return Ok(Blocks {
+                items: Items::Own(items),
+            });
+        }
+        match Arc::new(alloc, items) {
+            Ok(items) => Ok(Blocks {
+                items: Items::Shared(items),
+            }),
+            Err(_) => Err(AllocError),
+        }
+    }
+
+    /// The same set: if the other is equal, and its copies share its blocks, so does this one. It takes no memory.
+    pub(crate) fn sharing(self, other: &Blocks) -> Blocks
+        ensures { result ≡ self }
+    {
+        if self == *other {
+            if let Items::Shared(items) = &other.items {
+                if let Ok(items) = Arc::try_clone(items) {
+                    let items = Items::Shared(items);
+                    return Blocks { items };
+                }
+            }
+        }
+        self
+    }
+
     /// The empty set.
     pub fn empty(alloc: Global) -> Blocks
         ensures { result ≡ [] }
     {
         Blocks {
-            items: Vec::new(alloc),
+            items: Items::Own(Vec::new(alloc)),
         }
     }
 
@@ -128,7 +174,9 @@ impl Blocks {
         if !are_canonical(items.as_slice()) {
             return None;
         }
-        Some(Blocks { items })
+        Some(Blocks {
+            items: Items::Own(items),
+        })
     }
 
     /// The set of the numbers of these blocks, which may be in any order, overlap, and be empty. It takes n log n
@@ -139,7 +187,7 @@ impl Blocks {
         ensures numbers { IfOk result (λ x. AreNumbersOf blocks.now x) }
         ensures memory { IfErr result (λ _. blocks.now ≢ []) }
     {
-        let items = numbers_of(alloc, blocks)?;
+        let items = Items::Own(numbers_of(alloc, blocks)?);
         Ok(Blocks { items })
     }
 
@@ -154,7 +202,8 @@ impl Blocks {
         'each: while let Some(block) = rest.next_block() {
             items.push(block)?;
         }
-        Ok(Blocks { items })
+        let set = Blocks::shared(alloc, items)?;
+        Ok(set)
     }
 
     /// The blocks, in order.
@@ -162,14 +211,17 @@ impl Blocks {
         ensures blocks { result.now ≡ self.now }
         ensures canonical { AreCanonical self.now }
     {
-        self.items.as_slice()
+        match &self.items {
+            Items::Own(items) => items.as_slice(),
+            Items::Shared(items) => items.as_slice(),
+        }
     }
 
     /// Whether the set has no number.
     pub fn is_empty(&self) -> bool
         ensures { IsTrue result ↔ (self.now ≡ []) }
     {
-        self.items.is_empty()
+        self.as_slice().is_empty()
     }
 
     /// Whether the number is in the set.
@@ -195,9 +247,9 @@ impl Blocks {
         is_part(&[block], self.as_slice())
     }
 
-    /// A copy of the set, which is allocated once, if it has a number.
+    /// The same set. It shares the blocks, if these can be shared already; else they are copied once.
     ///
-    /// Returns `AllocError` if allocation fails, only where it has one.
+    /// Returns `AllocError` if allocation fails, only where it has a number.
     pub fn clone(&self, alloc: Global) -> Result<Blocks, AllocError>
         ensures copy { IfOk result (λ x. x ≡ self.now) }
         ensures memory { IfErr result (λ _. self.now ≢ []) }
@@ -205,8 +257,12 @@ impl Blocks {
         if self.is_empty() {
             return Ok(Blocks::empty(alloc));
         }
-        let items = Vec::from_slice(alloc, self.items.as_slice())?;
-        Ok(Blocks { items })
+        if let Items::Shared(items) = &self.items {
+            let items = Items::Shared(Arc::try_clone(items)?);
+            return Ok(Blocks { items });
+        }
+        let items = Vec::from_slice(alloc, self.as_slice())?;
+        Blocks::shared(alloc, items)
     }
 
     /// The numbers that are in both sets. It goes over the blocks of both once.
@@ -217,7 +273,7 @@ impl Blocks {
         ensures memory { IfErr result (λ _. (x : List Block) → AreShared self.now other.now x → x ≢ []) }
     {
         let items = shared(alloc, self.as_slice(), other.as_slice())?;
-        Ok(Blocks { items })
+        Blocks::shared(alloc, items)
     }
 
     /// The numbers that are in one of the sets, or in both. It goes over the blocks of both once.
@@ -227,7 +283,7 @@ impl Blocks {
         ensures union { IfOk result (λ x. AreUnited self.now other.now x) }
         ensures memory { IfErr result (λ _. (x : List Block) → AreUnited self.now other.now x → x ≢ []) }
     {
-        let items = united(alloc, self.as_slice(), other.as_slice())?;
+        let items = Items::Own(united(alloc, self.as_slice(), other.as_slice())?);
         Ok(Blocks { items })
     }
 
@@ -238,7 +294,7 @@ impl Blocks {
         ensures difference { IfOk result (λ x. AreLacking self.now other.now x) }
         ensures memory { IfErr result (λ _. (x : List Block) → AreLacking self.now other.now x → x ≢ []) }
     {
-        let items = lacking(alloc, self.as_slice(), other.as_slice())?;
+        let items = Items::Own(lacking(alloc, self.as_slice(), other.as_slice())?);
         Ok(Blocks { items })
     }
 }
@@ -262,4 +318,37 @@ impl Eq for Blocks {
     ghost use Rattle.rpki_resources.specs.EqualLaws.{same_blocks_equivalence};
 
     ghost laws = { same_blocks_equivalence };
+}
+
+/// Sets are in the order of their blocks, one after the other.
+impl PartialOrd for Blocks {
+    ghost use Rattle.std.specs.Prelude.{Some};
+    ghost use Rattle.rpki_resources.specs.Equal.{blocks_cmp};
+    ghost use Rattle.rpki_resources.specs.EqualLaws.{blocks_are_in_part_order};
+
+    ghost partial_cmp = { λ x y. Some (blocks_cmp x y) };
+
+    ghost laws = { blocks_are_in_part_order };
+
+    fn partial_cmp(&self, other: &Blocks) -> Option<Ordering> {
+        Some(self.cmp(other))
+    }
+}
+
+impl Ord for Blocks {
+    ghost use Rattle.std.specs.Prelude.{refl};
+    ghost use Rattle.rpki_resources.specs.Equal.{blocks_cmp};
+    ghost use Rattle.rpki_resources.specs.EqualLaws.{blocks_are_in_order, equal_blocks_are_level};
+
+    ghost cmp = { blocks_cmp };
+
+    ghost total = { blocks_are_in_order };
+
+    ghost matches_partial_cmp = { λ x y. refl };
+
+    ghost matches_eq = { equal_blocks_are_level };
+
+    fn cmp(&self, other: &Blocks) -> Ordering {
+        self.as_slice().cmp(other.as_slice())
+    }
 }

@@ -111,7 +111,10 @@ impl ResourcesChoice {
         match self {
             ResourcesChoice::Missing => Ok(Blocks::empty(alloc)),
             ResourcesChoice::Inherit => issuer.clone(alloc),
-            ResourcesChoice::Blocks(blocks) => blocks.intersection(alloc, issuer),
+            ResourcesChoice::Blocks(blocks) => {
+                let both = blocks.intersection(alloc, issuer)?;
+                Ok(both.sharing(issuer))
+            }
         }
     }
 }

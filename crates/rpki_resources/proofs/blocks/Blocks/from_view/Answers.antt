@@ -11,8 +11,8 @@ each-preserved c =
     (one-kept c.args.view.now c.each.items.items c.each.rest c.each.invariant (Some c.in-Some.block)
     c.next_block.new.self c.in-Some.ensures.given c.in-Some.block refl)
 
-pub invariant_of-result : goal.invariant_of-result
-invariant_of-result c =
+pub shared-requires : goal.shared-requires
+shared-requires c =
     let all = all-kept c.args.view.now c.each.items.items c.each.rest c.each.invariant None c.next_block.new.self
     c.in_default.ensures.given refl in
     kept-canonical c.args.view.now c.each.items.items
@@ -22,4 +22,4 @@ pub returns : goal.returns
 returns c =
     let all = all-kept c.args.view.now c.each.items.items c.each.rest c.each.invariant None c.next_block.new.self
     c.in_default.ensures.given refl in
-    held-only c.args.view.now c.each.items.items c.blocks-rest.ensures.held all
+    rw c.in_ok-set.ensures.same (held-only c.args.view.now c.each.items.items c.blocks-rest.ensures.held all)
