@@ -9,6 +9,9 @@
  * With HOSTS each authority N publishes on a host of its own: FOLDER/hN.example/repo. NUMBER is that of its manifest.
  * With SAME all route origins of an authority are one; the certificate of number ROAOF of each ends in ROAUNTIL.
  * OTHERLIST is an authority whose manifest's certificate names another list. With CAPITALS hosts are spelled with some.
+ * HEIRS authorities that publish nothing inherit from the first, which has HELD blocks of one address each beside 10/8;
+ * with TRIMMED they list all addresses, and have so much of that as it has (RFC 8360).
+ * With OUTSIDE the first route origin of an authority is of a prefix that its certificate doesn't have.
  */
 #include <openssl/evp.h>
 #include <openssl/pem.h>
@@ -297,8 +300,9 @@ int main(int count, char **words) {
     int n, width, roas, prefixes;
     FILE *kept;
     int crossings = getenv("CROSS") ? atoi(getenv("CROSS")) : 0, again = getenv("AGAIN") ? atoi(getenv("AGAIN")) : 0;
+    int heirs = getenv("HEIRS") ? atoi(getenv("HEIRS")) : 0, held = getenv("HELD") ? atoi(getenv("HELD")) : 0;
     struct key pool[POOL], *keys;
-    struct buf *entries, inherit, none = {NULL, 0};
+    struct buf *entries, inherit, everything, none = {NULL, 0};
     uint64_t number = getenv("NUMBER") ? (uint64_t)atoi(getenv("NUMBER")) : 7;
     (void)none;
     if (count != 7) return 2;
@@ -332,6 +336,8 @@ int main(int count, char **words) {
     }
     mkdir(folder, 0755);
     inherit = hexed("301030060402000105003006040200020500");
+    everything = seq(cat(2, seq(cat(2, hexed("04020001"), seq(hexed("030100")))),
+                         seq(cat(2, hexed("04020002"), seq(hexed("030100"))))));
     /* authority 0 is the trust anchor; the parent of i is (i - 1) / width; the leaves' blocks: /24s of 10/8 and on */
     for (int i = n - 1; i >= 0; i--) {
         int parent = i ? (i - 1) / width : 0;
@@ -368,6 +374,7 @@ int main(int count, char **words) {
                 /* one /28 of the authority's /24 a route origin */
                 uint32_t at = address + 16u * (uint32_t)(said % 16);
                 blocks = cat(2, blocks, prefix(at, 28));
+                if (r == 0 && getenv("OUTSIDE")) at += 16;
                 addresses = cat(2, addresses, seq(cat(2, prefix(at, 28), integer(28 + (uint64_t)(said % 4)))));
             } else {
                 for (int p = 0; p < prefixes; p++) {
@@ -424,6 +431,8 @@ int main(int count, char **words) {
             int numbers = getenv("ROUTERNUMBERS") ? atoi(getenv("ROUTERNUMBERS")) : 1;
             struct buf asn = integer((uint64_t)i);
             if (numbers > 1) asn = seq(cat(2, asn, integer((uint64_t)(i + numbers - 1))));
+            int blocks = getenv("ROUTERBLOCKS") ? atoi(getenv("ROUTERBLOCKS")) : 1;
+            for (int j = 1; j < blocks; j++) asn = cat(2, asn, integer((uint64_t)(i + 2 * j)));
             c = certificate(&point, "ROUTER-0000FC00", &keys[i], cn, 2, none, aia, crl, none, seq(tlv(0xa0, seq(asn))));
             keep(dir, "router.cer", c);
             listed = cat(2, listed, entry("router.cer", c));
@@ -472,6 +481,25 @@ int main(int count, char **words) {
                                        "0a",
                                        s2)),
                             aia, crl, seq(seq(cat(2, hexed("04020001"), seq(blocks)))), none);
+            trimmed = 0;
+            keep(dir, file, x);
+            listed = cat(2, listed, entry(file, x));
+            free(x.at);
+        }
+        for (int j = 0; i == 1 && j < heirs; j++) {
+            char heir[16], s1[128], s2[128];
+            struct buf x;
+            snprintf(heir, sizeof heir, "heir%d", j);
+            snprintf(s1, sizeof s1, "%s/%s/", base, heir);
+            snprintf(s2, sizeof s2, "%s/%s/m.mft", base, heir);
+            snprintf(file, sizeof file, "%s.cer", heir);
+            trimmed = getenv("TRIMMED") != NULL;
+            x = certificate(&pool[j % POOL], heir, &keys[i], cn, 1,
+                            cat(2, access("2b06010505073005", s1),
+                                access("2b060105050730"
+                                       "0a",
+                                       s2)),
+                            aia, crl, trimmed ? copy(everything) : copy(inherit), hexed("3004a0020500"));
             trimmed = 0;
             keep(dir, file, x);
             listed = cat(2, listed, entry(file, x));
@@ -551,13 +579,14 @@ int main(int count, char **words) {
             free(mft.at);
         }
         if (i == 0) {
-            ip = hexed("301630090402000130030301003009040200023003030100");
-            ip.size = 0;
-            ip = seq(cat(2, seq(cat(2, hexed("04020001"), seq(hexed("030100")))),
-                         seq(cat(2, hexed("04020002"), seq(hexed("030100"))))));
+            ip = copy(everything);
         } else {
             /* its own /24 and those of all below it: numbers in a tree lie apart, so all of 10/7 */
-            ip = seq(cat(2, seq(cat(2, hexed("04020001"), seq(prefix(0x0a000000u, 7)))),
+            struct buf blocks = i == 1 && held ? prefix(0x0a000000u, 8) : prefix(0x0a000000u, 7);
+            for (int k = 0; i == 1 && k < held; k++) {
+                blocks = cat(2, blocks, prefix(0x0b000001u + 2 * (uint32_t)k, 32));
+            }
+            ip = seq(cat(2, seq(cat(2, hexed("04020001"), seq(blocks))),
                          seq(cat(2, hexed("04020002"), seq(hexed("03050020010db8"))))));
         }
         c = certificate(&keys[i], cn, &keys[parent], pcn, 1,

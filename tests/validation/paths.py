@@ -2,6 +2,7 @@
 import contextlib
 import os
 import pty
+import resource
 import shutil
 import subprocess
 
@@ -41,6 +42,27 @@ def again(program, maker):
                 counts.append(instructions(*program.words(folder)))
         if counts:
             holds(f"twice as many certificates of itself{name}", counts[1] <= TWICE_AS_LONG * counts[0], counts)
+
+
+# Octets of memory, all that a run maps.
+ROOM = 64 << 20
+
+
+def inherited(program, maker):
+    """Authorities that inherit many blocks share them, and so do those of RFC 8360 that list all addresses: copies
+    would take more than the room."""
+    for name, variant in ("", {}), (", by RFC 8360", {"TRIMMED": "1"}):
+        folder = maker.repository(2, 2, 1, HEIRS="400", HELD="6000", **variant)
+
+        def narrow():
+            resource.setrlimit(resource.RLIMIT_AS, (ROOM, ROOM))
+
+        ended = subprocess.run(program.words(folder), stdout=subprocess.PIPE, stderr=subprocess.PIPE, check=False,
+                               preexec_fn=narrow)
+        faults = ended.stderr.decode()
+        holds(f"400 authorities inherit 6,000 blocks{name}", ended.returncode == 0, faults[-300:])
+        told = faults.count("RFC 9286 6.2: no manifest")
+        holds(f"400 authorities inherit 6,000 blocks{name}: each is looked at", told == 400, told)
 
 
 def stolen(program, maker):

@@ -44,6 +44,9 @@ REASONS = [
     ("a list is named by its host in capitals", None, {"CAPITALS": "1"}, [counted(18)]),
     ("a malformed object", None, {"BADROA": "1"},
      [*(f"{BASE}/d{it}/bad.roa: malformed: unexpected value" for it in range(1, AUTHORITIES + 1)), counted(18)]),
+    ("a prefix outside", None, {"OUTSIDE": "1"},
+     [*(f"{BASE}/d{it}/r0.roa: invalid: RFC 9582 5: prefix outside of the resources"
+        for it in range(1, AUTHORITIES + 1)), counted(12)]),
     ("no trust anchor", removed(0, "ca0.cer"), {}, anchor("RFC 8630 3: no trust anchor was fetched")),
     ("another key", another_key, {}, anchor("invalid: RFC 8630 3: key is not that of the locator")),
     ("another certificate", another_anchor, {},

@@ -12,8 +12,8 @@ use Rattle.rpki_valid.specs.Verified.{Holder}
 use Rattle.rpki_valid.specs.declared.resource.set.ResourceSet.{ResourceSet}
 use Rattle.rpki_validation.specs.Alike.{AreAlike, PublishTheSame}
 use Rattle.rpki_validation.specs.Met.{HasMark, HasPlaceMark, Inserts, InsertsMarkOf, InsertsPlaceOf, IsPlace, Mark}
-use Rattle.rpki_validation.specs.Met.{format_number, mark, numbers_of}
-use Rattle.rpki_validation.proofs.MetLaws.{head_of, same-numbers, tail_of}
+use Rattle.rpki_validation.specs.Met.{Kinds, format_number, kinds_of, mark}
+use Rattle.rpki_validation.proofs.MetLaws.{head_of, equal-parts, same-kinds, tail_of}
 
 same-format : (f g : PublicKeyFormat) → format_number f ≡ format_number g → f ≡ g
 same-format Rsa Rsa e = refl
@@ -39,7 +39,7 @@ marked-alike x y m h k =
       subject = sym h.name ∙ k.name;
       key = same-key x.cert.tbs.key y.cert.tbs.key (sym h.key ∙ k.key) (ap head_of e)
           (ap (λ (l : List ℕ). head_of (tail_of l)) e);
-      resources = same-numbers x.resources y.resources (ap (λ (l : List ℕ). tail_of (tail_of l)) e);
+      resources = same-kinds x.resources y.resources (sym h.resources ∙ k.resources);
       folder = λ uri. (λ s. (k.folder uri).1 ((h.folder uri).0 s), λ s. (h.folder uri).1 ((k.folder uri).0 s));
       manifest = λ uri. (
         λ s. (k.manifest uri).1 ((h.manifest uri).0 s),
@@ -60,10 +60,8 @@ alike-marked x y m h same = record {
     λ s. (h.manifest uri).0 ((same.manifest uri).1 s),
     λ e. (same.manifest uri).0 ((h.manifest uri).1 e),
   );
-  numbers = h.numbers
-      ∙ ap (λ (k : KeyParts). format_number k.format ∷ k.bits.unused ∷ numbers_of x.resources) same.key
-      ∙ ap (λ (r : ResourceSet). format_number y.cert.tbs.key.format ∷ y.cert.tbs.key.bits.unused ∷ numbers_of r)
-      same.resources;
+  numbers = h.numbers ∙ ap (λ (k : KeyParts). format_number k.format ∷ k.bits.unused ∷ []) same.key;
+  resources = h.resources ∙ ap kinds_of same.resources;
 }
 
 -- ---- one mark
@@ -77,11 +75,8 @@ same-place Has (Some p) q h k = sym ((k p).0 ((h p).1 refl))
 -- an authority has one mark
 pub one-mark : (x : Holder) (p q : Mark) → HasMark x p → HasMark x q → p ≡ q
 one-mark x p q h k =
-    ap (λ (o : List ℕ). mark o p.key p.folder p.manifest p.numbers) (h.name ∙ sym k.name)
-    ∙ ap (λ (o : List ℕ). mark q.name o p.folder p.manifest p.numbers) (h.key ∙ sym k.key)
-    ∙ ap (λ (o : Option (List ℕ)). mark q.name q.key o p.manifest p.numbers) (same-place _ _ _ h.folder k.folder)
-    ∙ ap (λ (o : Option (List ℕ)). mark q.name q.key q.folder o p.numbers) (same-place _ _ _ h.manifest k.manifest)
-    ∙ ap (λ (n : List ℕ). mark q.name q.key q.folder q.manifest n) (h.numbers ∙ sym k.numbers)
+    equal-parts p q (h.name ∙ sym k.name) (h.key ∙ sym k.key) (same-place _ _ _ h.folder k.folder)
+    (same-place _ _ _ h.manifest k.manifest) (h.numbers ∙ sym k.numbers) (h.resources ∙ sym k.resources)
 
 -- ---- publishing the same
 
@@ -142,6 +137,7 @@ same-placed x y m h same = record {
     λ e. (same.manifest uri).0 ((h.manifest uri).1 e),
   );
   numbers = h.numbers ∙ ap (λ (k : KeyParts). format_number k.format ∷ k.bits.unused ∷ []) same.key;
+  resources = h.resources;
 }
 
 -- ---- sets of marks
@@ -196,9 +192,5 @@ published-new old new a h k = h.2.fresh (subst (λ (m : Mark). Contains old m) (
   where
     one-place : (x : Holder) (p q : Mark) → HasPlaceMark x p → HasPlaceMark x q → p ≡ q
     one-place x p q h k =
-        ap (λ (o : List ℕ). mark o p.key p.folder p.manifest p.numbers) (h.name ∙ sym k.name)
-        ∙ ap (λ (o : List ℕ). mark q.name o p.folder p.manifest p.numbers) (h.key ∙ sym k.key)
-        ∙ ap (λ (o : Option (List ℕ)). mark q.name q.key o p.manifest p.numbers) (same-place _ _ _ h.folder k.folder)
-        ∙ ap (λ (o : Option (List ℕ)). mark q.name q.key q.folder o p.numbers)
-        (same-place _ _ _ h.manifest k.manifest)
-        ∙ ap (λ (n : List ℕ). mark q.name q.key q.folder q.manifest n) (h.numbers ∙ sym k.numbers)
+        equal-parts p q (h.name ∙ sym k.name) (h.key ∙ sym k.key) (same-place _ _ _ h.folder k.folder)
+        (same-place _ _ _ h.manifest k.manifest) (h.numbers ∙ sym k.numbers) (h.resources ∙ sym k.resources)

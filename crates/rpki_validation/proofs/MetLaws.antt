@@ -1,7 +1,7 @@
--- Authorities that were met: a mark is added to a set; numbers tell resources apart.
-use Rattle.std.proofs.Common.{◌≡◌, ◌++◌, ◌⊎◌, ◌∙◌, ◌||◌, not, inl, inr, ℕ, Bool, true, false}
-use Rattle.std.proofs.Common.{Option, Some, None, List, [], ◌∷◌, length, map, ap, subst, sym}
-use Rattle.std.proofs.Common.{refl, arith, append-nil, append_assoc, Ordering, Less, Equal, Greater}
+-- Authorities that were met: marks are in a total order, in which equal ones alone are level; a mark is added to a set.
+use Rattle.std.proofs.Common.{◌≡◌, ◌⊎◌, ◌∙◌, ◌<◌, ◌||◌, not, inl, inr, ℕ, Bool, true, false}
+use Rattle.std.proofs.Common.{Option, Some, None, List, [], ◌∷◌, map, ap, subst, sym}
+use Rattle.std.proofs.Common.{refl, arith, Ordering, Less, Equal, Greater}
 use Rattle.std.proofs.lemmas.List.Elements.{Contains-append_left, Contains-append_right, Contains-append_cases}
 use Rattle.std.proofs.lemmas.List.Elements.{Contains-push, Contains-push_cases}
 use Rattle.std.proofs.lemmas.Map.Lookups.{exact_bytes}
@@ -10,16 +10,18 @@ use Rattle.std.specs.Bool.{OnFalse, OnTrue}
 use Rattle.std.specs.Cmp.Lexicographic.{slice_cmp}
 use Rattle.std.specs.BTreeSet.{contains_by, insert_key}
 use Rattle.std.specs.BTreeMap.{is_at}
-use Rattle.std.proofs.lemmas.Cmp.{lists_total, nat_cmp_total, on_total, then_total, tied_itself}
+use Rattle.std.proofs.lemmas.Cmp.{lists_total, nat_cmp_total, on_total, ranked, then_total, tied_itself}
 use Rattle.std.specs.Cmp.{IsTotalOrder}
 use Rattle.std.specs.Cmp.Lexicographic.{options_total}
-use Rattle.rpki_validation.specs.Counts.{mark_cmp}
+use Rattle.rpki_validation.specs.Counts.{kinds_cmp, mark_cmp}
 use Rattle.std.specs.List.{Contains, list_any}
 use Rattle.std.specs.Option.{option_cmp}
-use Rattle.std.specs.Ordering.{is_eq, match_ordering, nat_cmp, ordering_then}
+use Rattle.std.specs.Ordering.{MatchOrdering, is_eq, match_ordering, nat_cmp, ordering_then}
 use Rattle.rpki_resources.specs.declared.block.Block.{Block}
+use Rattle.rpki_resources.specs.Equal.{block_cmp, blocks_cmp}
+use Rattle.rpki_resources.specs.EqualLaws.{blocks_are_in_order}
 use Rattle.rpki_valid.specs.declared.resource.set.ResourceSet.{ResourceSet}
-use Rattle.rpki_validation.specs.Met.{Mark, bounds, counted, numbers_of, mark, mark_in, marks_of, Inserts}
+use Rattle.rpki_validation.specs.Met.{Inserts, Kinds, Mark, kinds_of, mark, mark_in, marks_of}
 
 -- ---- lists
 
@@ -106,55 +108,108 @@ module _ {K M : Type 0} (cmp : K → K → Ordering) (f : K → M) (k : K)
       by more Equal c = inl c
       by more Greater c = later more (cons-cases (f x) (map f (insert_key cmp xs k)) m c)
 
-pub mark-total : IsTotalOrder mark_cmp
-mark-total =
-    then_total
-    (then_total
-    (then_total
-    (then_total (on_total (λ (m : Mark). m.name) (lists_total nat_cmp_total))
-    (on_total (λ (m : Mark). m.key) (lists_total nat_cmp_total)))
-    (on_total (λ (m : Mark). m.folder) (options_total (lists_total nat_cmp_total))))
-    (on_total (λ (m : Mark). m.manifest) (options_total (lists_total nat_cmp_total))))
-    (on_total (λ (m : Mark). m.numbers) (lists_total nat_cmp_total))
+-- ---- what is level in an order is equal
 
 pub both-equal : (o p : Ordering) → ordering_then o p ≡ Equal → (o ≡ Equal) × (p ≡ Equal)
 both-equal Less p e = grind (arith, e)
 both-equal Equal p e = (refl, e)
 both-equal Greater p e = grind (arith, e)
 
+pub nat-equal : (k n : ℕ) → nat_cmp k n ≡ Equal → k ≡ n
+nat-equal k n e = by (nat_cmp k n) e (ranked k n _ refl) where
+  by : (o : Ordering) → o ≡ Equal → MatchOrdering o (k < n) (k ≡ n) (n < k) → k ≡ n
+  by Less e h = absurd (cc)
+  by Equal e h = h
+  by Greater e h = absurd (cc)
+
+abbrev octets_cmp : List ℕ → List ℕ → Ordering
+octets_cmp = slice_cmp nat_cmp
+
+equal-option : (p q : Option (List ℕ)) → option_cmp octets_cmp p q ≡ Equal → p ≡ q
+equal-option None None e = refl
+equal-option None (Some q) e = grind (arith, e)
+equal-option (Some p) None e = grind (arith, e)
+equal-option (Some p) (Some q) e = ap (λ (o : List ℕ). Some o) (exact_bytes p q e)
+
+abbrev block : ℕ → ℕ → Block
+block low high = record { low = low; high = high }
+
+equal-blocks : (x y : List Block) → blocks_cmp x y ≡ Equal → x ≡ y
+equal-blocks [] [] e = refl
+equal-blocks [] (c ∷ cs) e = absurd (cc)
+equal-blocks (b ∷ bs) [] e = absurd (cc)
+equal-blocks (b ∷ bs) (c ∷ cs) e =
+    let k = both-equal (block_cmp b c) (blocks_cmp bs cs) e in
+    let one = both-equal (nat_cmp b.low c.low) (nat_cmp b.high c.high) k.0 in
+    ap (λ (n : ℕ). block n b.high ∷ bs) (nat-equal b.low c.low one.0)
+    ∙ ap (λ (n : ℕ). block c.low n ∷ bs) (nat-equal b.high c.high one.1)
+    ∙ ap (λ (l : List Block). c ∷ l) (equal-blocks bs cs k.1)
+
+abbrev kinds : List Block → List Block → List Block → Kinds
+kinds v4 v6 asn = (v4, v6, asn)
+
+equal-kinds : (x y : Kinds) → kinds_cmp x y ≡ Equal → x ≡ y
+equal-kinds x y e =
+    let two = both-equal _ _ e in
+    let one = both-equal _ _ two.0 in
+    ap (λ (l : List Block). kinds l x.1 x.2) (equal-blocks x.0 y.0 one.0)
+    ∙ ap (λ (l : List Block). kinds y.0 l x.2) (equal-blocks x.1 y.1 one.1)
+    ∙ ap (λ (l : List Block). kinds y.0 y.1 l) (equal-blocks x.2 y.2 two.1)
+
+pub equal-parts : (x y : Mark) → x.name ≡ y.name → x.key ≡ y.key → x.folder ≡ y.folder → x.manifest ≡ y.manifest
+    → x.numbers ≡ y.numbers → x.resources ≡ y.resources → x ≡ y
+equal-parts x y name key folder manifest numbers resources =
+    ap (λ (o : List ℕ). mark o x.key x.folder x.manifest x.numbers x.resources) name
+    ∙ ap (λ (o : List ℕ). mark y.name o x.folder x.manifest x.numbers x.resources) key
+    ∙ ap (λ (o : Option (List ℕ)). mark y.name y.key o x.manifest x.numbers x.resources) folder
+    ∙ ap (λ (o : Option (List ℕ)). mark y.name y.key y.folder o x.numbers x.resources) manifest
+    ∙ ap (λ (n : List ℕ). mark y.name y.key y.folder y.manifest n x.resources) numbers
+    ∙ ap (λ (k : Kinds). mark y.name y.key y.folder y.manifest y.numbers k) resources
+
+pub mark-equal : (x y : Mark) → mark_cmp x y ≡ Equal → x ≡ y
+mark-equal x y e =
+    let five = both-equal _ _ e in
+    let four = both-equal _ _ five.0 in
+    let three = both-equal _ _ four.0 in
+    let two = both-equal _ _ three.0 in
+    let one = both-equal _ _ two.0 in
+    equal-parts x y (exact_bytes x.name y.name one.0) (exact_bytes x.key y.key one.1)
+    (equal-option x.folder y.folder two.1) (equal-option x.manifest y.manifest three.1)
+    (exact_bytes x.numbers y.numbers four.1) (equal-kinds x.resources y.resources five.1)
+
+-- ---- the order
+
+kinds-total : IsTotalOrder kinds_cmp
+kinds-total =
+    then_total
+    (then_total (on_total (λ (k : Kinds). k.0) blocks_are_in_order) (on_total (λ (k : Kinds). k.1) blocks_are_in_order))
+    (on_total (λ (k : Kinds). k.2) blocks_are_in_order)
+
+pub mark-total : IsTotalOrder mark_cmp
+mark-total =
+    then_total
+    (then_total
+    (then_total
+    (then_total
+    (then_total (on_total (λ (m : Mark). m.name) (lists_total nat_cmp_total))
+    (on_total (λ (m : Mark). m.key) (lists_total nat_cmp_total)))
+    (on_total (λ (m : Mark). m.folder) (options_total (lists_total nat_cmp_total))))
+    (on_total (λ (m : Mark). m.manifest) (options_total (lists_total nat_cmp_total))))
+    (on_total (λ (m : Mark). m.numbers) (lists_total nat_cmp_total)))
+    (on_total (λ (m : Mark). m.resources) kinds-total)
+
 module _ {V : Type 0} (numbers : V → List ℕ) where
   abbrev pub Key : Type 0
-  Key = List ℕ × List ℕ × Option (List ℕ) × Option (List ℕ) × V
-
-  abbrev pub octets_cmp : List ℕ → List ℕ → Ordering
-  octets_cmp = slice_cmp nat_cmp
+  Key = List ℕ × List ℕ × Option (List ℕ) × Option (List ℕ) × V × Kinds
 
   abbrev pub Order : Key → Key → Ordering
   Order x y =
-      ordering_then (ordering_then (ordering_then (ordering_then (octets_cmp x.0 y.0) (octets_cmp x.1 y.1))
-      (option_cmp octets_cmp x.2 y.2)) (option_cmp octets_cmp x.3 y.3)) (octets_cmp (numbers x.4) (numbers y.4))
-
-  pub same-place : (p q : Option (List ℕ)) → option_cmp octets_cmp p q ≡ Equal → p ≡ q
-  same-place None None e = refl
-  same-place None (Some q) e = grind (arith, e)
-  same-place (Some p) None e = grind (arith, e)
-  same-place (Some p) (Some q) e = ap (λ (o : List ℕ). Some o) (exact_bytes p q e)
+      ordering_then (ordering_then (ordering_then (ordering_then (ordering_then (octets_cmp x.0 y.0)
+      (octets_cmp x.1 y.1)) (option_cmp octets_cmp x.2 y.2)) (option_cmp octets_cmp x.3 y.3))
+      (octets_cmp (numbers x.4) (numbers y.4))) (kinds_cmp x.5 y.5)
 
   pub same-mark : (x y : Key) → Order x y ≡ Equal → mark_in numbers x ≡ mark_in numbers y
-  same-mark x y e =
-      let four = both-equal (ordering_then (ordering_then (ordering_then (octets_cmp x.0 y.0) (octets_cmp x.1 y.1))
-      (option_cmp octets_cmp x.2 y.2)) (option_cmp octets_cmp x.3 y.3)) (octets_cmp (numbers x.4) (numbers y.4))
-      e in
-      let three = both-equal (ordering_then (ordering_then (octets_cmp x.0 y.0) (octets_cmp x.1 y.1))
-      (option_cmp octets_cmp x.2 y.2)) (option_cmp octets_cmp x.3 y.3) four.0 in
-      let two = both-equal (ordering_then (octets_cmp x.0 y.0) (octets_cmp x.1 y.1)) (option_cmp octets_cmp x.2 y.2)
-      three.0 in
-      let one = both-equal (octets_cmp x.0 y.0) (octets_cmp x.1 y.1) two.0 in
-      ap (λ (o : List ℕ). mark o x.1 x.2 x.3 (numbers x.4)) (exact_bytes x.0 y.0 one.0)
-      ∙ ap (λ (o : List ℕ). mark y.0 o x.2 x.3 (numbers x.4)) (exact_bytes x.1 y.1 one.1)
-      ∙ ap (λ (o : Option (List ℕ)). mark y.0 y.1 o x.3 (numbers x.4)) (same-place x.2 y.2 two.1)
-      ∙ ap (λ (o : Option (List ℕ)). mark y.0 y.1 y.2 o (numbers x.4)) (same-place x.3 y.3 three.1)
-      ∙ ap (λ (n : List ℕ). mark y.0 y.1 y.2 y.3 n) (exact_bytes (numbers x.4) (numbers y.4) four.1)
+  same-mark x y e = mark-equal (mark_in numbers x) (mark_in numbers y) e
 
   module _ (k : Key) where
     any-first : (b c : Bool) → b ≡ true → (b || c) ≡ true
@@ -206,7 +261,7 @@ module _ {V : Type 0} (numbers : V → List ℕ) where
     then true h = tt
     then false h = ap (λ (ks : List Key). map (mark_in numbers) ks) h
 
--- ---- numbers
+-- ---- numbers and resources
 
 abbrev pub head_of : List ℕ → ℕ
 head_of [] = 0
@@ -216,36 +271,9 @@ abbrev pub tail_of : List ℕ → List ℕ
 tail_of [] = []
 tail_of (x ∷ xs) = xs
 
-abbrev block : ℕ → ℕ → Block
-block low high = record { low = low; high = high }
-
-same-bounds : (bs cs : List Block) (more others : List ℕ) → length bs ≡ length cs
-    → bounds bs ++ more ≡ bounds cs ++ others → (bs ≡ cs) × (more ≡ others)
-same-bounds [] [] more others n e = (refl, e)
-same-bounds [] (c ∷ cs) more others n e = absurd (omega (arith, n))
-same-bounds (b ∷ bs) [] more others n e = absurd (omega (arith, n))
-same-bounds (b ∷ bs) (c ∷ cs) more others n e =
-    let low = ap head_of e in
-    let high = ap (λ (l : List ℕ). head_of (tail_of l)) e in
-    let rest = same-bounds bs cs more others (omega (arith, n)) (ap (λ (l : List ℕ). tail_of (tail_of l)) e) in
-    let first = ap (λ (l : ℕ). block l b.high ∷ bs) low ∙ ap (λ (h : ℕ). block c.low h ∷ bs) high in
-    (first ∙ ap (λ (l : List Block). c ∷ l) rest.0, rest.1)
-
-same-counted : (bs cs : List Block) (more others : List ℕ) → counted bs ++ more ≡ counted cs ++ others
-    → (bs ≡ cs) × (more ≡ others)
-same-counted bs cs more others e = same-bounds bs cs more others (ap head_of e) (ap tail_of e)
-
 abbrev resources_of : List Block → List Block → List Block → ResourceSet
 resources_of v4 v6 asn = record { ipv4 = v4; ipv6 = v6; asn = asn }
 
--- no other resources have these numbers
-pub same-numbers : (x y : ResourceSet) → numbers_of x ≡ numbers_of y → x ≡ y
-same-numbers x y e =
-    let whole = sym (append_assoc (counted x.ipv4) (counted x.ipv6) (counted x.asn)) ∙ e
-    ∙ append_assoc (counted y.ipv4) (counted y.ipv6) (counted y.asn) in
-    let v4 = same-counted x.ipv4 y.ipv4 (counted x.ipv6 ++ counted x.asn) (counted y.ipv6 ++ counted y.asn) whole in
-    let v6 = same-counted x.ipv6 y.ipv6 (counted x.asn) (counted y.asn) v4.1 in
-    let asn = same-counted x.asn y.asn [] [] (append-nil (counted x.asn) ∙ v6.1 ∙ sym (append-nil (counted y.asn))) in
-    ap (λ (b : List Block). resources_of b x.ipv6 x.asn) v4.0
-    ∙ ap (λ (b : List Block). resources_of y.ipv4 b x.asn) v6.0
-    ∙ ap (λ (b : List Block). resources_of y.ipv4 y.ipv6 b) asn.0
+-- no other resources are of these kinds
+pub same-kinds : (x y : ResourceSet) → kinds_of x ≡ kinds_of y → x ≡ y
+same-kinds x y e = ap (λ (k : Kinds). resources_of k.0 k.1 k.2) e

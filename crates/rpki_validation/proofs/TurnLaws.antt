@@ -4,11 +4,8 @@ use Rattle.std.proofs.Common.{◌∷◌, length, Option, Some, None, ap, arith, 
 use Rattle.std.proofs.Common.{Equal, Greater}
 use Rattle.std.proofs.lemmas.List.Elements.{Contains-append_left, Contains-push, Contains-push_cases}
 use Rattle.std.proofs.lemmas.Cmp.{ranked, nat_cmp_total, on_total, tied_itself, then_total, upto}
-use Rattle.std.proofs.lemmas.Map.Lookups.{exact_bytes}
 use Rattle.std.specs.Prelude.{◌↔◌, IsTrue}
 use Rattle.std.specs.Cmp.{IsTotalOrder}
-use Rattle.std.specs.Cmp.Lexicographic.{slice_cmp}
-use Rattle.std.specs.Option.{option_cmp}
 use Rattle.std.specs.List.{Contains}
 use Rattle.std.specs.Ordering.{MatchOrdering, is_gt, nat_cmp, ordering_reverse, ordering_then}
 use Rattle.rpki_locator.specs.declared.anchor_uri.AnchorUri.{AnchorUri}
@@ -20,7 +17,7 @@ use Rattle.rpki_validation.specs.Finding.{IsSole}
 use Rattle.rpki_validation.specs.Holding.{ReachedFor}
 use Rattle.rpki_validation.specs.Holding.ReachedFor.{Below}
 use Rattle.rpki_validation.specs.Levels.Reached.{Next}
-use Rattle.rpki_validation.specs.Met.{HasMark, Mark, mark}
+use Rattle.rpki_validation.specs.Met.{HasMark, Mark}
 use Rattle.rpki_validation.specs.Named.{IsNamedBelow}
 use Rattle.rpki_validation.specs.Reached.{IsBelow, IsFirstAnchor}
 use Rattle.rpki_validation.specs.Snapshot.{Published}
@@ -29,7 +26,7 @@ use Rattle.rpki_validation.specs.Waiting.{Entry, HasKey, Key, key_cmp}
 use Rattle.rpki_validation.proofs.AlikeLaws.{alike-then}
 use Rattle.rpki_validation.proofs.MarkLaws.{IsMet, IsPublished, alike-same, marked-alike, one-mark}
 use Rattle.rpki_validation.proofs.MarkLaws.{same-then}
-use Rattle.rpki_validation.proofs.MetLaws.{both-equal, cons-cases, head-in, mark-total, tail-in}
+use Rattle.rpki_validation.proofs.MetLaws.{both-equal, cons-cases, head-in, mark-equal, mark-total, nat-equal, tail-in}
 use Rattle.rpki_validation.proofs.TraceLaws.{Done, For, In, IsEntry, IsTrace, Named, PlaceOf, Queued, Turn, entry-waits}
 use Rattle.rpki_validation.proofs.TraceLaws.{queued-cases, queued-more, waits-queued}
 
@@ -78,31 +75,6 @@ middle : (o : Ordering) → is_gt o ≡ false → (o ≡ Less → ⊥) → o ≡
 middle Less g n = absurd (n refl)
 middle Equal g n = refl
 middle Greater g n = absurd (cc)
-
-pub nat-equal : (k n : ℕ) → nat_cmp k n ≡ Equal → k ≡ n
-nat-equal k n e = by (nat_cmp k n) e (ranked k n _ refl) where
-  by : (o : Ordering) → o ≡ Equal → MatchOrdering o (k < n) (k ≡ n) (n < k) → k ≡ n
-  by Less e h = absurd (cc)
-  by Equal e h = h
-  by Greater e h = absurd (cc)
-
-same-option : (p q : Option (List ℕ)) → option_cmp (slice_cmp nat_cmp) p q ≡ Equal → p ≡ q
-same-option None None e = refl
-same-option None (Some q) e = grind (arith, e)
-same-option (Some p) None e = grind (arith, e)
-same-option (Some p) (Some q) e = ap (λ (o : List ℕ). Some o) (exact_bytes p q e)
-
-mark-equal : (x y : Mark) → mark_cmp x y ≡ Equal → x ≡ y
-mark-equal x y e =
-    let four = both-equal _ _ e in
-    let three = both-equal _ _ four.0 in
-    let two = both-equal _ _ three.0 in
-    let one = both-equal _ _ two.0 in
-    ap (λ (o : List ℕ). mark o x.key x.folder x.manifest x.numbers) (exact_bytes x.name y.name one.0)
-    ∙ ap (λ (o : List ℕ). mark y.name o x.folder x.manifest x.numbers) (exact_bytes x.key y.key one.1)
-    ∙ ap (λ (o : Option (List ℕ)). mark y.name y.key o x.manifest x.numbers) (same-option x.folder y.folder two.1)
-    ∙ ap (λ (o : Option (List ℕ)). mark y.name y.key y.folder o x.numbers) (same-option x.manifest y.manifest three.1)
-    ∙ ap (λ (n : List ℕ). mark y.name y.key y.folder y.manifest n) (exact_bytes x.numbers y.numbers four.1)
 
 turn-equal : (s t : ℕ × Mark) → turn_cmp s t ≡ Equal → (s.0 ≡ t.0) × (s.1 ≡ t.1)
 turn-equal s t e = let k = both-equal _ _ e in (nat-equal s.0 t.0 k.0, mark-equal s.1 t.1 k.1)

@@ -14,9 +14,9 @@ use Rattle.rpki_validation.specs.Basis.{holder_of}
 use Rattle.rpki_validation.specs.Met.{HasMark, Mark, mark_in}
 use Rattle.rpki_validation.specs.Waiting.{AddsWaiting, Entry, IsFirstWaiting, entries_of, key_cmp, key_of}
 use Rattle.rpki_validation.specs.Waiting as waiting
-use Rattle.rpki_validation.proofs.MetLaws.{Order, both-equal, cons-cases, head-in, none-in, same-mark, tail-in}
+use Rattle.rpki_validation.proofs.MetLaws.{Order, both-equal, cons-cases, head-in, nat-equal, none-in, same-mark}
+use Rattle.rpki_validation.proofs.MetLaws.{tail-in}
 use Rattle.rpki_validation.proofs.MetLaws as met
-use Rattle.rpki_validation.proofs.TurnLaws.{nat-equal}
 
 -- a key stands for f of it, and equal keys for the same
 module _ {K J X : Type 0} (cmp : K → K → Ordering) (f : K → J) (k : K) (x : X)

@@ -7,10 +7,11 @@ use Rattle.std.specs.declared.cmp.Ordering.TheVariants.{Less}
 use Rattle.std.specs.Option.{option_cmp}
 use Rattle.std.specs.Ordering.{nat_cmp, ordering_then}
 use Rattle.rpki_locator.specs.declared.anchor_uri.AnchorUri.{AnchorUri}
+use Rattle.rpki_resources.specs.Equal.{blocks_cmp}
 use Rattle.rpki_valid.specs.Verified.{Holder}
 use Rattle.rpki_validation.specs.Alike.{PublishTheSame}
 use Rattle.rpki_validation.specs.Basis.{Basis}
-use Rattle.rpki_validation.specs.Met.{HasMark, Mark}
+use Rattle.rpki_validation.specs.Met.{HasMark, Kinds, Mark}
 use Rattle.rpki_validation.specs.Named.{IsNamed}
 use Rattle.rpki_validation.specs.Reached.{IsBelow}
 use Rattle.rpki_validation.specs.Snapshot.{Published}
@@ -20,12 +21,15 @@ use Rattle.rpki_validation.specs.Snapshot.{Published}
 abbrev octets_cmp : List ℕ → List ℕ → Ordering
 octets_cmp = slice_cmp nat_cmp
 
+abbrev pub kinds_cmp : Kinds → Kinds → Ordering
+kinds_cmp x y = ordering_then (ordering_then (blocks_cmp x.0 y.0) (blocks_cmp x.1 y.1)) (blocks_cmp x.2 y.2)
+
 -- by what tells authorities apart: name, key, places, and resources
 abbrev pub mark_cmp : Mark → Mark → Ordering
 mark_cmp x y =
-    ordering_then (ordering_then (ordering_then (ordering_then (octets_cmp x.name y.name) (octets_cmp x.key y.key))
-    (option_cmp octets_cmp x.folder y.folder)) (option_cmp octets_cmp x.manifest y.manifest))
-    (octets_cmp x.numbers y.numbers)
+    ordering_then (ordering_then (ordering_then (ordering_then (ordering_then (octets_cmp x.name y.name)
+    (octets_cmp x.key y.key)) (option_cmp octets_cmp x.folder y.folder)) (option_cmp octets_cmp x.manifest y.manifest))
+    (octets_cmp x.numbers y.numbers)) (kinds_cmp x.resources y.resources)
 
 -- by fewer steps first
 abbrev pub turn_cmp : ℕ × Mark → ℕ × Mark → Ordering

@@ -1,6 +1,5 @@
 -- Authorities that were met, by what tells them apart.
-use Rattle.std.specs.Prelude.{◌≡◌, ◌↔◌, ◌++◌, ◌⊎◌, ℕ, Bool, List, [], ◌∷◌, length, map, Option, Some, None, Result}
-use Rattle.std.specs.Prelude.{Ok, Err}
+use Rattle.std.specs.Prelude.{◌≡◌, ◌↔◌, ◌⊎◌, ℕ, Bool, List, [], ◌∷◌, map, Option, Some, None, Result, Ok, Err}
 use Rattle.std.specs.BTreeSet.{BTreeSet}
 use Rattle.std.specs.Bool.{OnFalse, OnTrue}
 use Rattle.std.specs.List.{Contains}
@@ -14,39 +13,40 @@ use Rattle.rpki_validation.specs.declared.stop.Stop.{Stop}
 use Rattle.rpki_validation.specs.declared.stop.Stop.TheVariants.{Rejected, OutOfMemory}
 use Rattle.rpki_validation.specs.Publication.{HasManifest, HasRepository, IsAt, place_text}
 
--- ---- numbers
+-- ---- numbers and resources
 
--- the lowest and the highest number of each block
-abbrev pub bounds : List Block → List ℕ
-bounds [] = []
-bounds (b ∷ bs) = b.low ∷ b.high ∷ bounds bs
+-- resources of the three kinds
+abbrev pub Kinds : Type 0
+Kinds = List Block × List Block × List Block
 
--- their count in front
-abbrev pub counted : List Block → List ℕ
-counted bs = length bs ∷ bounds bs
+abbrev pub kinds_of : ResourceSet → Kinds
+kinds_of x = (x.ipv4, x.ipv6, x.asn)
 
--- resources as numbers, which no others have
-abbrev pub numbers_of : ResourceSet → List ℕ
-numbers_of x = counted x.ipv4 ++ counted x.ipv6 ++ counted x.asn
-
--- an algorithm's
+-- an algorithm's number
 abbrev pub format_number : PublicKeyFormat → ℕ
 format_number Rsa = 0
 format_number EcdsaP256 = 1
 
 -- ---- marks
 
--- what tells an authority apart: its name, its key's bits, where it publishes, and numbers
+-- what tells an authority apart: its name, its key's bits, where it publishes, numbers of the key, and its resources
 pub record Mark : Type 0 where
   pub name : List ℕ
   pub key : List ℕ
   pub folder : Option (List ℕ)
   pub manifest : Option (List ℕ)
   pub numbers : List ℕ
+  pub resources : Kinds
 
-abbrev pub mark : List ℕ → List ℕ → Option (List ℕ) → Option (List ℕ) → List ℕ → Mark
-mark name key folder manifest numbers =
-    record { name = name; key = key; folder = folder; manifest = manifest; numbers = numbers }
+abbrev pub mark : List ℕ → List ℕ → Option (List ℕ) → Option (List ℕ) → List ℕ → Kinds → Mark
+mark name key folder manifest numbers resources = record {
+  name = name;
+  key = key;
+  folder = folder;
+  manifest = manifest;
+  numbers = numbers;
+  resources = resources;
+}
 
 -- the URI is that which is named, or none is
 abbrev pub IsPlace : (List ℕ → Type 0) → Option (List ℕ) → Type 0
@@ -59,6 +59,7 @@ pub record HasPlaceMark (x : Holder) (m : Mark) : Type 0 where
   pub folder : IsPlace (IsAt (HasRepository x.cert.tbs)) m.folder
   pub manifest : IsPlace (IsAt (HasManifest x.cert.tbs)) m.manifest
   pub numbers : m.numbers ≡ format_number x.cert.tbs.key.format ∷ x.cert.tbs.key.bits.unused ∷ []
+  pub resources : m.resources ≡ ([], [], [])
 
 -- that of the authority itself
 pub record HasMark (x : Holder) (m : Mark) : Type 0 where
@@ -66,8 +67,8 @@ pub record HasMark (x : Holder) (m : Mark) : Type 0 where
   pub key : m.key ≡ x.cert.tbs.key.bits.octets
   pub folder : IsPlace (HasRepository x.cert.tbs) m.folder
   pub manifest : IsPlace (HasManifest x.cert.tbs) m.manifest
-  pub numbers : m.numbers
-      ≡ format_number x.cert.tbs.key.format ∷ x.cert.tbs.key.bits.unused ∷ numbers_of x.resources
+  pub numbers : m.numbers ≡ format_number x.cert.tbs.key.format ∷ x.cert.tbs.key.bits.unused ∷ []
+  pub resources : m.resources ≡ kinds_of x.resources
 
 -- the name, the key's bits, and numbers of the key
 pub record HasKeyMarks (t : TbsParts) (subject octets counts : List ℕ) : Type 0 where
@@ -91,10 +92,10 @@ IsPlaceIn (Err OutOfMemory) place = ⊥
 
 module _ {V : Type 0} (numbers : V → List ℕ) where
   -- what a key of a set is
-  abbrev pub mark_in : List ℕ × List ℕ × Option (List ℕ) × Option (List ℕ) × V → Mark
-  mark_in k = mark k.0 k.1 k.2 k.3 (numbers k.4)
+  abbrev pub mark_in : List ℕ × List ℕ × Option (List ℕ) × Option (List ℕ) × V × Kinds → Mark
+  mark_in k = mark k.0 k.1 k.2 k.3 (numbers k.4) k.5
 
-  abbrev pub marks_of : BTreeSet (List ℕ × List ℕ × Option (List ℕ) × Option (List ℕ) × V) → List Mark
+  abbrev pub marks_of : BTreeSet (List ℕ × List ℕ × Option (List ℕ) × Option (List ℕ) × V × Kinds) → List Mark
   marks_of s = map mark_in s.keys
 
 -- exactly the mark is added; or it was there, and nothing is

@@ -9,7 +9,7 @@ use Rattle.std.specs.declared.cmp.Ordering.{Ordering}
 use Rattle.rpki_valid.specs.Verified.{Authority}
 use Rattle.rpki_validation.specs.Basis.{holder_of}
 use Rattle.rpki_validation.specs.Counts.{turn_cmp}
-use Rattle.rpki_validation.specs.Met.{HasMark, Mark, mark_in}
+use Rattle.rpki_validation.specs.Met.{HasMark, Kinds, Mark, mark_in}
 use Rattle.rpki_validation.specs.Named.{IsNamedFrom}
 use Rattle.rpki_validation.specs.Snapshot.{Published, Where}
 
@@ -25,9 +25,9 @@ key_cmp x y = ordering_then (bool_cmp x.0 y.0) (turn_cmp x.1 y.1)
 abbrev pub Entry : Type 0 → Type 0
 Entry X = Key × Authority X
 
--- a key of the map: the mark's octets, and its numbers as they are kept
+-- a key of the map: the mark, its numbers as they are kept
 abbrev pub Kept : Type 0 → Type 0
-Kept V = Bool × ℕ × (List ℕ × List ℕ × Option (List ℕ) × Option (List ℕ) × V)
+Kept V = Bool × ℕ × (List ℕ × List ℕ × Option (List ℕ) × Option (List ℕ) × V × Kinds)
 
 module _ {V : Type 0} (numbers : V → List ℕ) where
   abbrev pub key_of : Kept V → Key

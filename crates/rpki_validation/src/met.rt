@@ -1,9 +1,9 @@
 //! Authorities that were met.
 
-ghost use Rattle.std.specs.Prelude.{◌≡◌, ◌++◌, [], IfOk};
+ghost use Rattle.std.specs.Prelude.{◌≡◌, [], IfOk};
 ghost use Rattle.rpki_valid.specs.Verified.{IsVerified, verified_by};
 ghost use Rattle.rpki_validation.specs.Basis.{holder_of};
-ghost use Rattle.rpki_validation.specs.Met.{counted, format_number, numbers_of, mark_in};
+ghost use Rattle.rpki_validation.specs.Met.{format_number, kinds_of, mark_in};
 ghost use Rattle.rpki_validation.specs.Met.{HasKeyMarks, HasMark, HasPlaceMark, InsertsMarkOf, InsertsPlaceOf};
 ghost use Rattle.rpki_validation.specs.Met.{IsPlaceIn, IsUriIn};
 ghost use Rattle.rpki_validation.specs.Publication.{place_text};
@@ -21,9 +21,12 @@ use std::alloc::{AllocError, Global};
 use std::collections::BTreeSet;
 use std::marker::Model;
 
-/// What tells an authority apart: its name, its key's bits, the URIs of its folder and its manifest, and numbers: the
-/// algorithm of the key, its count of unused bits, and the resources. Octets are compared, and no digests of them.
-pub(crate) type Mark = (Bytes, Bytes, Option<Bytes>, Option<Bytes>, Vec<u128>);
+/// Resources of the three kinds: addresses of IP version 4, of version 6, and AS numbers.
+type Kinds = (Blocks, Blocks, Blocks);
+
+/// What tells an authority apart: its name, its key's bits, the URIs of its folder and its manifest, numbers (the
+/// algorithm of the key, and its count of unused bits), and its resources. Octets are compared, and no digests of them.
+pub(crate) type Mark = (Bytes, Bytes, Option<Bytes>, Option<Bytes>, Vec<u128>, Kinds);
 
 /// Authorities that were met.
 #[derive(Drop)]
@@ -40,28 +43,14 @@ impl Model for Met {
     ghost view = { λ x. marks_of (λ v. v.items) x.marks };
 }
 
-/// Adds the blocks to the numbers: their count, then the lowest and the highest number of each.
-fn push_blocks(blocks: &Blocks, numbers: &mut Vec<u128>) -> Result<(), AllocError>
-    ensures { IfOk result (λ _. numbers.new.items ≡ numbers.old.items ++ counted blocks.now) }
+/// The resources, whose blocks are shared.
+fn kinds_of(alloc: Global, resources: &ResourceSet) -> Result<Kinds, AllocError>
+    ensures { IfOk result (λ kinds. kinds ≡ kinds_of resources.now) }
 {
-    let mut rest = blocks.as_slice();
-    numbers.push(rest.len() as u128)?;
-    'blocks: while let Some((block, following)) = rest.split_first() {
-        numbers.push(block.low)?;
-        numbers.push(block.high)?;
-        rest = following;
-    }
-    Ok(())
-}
-
-/// Adds the resources to the numbers.
-fn push_resources(resources: &ResourceSet, numbers: &mut Vec<u128>) -> Result<(), AllocError>
-    ensures { IfOk result (λ _. numbers.new.items ≡ numbers.old.items ++ numbers_of resources.now) }
-{
-    push_blocks(&resources.ipv4, numbers)?;
-    push_blocks(&resources.ipv6, numbers)?;
-    push_blocks(&resources.asn, numbers)?;
-    Ok(())
+    let ipv4 = resources.ipv4.clone(alloc)?;
+    let ipv6 = resources.ipv6.clone(alloc)?;
+    let asn = resources.asn.clone(alloc)?;
+    Ok((ipv4, ipv6, asn))
 }
 
 /// The number of a key's algorithm.
@@ -139,7 +128,12 @@ fn place_mark_of<'p, P: PreparingProvider>(
     let (name, bits, numbers) = key_marks(alloc, tbs)?;
     let folder = place_in(alloc, repository_of(alloc, tbs))?;
     let manifest = place_in(alloc, manifest_place(alloc, tbs))?;
-    Ok((name, bits, folder, manifest, numbers))
+    let none = (
+        Blocks::empty(alloc),
+        Blocks::empty(alloc),
+        Blocks::empty(alloc),
+    );
+    Ok((name, bits, folder, manifest, numbers, none))
 }
 
 /// The mark of the authority.
@@ -152,11 +146,11 @@ pub(crate) fn mark_of<'p, P: PreparingProvider>(
     ensures verified { IfOk result (λ _. IsVerified (verified_by P.Provider authority.now)) }
 {
     let tbs = authority.cert().tbs();
-    let (name, bits, mut numbers) = key_marks(alloc, tbs)?;
+    let (name, bits, numbers) = key_marks(alloc, tbs)?;
     let folder = uri_in(repository_of(alloc, tbs))?;
     let manifest = uri_in(manifest_place(alloc, tbs))?;
-    push_resources(authority.resources(), &mut numbers)?;
-    Ok((name, bits, folder, manifest, numbers))
+    let resources = kinds_of(alloc, authority.resources())?;
+    Ok((name, bits, folder, manifest, numbers, resources))
 }
 
 impl Met {

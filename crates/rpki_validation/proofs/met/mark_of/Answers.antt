@@ -1,11 +1,10 @@
-use Rattle.std.proofs.Common.{◌++◌, ◌∷◌, ◌∙◌, List, ℕ, Option, Ok, Err, Result, ap, sym, subst}
+use Rattle.std.proofs.Common.{◌∙◌, List, ℕ, Option, Ok, Err, Result, ap, sym, subst}
 use Rattle.rpki_cert.specs.Cert.{CertParts, TbsParts}
-use Rattle.rpki_valid.specs.declared.resource.set.ResourceSet.{ResourceSet}
 use Rattle.rpki_validation.specs.declared.reason.Reason.{Reason}
 use Rattle.rpki_validation.specs.declared.stop.Stop.{Stop}
 use Rattle.rpki_validation.specs.declared.stop.Stop.TheVariants.{Rejected, OutOfMemory}
 use Rattle.rpki_validation.specs.Finding.{Finds}
-use Rattle.rpki_validation.specs.Met.{HasKeyMarks, IsPlace, IsUriIn, format_number, numbers_of}
+use Rattle.rpki_validation.specs.Met.{HasKeyMarks, IsPlace, IsUriIn, kinds_of}
 use Rattle.rpki_validation.specs.Publication.{HasManifest, HasRepository, IsNoManifestPlace, IsNoRepository}
 use Rattle.rpki_validation.proofs.PlaceLaws.{place-found, place-none}
 use Rattle.rpki_validation.proofs.met.mark_of.Goals as goal
@@ -20,7 +19,6 @@ named Has Why (Err OutOfMemory) place h e = absurd e
 pub returns-clause-mark : goal.returns-clause-mark
 returns-clause-mark g c =
     let tbs = c.args.authority.now.cert.tbs in
-    let key = tbs.key in
     let is = c.tbs-tbs.ensures ∙ ap (λ (x : CertParts). x.tbs) c.cert.ensures.value in
     let own = subst (λ (t : TbsParts). HasKeyMarks t c.in_ok-name.name c.in_ok-name.bits c.in_ok-name.numbers.items) is
     c.in_ok-name.ensures in
@@ -33,7 +31,6 @@ returns-clause-mark g c =
       manifest = named (HasManifest tbs) (IsNoManifestPlace tbs) c.manifest_place.result c.in_ok-manifest.manifest
           (subst (λ (t : TbsParts). Finds (λ x. x) (HasManifest t) (IsNoManifestPlace t) c.manifest_place.result) is
           c.manifest_place.ensures) c.in_ok-manifest.ensures;
-      numbers = c.in_ok-push_resources.ensures
-          ∙ ap (λ (l : List ℕ). l ++ numbers_of c.resources.result.now) own.numbers
-          ∙ ap (λ (r : ResourceSet). format_number key.format ∷ key.bits.unused ∷ numbers_of r) c.resources.ensures;
+      numbers = own.numbers;
+      resources = c.in_ok-resources.ensures ∙ ap kinds_of c.resources.ensures;
     }

@@ -1,5 +1,6 @@
-use Rattle.std.proofs.Common.{List, ℕ, Option, Ok, Err, Result, ap, sym, subst, ◌∙◌}
+use Rattle.std.proofs.Common.{List, [], ℕ, Option, Ok, Err, Result, ap, sym, subst, ◌∙◌}
 use Rattle.rpki_cert.specs.Cert.{CertParts, TbsParts}
+use Rattle.rpki_resources.specs.declared.block.Block.{Block}
 use Rattle.rpki_validation.specs.declared.reason.Reason.{Reason}
 use Rattle.rpki_validation.specs.declared.stop.Stop.{Stop}
 use Rattle.rpki_validation.specs.declared.stop.Stop.TheVariants.{Rejected, OutOfMemory}
@@ -32,4 +33,7 @@ returns g c =
           (subst (λ (t : TbsParts). Finds (λ x. x) (HasManifest t) (IsNoManifestPlace t) c.manifest_place.result) is
           c.manifest_place.ensures) c.in_ok-manifest.ensures;
       numbers = own.numbers;
+      resources = ap (λ (l : List Block). (l, c.empty-2.result, c.empty-3.result)) c.empty.ensures
+          ∙ ap (λ (l : List Block). ([], l, c.empty-3.result)) c.empty-2.ensures
+          ∙ ap (λ (l : List Block). ([], [], l)) c.empty-3.ensures;
     }
