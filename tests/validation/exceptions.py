@@ -264,6 +264,8 @@ def numbers(count, odd):
     return [{"asn": 2 * it + odd} for it in range(count)]
 
 
+# The first address of a route origin with many prefixes.
+LOWEST = ipaddress.ip_address("10.0.1.0")
 LOW, LAST = ipaddress.ip_address("2001:db8::"), {"prefix": "203.0.113.0/24"}
 SHARED = "203.0.113.0/24 and 203.0.113.0/24 overlap"
 # A name, what a file of many exceptions has, the first and the other one, and what is said of the two: the last is in
@@ -287,6 +289,61 @@ def instructions(path, *words):
     return int(re.search(rb"Collected : (\d+)", ended.stderr)[1])
 
 
+# A name, and that many filters, of which none matches an even address.
+MANY_FILTERS = (("prefixes", lambda count: addresses(count, 1)),
+                ("prefixes and AS numbers",
+                 lambda count: [{"asn": it, **one} for it, one in enumerate(addresses(count, 1))]),
+                ("AS numbers", lambda count: [{"asn": it} for it in range(count)]))
+
+
+def filtered(program, maker, file, name, of):
+    """Many payloads and as many filters, and twice as many of both."""
+    counts = []
+    for count in (2_000, 4_000):
+        folder = maker.repository(1, 1, 1, prefixes=count)
+        lines = [f"AS64528,{LOWEST + 2 * it}/32,32,example" for it in range(count)]
+        edit(file, json.dumps(slurm(of(count)), separators=(",", ":")).encode())
+        program.holds(f"exceptions: {count} {name} and payloads", folder, lines, 0, "--exceptions", file)
+        if shutil.which("valgrind"):
+            counts.append(instructions(*program.words(folder, "--exceptions", file)))
+    if counts:
+        holds(f"exceptions: twice as many {name} and payloads", counts[1] <= TWICE_AS_LONG * counts[0], counts)
+
+
+# Octets that identify no key of a repository.
+OTHER = url_safe(bytes(range(20)))
+# A name, what the certificate of the router has, and that many filters of keys; which of its AS numbers are left. Its
+# certificate has so many odd numbers, or all up to twice as many.
+MANY_KEYS = (("AS numbers of keys", "ROUTERBLOCKS", lambda count, ski: [{"asn": 2 * it} for it in range(count)],
+              lambda count: range(1, 2 * count, 2)),
+             ("identifiers", "ROUTERBLOCKS", lambda count, ski: [{"SKI": url_safe(it.to_bytes(20, "big"))}
+                                                                for it in range(count)],
+              lambda count: range(1, 2 * count, 2)),
+             ("identifiers and AS numbers", "ROUTERBLOCKS",
+              lambda count, ski: [{"asn": 2 * it + 1, "SKI": ski if it % 2 else OTHER} for it in range(count)],
+              lambda count: range(1, 2 * count, 4)),
+             ("AS numbers of one key", "ROUTERNUMBERS", lambda count, ski: [{"asn": it} for it in range(0, count, 2)],
+              lambda count: range(1, count, 2)))
+
+
+def keys_filtered(program, maker, file, name, made, of, left):
+    """Many keys of routers and as many filters, and twice as many of both."""
+    counts = []
+    for count in (2_000, 4_000):
+        folder = maker.repository(1, 1, 1, ROUTER="1", **{made: str(count - (made == "ROUTERNUMBERS"))})
+        _, identifier = router_key(folder)
+        edit(file, json.dumps(slurm(key_filters=of(count, url_safe(identifier))), separators=(",", ":")).encode())
+        words = ("--form", "json", "--exceptions", file)
+        status, output, faults = program.run(folder, *words)
+        seen = [key["asn"] for key in json.loads(output)["routerKeys"]]
+        holds(f"exceptions: {count} {name}", (status, seen) == (0, [f"AS{it}" for it in left(count)]),
+              (status, seen[:9], faults[:300]))
+        if shutil.which("valgrind"):
+            counts.append(instructions(*program.words(folder, *words)))
+    if counts:
+        holds(f"exceptions: twice as many {name}", counts[1] <= TWICE_AS_LONG * counts[0], counts)
+
+
 def many_exceptions(program, maker):
     """Two files of many exceptions, of which the last are in conflict, and of twice as many; and of a real size. No
     instructions are counted without valgrind."""
@@ -307,6 +364,10 @@ def many_exceptions(program, maker):
                 counts.append(instructions(*program.words(folder, "--exceptions", *files)))
         if counts:
             holds(f"exceptions: twice as many {name}", counts[1] <= TWICE_AS_LONG * counts[0], counts)
+    for name, of in MANY_FILTERS:
+        filtered(program, maker, files[0], name, of)
+    for row in MANY_KEYS:
+        keys_filtered(program, maker, files[0], *row)
     made(lambda count, odd: slurm(addresses(count, odd), numbers(count, odd)), 100_000)
     program.holds("exceptions: 200,000 filters in each of two", folder, payloads([1, 2], 1), 0, "--exceptions", *files)
 

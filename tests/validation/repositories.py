@@ -58,12 +58,12 @@ class Maker:
         shutil.copy2(os.path.join(self.room, "keys.pem"), room)
         return other
 
-    def repository(self, count=AUTHORITIES, width=WIDTH, origins=ORIGINS, **variant):
+    def repository(self, count=AUTHORITIES, width=WIDTH, origins=ORIGINS, prefixes=1, **variant):
         """A repository, made once."""
-        key = (count, width, origins, *sorted(variant.items()))
+        key = (count, width, origins, prefixes, *sorted(variant.items()))
         if key not in self.made:
             folder = os.path.join(self.room, f"repository{len(self.made)}")
-            words = [self.program, folder, str(count), str(width), str(origins), "1"]
+            words = [self.program, folder, *map(str, (count, width, origins, prefixes))]
             subprocess.run([*words, os.path.join(self.room, "keys.pem")], check=True, stdout=subprocess.DEVNULL,
                            env={**os.environ, **variant})
             self.made[key] = folder

@@ -39,13 +39,14 @@ kept-timed filters filters2 all all2 left new e f same set =
     (subst (λ (ts : List TimedVrp). IsSetOf timed_cmp (IsKeptTimed filters ts) new) f
     (set-as timed_cmp (Contains left) (IsKeptTimed filters all) new same set))
 
+-- what filters leave of keys, in order
 pub left-set : (filters filters2 : List KeyFilter) (keys keys2 left new : List RouterKey) → filters ≡ filters2
-    → keys ≡ keys2 → left ≡ left_by_all filters keys → IsSetOf key_cmp (Contains left) new
-    → IsSetOf key_cmp (Contains (left_by_all filters2 keys2)) new
-left-set filters filters2 keys keys2 left new e f is set =
+    → keys ≡ keys2 → ((k : RouterKey) → Contains left k ↔ Contains (left_by_all filters keys) k)
+    → IsSetOf key_cmp (Contains left) new → IsSetOf key_cmp (Contains (left_by_all filters2 keys2)) new
+left-set filters filters2 keys keys2 left new e f same set =
     subst (λ (fs : List KeyFilter). IsSetOf key_cmp (Contains (left_by_all fs keys2)) new) e
     (subst (λ (ks : List RouterKey). IsSetOf key_cmp (Contains (left_by_all filters ks)) new) f
-    (subst (λ (ks : List RouterKey). IsSetOf key_cmp (Contains ks) new) is set))
+    (set-as key_cmp (Contains left) (Contains (left_by_all filters keys)) new same set))
 
 pub is-without : (filters : List PrefixFilter) (identifiers : List KeyFilter) (old new : PayloadParts)
     (name : List ℕ) (vrps : List Vrp) (timed : List TimedVrp)

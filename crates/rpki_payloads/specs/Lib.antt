@@ -7,6 +7,8 @@ pub mod Timed
 pub mod Payloads
 pub mod Covered
 pub mod Filtered
+pub mod FilterKeys
+pub mod Asked
 pub mod Exceptions
 pub mod Conflict
 pub mod Shared
@@ -16,6 +18,7 @@ pub mod Quoted
 pub mod Lines
 pub mod Made
 pub mod Route
+pub mod Changed
 pub mod Alone
 pub mod Json
 pub mod StayRtr

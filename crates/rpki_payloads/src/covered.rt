@@ -29,7 +29,7 @@ pub(crate) fn number_of(addr: IpAddr) -> u128
 }
 
 /// The first bits of an address, so many, as a number.
-fn first_bits(addr: IpAddr, len: u8) -> u128
+pub(crate) fn first_bits(addr: IpAddr, len: u8) -> u128
     ensures { result ≡ address_number addr / 2 ^ (address_width addr - len) }
 {
     let left = width_of(addr).saturating_sub(len);

@@ -4,6 +4,7 @@ ghost use Rattle.std.specs.Prelude.{◌≡◌, IfOk, OnOk, string_bytes};
 ghost use Rattle.rpki_payloads.specs.Exceptions.{AreAdded, AreEach, AreExcepted, IsAsserted, IsWithout};
 ghost use Rattle.rpki_payloads.specs.Exceptions.{key_filters_of, prefix_filters_of};
 
+use crate::filter_keys::FilterKeys;
 use crate::filters::{PrefixFilter, kept, kept_timed};
 use crate::key_filters::{KeyFilter, copied, left_by_all};
 use crate::order::sort_vrps;
@@ -55,9 +56,10 @@ fn without(
 ) -> Result<Payloads, AllocError>
     ensures { IfOk result (IsWithout prefix_filters.now key_filters.now one.now) }
 {
-    let mut vrps = kept(alloc, prefix_filters, one.vrps())?;
+    let filters = FilterKeys::of(alloc, prefix_filters)?;
+    let mut vrps = kept(alloc, &filters, one.vrps())?;
     sort_vrps(&mut vrps);
-    let mut timed = kept_timed(alloc, prefix_filters, one.timed())?;
+    let mut timed = kept_timed(alloc, &filters, one.timed())?;
     sort_timed(&mut timed);
     let mut keys = left_by_all(alloc, key_filters, one.keys())?;
     sort_keys(&mut keys);

@@ -3,11 +3,13 @@
 //! [vrps_of] puts route origins in order, each once, and [latest_of] does so with their ends; [sort_pairs] and
 //! [sort_keys] do so with providers and with keys of routers, and [vaps_of] puts the providers of a customer together.
 //! [Form::text_of] makes a text of the payloads of several locators, and [metrics_text] one of their numbers.
-//! [Route::text_of] says whether a route is valid by payloads, and which cover it (RFC 6811 2).
+//! [Route::text_of] says whether a route is valid by payloads, and which cover it (RFC 6811 2), and
+//! [Route::changed_text] which local exceptions take such payloads away or add them.
 #![tactic(auto)]
 
 mod alone;
 mod bird;
+mod changed;
 mod client;
 mod conflict;
 mod covered;
@@ -15,6 +17,7 @@ mod csv_lines;
 mod customers;
 mod exceptions;
 mod exceptions_text;
+mod filter_keys;
 mod filters;
 mod form;
 mod json_form;

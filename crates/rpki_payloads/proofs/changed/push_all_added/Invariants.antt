@@ -1,0 +1,7 @@
+use Rattle.std.proofs.Common.{◌≡◌, ◌++◌, take}
+use Rattle.std.specs.List.{flat_map}
+use Rattle.rpki_payloads.specs.Changed.{added_by}
+use Rattle.rpki_payloads.proofs.changed.push_all_added.Given as goal
+
+abbrev pub invariant-files : goal.invariant-files
+invariant-files l = l.text.items ≡ l.initial.text.items ++ flat_map (added_by l.route) (take l.file-index l.files)
