@@ -93,12 +93,23 @@ def routes(program, maker):
             lines = [f"AS{asn},{prefix}: {said}", *([covers + why] if why else [])]
             asked(program, f"{it}: {name}", folder, lines, 0, prefix, "--as", str(asn))
             asked(program, f"{it}: {name}, by its name", folder, lines, 0, prefix, "--as", f"AS{asn}")
-        edit(local, json.dumps(slurm([{"asn": number}])).encode())
-        left = [f"AS{number},{route}: not found"]
-        asked(program, f"{it}: filtered", folder, left, 0, route, "--as", str(number), *words)
+        wide, gone = f"{address}/{size - 1}", f"AS{number},{address}/{size},{most}: filtered by local: "
+        for name, filters, by in (("a number", [{"asn": number}], [f"AS{number}"]),
+                                  ("a prefix", [{"prefix": route}, {"asn": number + 1}], [route]),
+                                  ("both", [{"prefix": route, "asn": number}], [f"{route}, AS{number}"]),
+                                  ("each of two", [{"prefix": wide}, {"asn": number}], [wide, f"AS{number}"])):
+            edit(local, json.dumps(slurm(filters)).encode())
+            left = [f"AS{number},{route}: not found", *(gone + asks for asks in by)]
+            asked(program, f"{it}: filtered by {name}", folder, left, 0, route, "--as", str(number), *words)
+        edit(local, json.dumps(slurm([{"prefix": f"{address}/32"}, {"asn": number + 1}])).encode())
+        left = [f"AS{number},{route}: valid", covers + "match"]
+        asked(program, f"{it}: not filtered", folder, left, 0, route, "--as", str(number), *words)
     edit(local, json.dumps(slurm(assertions=ASSERTIONS)).encode())
-    lines = ["AS64496,2001:db8:1::/48: valid", "AS64496,2001:db8::/32,48: match"]
+    lines = ["AS64496,2001:db8:1::/48: valid", "AS64496,2001:db8::/32,48: match",
+             "AS64496,2001:db8::/32,48: added by local"]
     asked(program, "an assertion", folder, lines, 0, "2001:db8:1::/48", "--as", "64496", *words)
+    edit(local, json.dumps(slurm([{"prefix": "::/0"}], assertions=ASSERTIONS)).encode())
+    asked(program, "an assertion that a filter matches", folder, lines, 0, "2001:db8:1::/48", "--as", "64496", *words)
 
 
 def rejected_routes(program, maker):

@@ -2,19 +2,23 @@
 use Rattle.std.specs.Prelude.{◌≡◌, ℕ, Bool, List, [], ◌++◌, IfSome}
 use Rattle.rpki.specs.PublicKey.{KeyParts}
 use Rattle.rpki_objects.specs.declared.strictness.Strictness.{Strictness}
+use Rattle.rpki_payloads.specs.declared.exceptions.NamedExceptions.{NamedExceptions}
 use Rattle.rpki_payloads.specs.declared.route.Route.{Route}
+use Rattle.rpki_payloads.specs.Changed.{IsChangedText}
+use Rattle.rpki_payloads.specs.Payloads.{PayloadParts}
 use Rattle.rpki_payloads.specs.Route.{IsRouteText}
 use Rattle.rpki_text.specs.RsyncText.{uri_of}
 use Rattle.rpki_validation.specs.Basis.{Basis}
 use Rattle.rpkivalid.specs.declared.question.Question.{Question}
 use Rattle.rpkivalid.specs.declared.question.Question.TheVariants.{Object, Origin, Alone}
 use Rattle.rpkivalid.specs.declared.walked.Walk.{Walk}
+use Rattle.rpkivalid.specs.Excepted.{Excepts}
 use Rattle.rpkivalid.specs.Locators.{AreLocatorsIn, Holds, NamedParts, once}
 use Rattle.rpkivalid.specs.Paths.{object_path}
 use Rattle.rpkivalid.specs.Refused.{AreRefusedIn}
 use Rattle.rpkivalid.specs.Reported.{AreTold}
 use Rattle.rpkivalid.specs.Request.{Asked}
-use Rattle.rpkivalid.specs.Shown.{IsShown, ShownParts}
+use Rattle.rpkivalid.specs.Shown.{IsUnchanged}
 use Rattle.rpkivalid.specs.Told.{file_text, is_found}
 use Rattle.rpkivalid.specs.Walked.{IsWalkIn, without}
 
@@ -50,15 +54,21 @@ pub record IsTold (basis : KeyParts → Basis) (holds : Holds) (a : Asked) (ques
   pub there : AreLocatorsIn holds (once a.locators) locators
   pub told : AreTold (IsToldOf holds a.cache a.strictness basis question) locators text anchored
 
--- what the payloads under the locators say of the route, with the local exceptions that are asked for (RFC 6811 2);
--- and what is told of what is found
+-- What the payloads under the locators say of the route, with the local exceptions that are asked for (RFC 6811 2), and
+-- then which of these take away or add a payload that covers it (RFC 8416 3.3.1, 3.4.1); and what is told of what is
+-- found.
 pub record IsRouteTold (basis : KeyParts → Basis) (holds : Holds) (a : Asked) (route : Route) (text lines : List ℕ)
     (anchored : Bool) : Type 0 where
-  pub shown : ShownParts
-  pub shows : IsShown basis holds a shown
-  pub told : IsRouteText route shown.payloads text
-  pub lines_are : lines ≡ shown.lines
-  pub anchored_is : anchored ≡ shown.all
+  pub found : List PayloadParts
+  pub local : List NamedExceptions
+  pub unchanged : IsUnchanged basis holds a found local lines anchored
+  pub shown : List PayloadParts
+  pub excepted : Excepts local found shown
+  pub said : List ℕ
+  pub told : IsRouteText route shown said
+  pub changes : List ℕ
+  pub changed : IsChangedText route local found changes
+  pub text_is : text ≡ said ++ changes
 
 -- what payloads say of the route, and then what attestations that are rejected say of it
 pub record IsOriginTold (basis : KeyParts → Basis) (holds : Holds) (a : Asked) (route : Route) (text lines : List ℕ)

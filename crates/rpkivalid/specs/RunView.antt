@@ -8,6 +8,7 @@ use Rattle.rpkivalid.specs.declared.request.Request.{Request}
 use Rattle.rpkivalid.specs.declared.run.Ran.{Ran}
 use Rattle.rpkivalid.specs.declared.run.Written.{Written}
 use Rattle.rpkivalid.specs.declared.shown.Shown.{Shown}
+use Rattle.rpkivalid.specs.declared.shown.Unchanged.{Unchanged}
 use Rattle.rpkivalid.specs.Denying.{IsDenial, IsUnfound}
 use Rattle.rpkivalid.specs.Found.{basis_with}
 use Rattle.rpkivalid.specs.Locators.{Holds}
@@ -15,7 +16,7 @@ use Rattle.rpkivalid.specs.Request.{Asked}
 use Rattle.rpkivalid.specs.RequestView.{asked_of}
 use Rattle.rpkivalid.specs.Run.{AreMetrics, IsRunOf, IsUnwritten, IsWritten, RanParts}
 use Rattle.rpkivalid.specs.Run.{Complains, Gives, SaysWhy}
-use Rattle.rpkivalid.specs.Shown.{IsShown, ShownParts}
+use Rattle.rpkivalid.specs.Shown.{IsShown, IsUnchanged, ShownParts}
 
 abbrev pub ran_by : Ran → RanParts
 ran_by r = record { text = r.text.items; metrics = r.metrics.items; report = r.report.items; status = r.status }
@@ -60,7 +61,13 @@ pub record IsWrittenBy (clock : Option (Option DateTime)) (request : Request) (s
 
 module _ {X : Type 0} (models : Models X) (provider : X) (holds : Holds)
   where
-    -- what is found under the locators that are asked for
+    -- what is found under the locators that are asked for, and the local exceptions
+    abbrev pub UnchangedBy : DateTime → ℕ → Request → Unchanged → Type 0
+    UnchangedBy at depth request u =
+        IsUnchanged (basis_with models provider request.strictness at depth) holds (asked_of request)
+        u.found.payloads.items u.local.items u.found.report.items u.found.have_anchors
+
+    -- the former with the latter
     abbrev pub ShowsBy : DateTime → ℕ → Request → Shown → Type 0
     ShowsBy at depth request s =
         IsShown (basis_with models provider request.strictness at depth) holds (asked_of request)

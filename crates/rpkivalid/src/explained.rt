@@ -8,13 +8,14 @@ ghost use Rattle.rpkivalid.specs.Refused.{AreRefusedIn};
 ghost use Rattle.rpkivalid.specs.Told.{is_found};
 
 use crate::denial::Denial;
-use crate::found::both;
+use crate::excepted::shown_of;
+use crate::found::{Found, both};
 use crate::locators::{Named, locators_in};
 use crate::paths::object_path;
 use crate::question::Question;
 use crate::refused::refused_text;
 use crate::request::Request;
-use crate::shown::shown_under;
+use crate::shown::{Unchanged, unchanged_under};
 use crate::sources::Sources;
 use crate::told::file_text;
 use crate::walked::{Walk, walk_of};
@@ -218,8 +219,8 @@ pub fn tell<S: Sources, P: PreparingProvider>(
     Ok(told)
 }
 
-/// What the payloads under the locators that are asked for, with the local exceptions, say of the route; and what is
-/// told of what is found.
+/// What the payloads under the locators that are asked for, with the local exceptions, say of the route, and which of
+/// these take away or add a payload that covers it; and what is told of what is found.
 fn route_text<S: Sources, P: PreparingProvider>(
     alloc: Global,
     route: Route,
@@ -232,18 +233,27 @@ fn route_text<S: Sources, P: PreparingProvider>(
     ensures told { IfOk result (TellsRoute P.Provider crypto.now (S.holds host.now) at depth request.now route) }
     ensures denied { IfErr result (IsUnfoundBy (S.holds host.now) request.now) }
 {
-    let shown = shown_under(alloc, request, host, crypto, at, depth)?;
-    let text = route.text_of(alloc, shown.payloads.as_slice())?;
+    let unchanged = unchanged_under(alloc, request, host, crypto, at, depth)?;
+    let Unchanged { found, local } = unchanged;
+    let Found {
+        payloads,
+        have_anchors,
+        report,
+    } = found;
+    let changes = route.changed_text(alloc, local.as_slice(), payloads.as_slice())?;
+    let shown = shown_of(alloc, local, payloads)?;
+    let mut text = route.text_of(alloc, shown.as_slice())?;
+    text.extend_from_slice(changes.as_slice())?;
     Ok(Explained {
         text,
-        report: shown.report,
-        have_anchors: shown.have_anchors,
+        report,
+        have_anchors,
     })
 }
 
 /// What is asked, explained: of an object where it is rejected and what lists it, under each locator; of a route
-/// whether it is valid (RFC 6811 2), which payloads cover it, and what attestations that are rejected say of it, with
-/// what is told of what is found.
+/// whether it is valid (RFC 6811 2), which payloads cover it, which local exceptions take away or add one that does,
+/// and what attestations that are rejected say of it, with what is told of what is found.
 pub fn explain<S: Sources, P: PreparingProvider>(
     alloc: Global,
     question: &Question,

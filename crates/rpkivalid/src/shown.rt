@@ -1,7 +1,7 @@
 //! What is found under the locators that are asked for, with the local exceptions.
 
 ghost use Rattle.std.specs.Prelude.{IfOk, IfErr};
-ghost use Rattle.rpkivalid.specs.RunView.{IsUnfoundBy, ShowsBy};
+ghost use Rattle.rpkivalid.specs.RunView.{IsUnfoundBy, ShowsBy, UnchangedBy};
 
 use crate::denial::Denial;
 use crate::enough::some_anchored;
@@ -11,7 +11,7 @@ use crate::locators::locators_in;
 use crate::request::Request;
 use crate::sources::Sources;
 use rpki::repository::x509::Time;
-use rpki_payloads::Payloads;
+use rpki_payloads::{NamedExceptions, Payloads};
 use rpki_rsa::PreparingProvider;
 use std::alloc::Global;
 
@@ -29,18 +29,27 @@ pub struct Shown {
     pub has_anchor: bool,
 }
 
-/// What is found under the locators that are asked for, with the local exceptions, at this moment and to this depth.
+/// What is found under the locators that are asked for, and the local exceptions, by which it is not changed yet.
+#[derive(Drop)]
+pub struct Unchanged {
+    /// What is found.
+    pub found: Found,
+    /// The local exceptions.
+    pub local: Vec<NamedExceptions>,
+}
+
+/// What is found under the locators that are asked for, at this moment and to this depth, and the local exceptions.
 ///
 /// Returns why there are no such locators or local exceptions; `OutOfMemory` if allocation fails.
-pub fn shown_under<S: Sources, P: PreparingProvider>(
+pub fn unchanged_under<S: Sources, P: PreparingProvider>(
     alloc: Global,
     request: &Request<'_, '_>,
     host: &S,
     crypto: &P,
     at: Time,
     depth: u32,
-) -> Result<Shown, Denial>
-    ensures shown { IfOk result (ShowsBy P.Provider crypto.now (S.holds host.now) at depth request.now) }
+) -> Result<Unchanged, Denial>
+    ensures unchanged { IfOk result (UnchangedBy P.Provider crypto.now (S.holds host.now) at depth request.now) }
     ensures denied { IfErr result (IsUnfoundBy (S.holds host.now) request.now) }
 {
     let locators = locators_in(alloc, host, request.locators)?;
@@ -55,6 +64,25 @@ pub fn shown_under<S: Sources, P: PreparingProvider>(
         at,
         locators.as_slice(),
     )?;
+    Ok(Unchanged { found, local })
+}
+
+/// What is found under the locators that are asked for, with the local exceptions, at this moment and to this depth.
+///
+/// Returns why there are no such locators or local exceptions; `OutOfMemory` if allocation fails.
+pub fn shown_under<S: Sources, P: PreparingProvider>(
+    alloc: Global,
+    request: &Request<'_, '_>,
+    host: &S,
+    crypto: &P,
+    at: Time,
+    depth: u32,
+) -> Result<Shown, Denial>
+    ensures shown { IfOk result (ShowsBy P.Provider crypto.now (S.holds host.now) at depth request.now) }
+    ensures denied { IfErr result (IsUnfoundBy (S.holds host.now) request.now) }
+{
+    let unchanged = unchanged_under(alloc, request, host, crypto, at, depth)?;
+    let Unchanged { found, local } = unchanged;
     let Found {
         payloads,
         have_anchors,

@@ -91,8 +91,8 @@ payloads there are.
   --explain URI   in place of the payloads, why the object at an rsync URI counts or
                   not: where it is rejected, by which rule, and what lists it
   --explain PREFIX --as NUMBER
-                  whether the route is valid, invalid or not found (RFC 6811), and
-                  the payloads that cover it
+                  whether the route is valid, invalid or not found (RFC 6811), the
+                  payloads that cover it, and what exceptions filter or add
   --compare FILE  which payloads are here alone, and which FILE has alone, of what
                   another validator wrote, in csv or JSON; and what rejected
                   attestations say of the latter
