@@ -12,7 +12,7 @@ use rpki::repository::x509::Time;
 use rpki_cert::Cert;
 use rpki_checked::{
     CheckError, issue_anchor, issue_aspa, issue_authority, issue_list, issue_manifest, issue_roa,
-    sign_aspa, sign_manifest, sign_roa,
+    issue_router, sign_aspa, sign_manifest, sign_roa,
 };
 use rpki_crl::Crl;
 use rpki_digests::RsaProvider;
@@ -171,10 +171,17 @@ fn certified_by(
         issuer: _,
     } = plan_of(alloc, kind, plan)?;
     let signature = bytes_of(alloc, Some(signature))?;
-    match issue_authority(alloc, issuer, unsigned, signature) {
-        Ok((made, _)) => digits(alloc, made.as_slice()),
-        Err(e) => told(alloc, e),
-    }
+    let made = match kind {
+        "router" => match issue_router(alloc, issuer, unsigned, signature) {
+            Ok((made, _)) => Ok(made),
+            Err(e) => Err(e),
+        },
+        _ => match issue_authority(alloc, issuer, unsigned, signature) {
+            Ok((made, _)) => Ok(made),
+            Err(e) => Err(e),
+        },
+    };
+    answered(alloc, made)
 }
 
 /// `NUMBER THIS NEXT SIGNATURE SERIAL@DATE..`, by an authority.
@@ -196,7 +203,7 @@ fn listed_by(
     }
 }
 
-/// `issued AT KEY ANCHOR LIST ca ..`: the certificate of an authority; `issued AT KEY ANCHOR LIST TYPE ..`: an object.
+/// `issued AT KEY ANCHOR LIST ca ..` or `router ..`: a certificate; `issued AT KEY ANCHOR LIST TYPE ..`: an object.
 /// `issued AT KEY ANCHOR _ ..`: a list. All by this trust anchor, of this key, and its list.
 pub fn issued(alloc: Global, words: &[&str]) -> Text {
     let [at, key, anchor, list, others @ ..] = words else {
@@ -225,6 +232,7 @@ pub fn issued(alloc: Global, words: &[&str]) -> Text {
     };
     match others {
         ["ca", plan @ ..] => certified_by(alloc, &issuer, "ca", plan),
+        ["router", plan @ ..] => certified_by(alloc, &issuer, "router", plan),
         _ => issued_by(alloc, &issuer, others),
     }
 }

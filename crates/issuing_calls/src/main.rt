@@ -4,6 +4,7 @@
 
 mod cert;
 mod checked;
+mod locator;
 mod object;
 mod request;
 mod signing;
@@ -11,8 +12,9 @@ mod words;
 
 use crate::cert::certificate;
 use crate::checked::{checked, issued, top};
+use crate::locator::locator;
 use crate::object::{aspa, list, manifest, object, roa};
-use crate::request::asked;
+use crate::request::{asked, requested};
 use crate::words::Text;
 use std::alloc::Global;
 use std::io;
@@ -40,6 +42,8 @@ fn answer(alloc: Global, row: &str) -> Text {
         "issued" => issued(alloc, words),
         "top" => top(alloc, words),
         "asked" => asked(alloc, words),
+        "request" => requested(alloc, words),
+        "locator" => locator(alloc, words),
         _ => Err("usage"),
     }
 }

@@ -1,8 +1,10 @@
 //! Requests for the certificates of authorities.
 
-use crate::words::{Text, bytes_of};
+use crate::signing::{Told, refusal, signing_refusal};
+use crate::words::{Text, bytes_of, digits, https_of, key_of, name_of, rsync_of, wanted};
 use rpki::der::DecodeError;
 use rpki_digests::RsaProvider;
+use rpki_issue::{CsrBuilder, Repository};
 use rpki_request::Csr;
 use std::alloc::Global;
 
@@ -45,5 +47,57 @@ pub fn asked(alloc: Global, words: &[&str]) -> Text {
     match format!(in alloc; "{named}, {usage}: {base} {manifest} {notification}") {
         Ok(text) => Ok(text),
         Err(_) => Err("no memory"),
+    }
+}
+
+/// `KEY NAMED USAGE BASE MANIFEST NOTIFICATION SIGNATURE`: what is to be signed of a request, where the signature is
+/// `_`, and else the request. It names the subject by its key unless `NAMED` is `_`, and asks for a key usage unless
+/// `USAGE` is. Both ways to sign have to make the same.
+pub fn requested(alloc: Global, words: &[&str]) -> Text {
+    let [key, named, usage, base, manifest, notification, signature] = words else {
+        return Err("usage");
+    };
+    let key = key_of(alloc, Some(key))?;
+    let name = name_of(alloc, &key)?;
+    let base = rsync_of(alloc, base)?;
+    let manifest = rsync_of(alloc, manifest)?;
+    let notification = https_of(alloc, Some(notification))?;
+    let builder = CsrBuilder {
+        subject: if *named == "_" { None } else { Some(&name) },
+        key: &key,
+        key_usage: *usage != "_",
+        repository: Repository {
+            base: wanted(&base)?,
+            manifest: wanted(&manifest)?,
+            notification: notification.as_ref(),
+        },
+    };
+    let unsigned = match builder.to_sign(alloc) {
+        Ok(unsigned) => unsigned,
+        Err(e) => return Err(refusal(e)),
+    };
+    if *signature == "_" {
+        return digits(alloc, unsigned.message());
+    }
+    let mut signer = Told {
+        signature: bytes_of(alloc, Some(signature))?,
+    };
+    let at_once = match builder.to_sign(alloc) {
+        Ok(unsigned) => unsigned.signed_with(alloc, &RsaProvider, &mut signer),
+        Err(e) => return Err(refusal(e)),
+    };
+    match (
+        unsigned.signed(alloc, &RsaProvider, signer.signature),
+        at_once,
+    ) {
+        (Ok(made), Ok(same)) => {
+            if made.as_slice() != same.as_slice() {
+                return Err("differ");
+            }
+            digits(alloc, made.as_slice())
+        }
+        (Err(e), Err(_)) => Err(refusal(e)),
+        (Ok(_), Err(e)) => Err(signing_refusal(e)),
+        (Err(_), Ok(_)) => Err("differ"),
     }
 }

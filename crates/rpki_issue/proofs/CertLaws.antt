@@ -18,13 +18,13 @@ use Rattle.rpki_issue.specs.declared.error.IssueError.{IssueError}
 use Rattle.rpki_issue.specs.Signing.{written_algorithm, signed_parts, signed_whole, IsShortWhole, AreSigned, ToSign}
 use Rattle.rpki_issue.specs.Signing.{IsIssuedCert}
 
-string-legal : IsTag bit_string
+pub string-legal : IsTag bit_string
 string-legal = record { below = lit< tt; named = λ _. lit< tt }
 
-all-used : (value : List ℕ) → AreBits (bits_of 0 value)
+pub all-used : (value : List ℕ) → AreBits (bits_of 0 value)
 all-used value = record { few = omega arith; none = λ e. refl; zero = omega arith }
 
-string-short : (octets value : List ℕ) → IsShortWhole octets value
+pub string-short : (octets value : List ℕ) → IsShortWhole octets value
     → length (bits_contents (bits_of 0 value)) < 2 ^ 32
 string-short octets value short =
     let algorithm = algorithm_octets sha256_with_rsa_encryption true in

@@ -1,10 +1,10 @@
 -- The contents of extensions that are written: how many octets they have, and that they are read back.
-use Rattle.std.proofs.Common.{◌≡◌, ◌≢◌, ◌≤◌, ◌<◌, ◌^◌, ℕ, true, false, List, [], ◌∷◌, ◌++◌, length, refl, sym, ap}
-use Rattle.std.proofs.Common.{arith, ◌∙◌, lit<, inl, inr, length-append, None, Some, Option, map, append-nil}
+use Rattle.std.proofs.Common.{◌≡◌, ◌≤◌, ◌<◌, ◌^◌, ℕ, true, false, List, [], ◌∷◌, ◌++◌, length, refl, sym}
+use Rattle.std.proofs.Common.{arith, lit<, inl, inr, length-append, None, Some, Option, map, append-nil}
 use Rattle.std.specs.Str.{IsAscii}
 use Rattle.rpki_der.specs.Prelude.{sequence, boolean, bit_string, oid, octet_string, ia5_string, context_6, tlv}
 use Rattle.rpki_der.specs.Prelude.{boolean_contents, IsTag, IsOnly, IsOid, IsOidOf, SpellsLeaf, SpellsSome, SpellsEach}
-use Rattle.rpki_der.specs.Prelude.{Then, sequence_legal, octet_string_legal, leaf, only, around, this_oid}
+use Rattle.rpki_der.specs.Prelude.{Then, sequence_legal, octet_string_legal, leaf, only}
 use Rattle.rpki_der.specs.Listed.{EachHas}
 use Rattle.rpki_der.specs.OptionalPart.{optional_octets, OfPart}
 use Rattle.rpki_der.proofs.EncodeLaws.{leaf-legal, tlv_at_most}
@@ -20,9 +20,9 @@ use Rattle.rpki_cert.specs.declared.extension.key_usage.KeyUsage.TheVariants.{Ca
 use Rattle.rpki_cert.specs.declared.extension.policy.Overclaim.TheVariants.{Refuse}
 use Rattle.rpki_cert.specs.GeneralName.{SpellsText, SpellsName}
 use Rattle.rpki_cert.specs.Access.{Through, SpellsUri, SpellsFullName, SpellsPointName, SpellsPoint, SpellsPoints}
-use Rattle.rpki_cert.specs.Access.{SpellsDescription, SpellsAccess, IsOidAs, first_rsync}
+use Rattle.rpki_cert.specs.Access.{SpellsDescription, IsOidAs, first_rsync}
 use Rattle.rpki_cert.specs.Access.{ca_repository, rpki_manifest, rpki_notify}
-use Rattle.rpki_cert.specs.ExtensionContent.{SpellsConstraints, SpellsUsage, IsUsage, SpellsPolicies, SpellsPolicy}
+use Rattle.rpki_cert.specs.ExtensionContent.{SpellsConstraints, SpellsUsage, IsUsage, SpellsPolicies}
 use Rattle.rpki_cert.specs.ExtensionContent.{ArePolicyParts, AreQualifiers, IsPolicyName, policy_value}
 use Rattle.rpki_cert.specs.ExtensionContent.{SpellsQualifiers, SpellsQualifier, AreQualifierParts, IsAnyIa5}
 use Rattle.rpki_cert.specs.ExtensionContent.{router_purpose, statement_name, SpellsPurposes, ArePurposes}

@@ -4,7 +4,7 @@
 -- list of them: RowsLaws, PartsLaws, ListedLaws. What is signed of a certificate: TbsLaws, WrittenTbsLaws. That it
 -- has its profile: ResourcesLaws, ProfileLaws. What is refused: UriLaws, PlanLaws, RefusedLaws; that a serial number is
 -- listed twice: DoubledLaws. What is signed is read
--- as what was to be signed: CertLaws, ListLaws, ObjectLaws.
+-- as what was to be signed: CertLaws, ListLaws, ObjectLaws, RequestLaws. A locator is read back: LocatorLaws.
 
 pub mod ContentsLaws
 pub mod UniqueLaws
@@ -18,6 +18,8 @@ pub mod CertLaws
 pub mod ListLaws
 pub mod DoubledLaws
 pub mod ObjectLaws
+pub mod RequestLaws
+pub mod LocatorLaws
 pub mod PlanLaws
 pub mod ResourcesLaws
 pub mod ProfileLaws

@@ -1,8 +1,8 @@
 -- Lists of extensions that are written are read back, each identifier once.
-use Rattle.std.proofs.Common.{◌≡◌, ◌≢◌, ℕ, Bool, true, false, List, [], ◌∷◌, ◌++◌, length, refl, IsTrue, Bor, Option}
+use Rattle.std.proofs.Common.{◌≢◌, ℕ, List, [], ◌∷◌, ◌++◌, refl, IsTrue, Bor, Option}
 use Rattle.std.proofs.Common.{Some, None, option_map}
 use Rattle.rpki_der.specs.Prelude.{SpellsEach}
-use Rattle.rpki_der.specs.Listed.{listed_octets, EachHas}
+use Rattle.rpki_der.specs.Listed.{EachHas}
 use Rattle.rpki_der.specs.OptionalPart.{OfPart}
 use Rattle.rpki.specs.ExtensionValue.{ExtensionParts, CanBeWritten, SpellsExtension, written_extension}
 use Rattle.rpki.proofs.ExtensionLaws.{written-read}
@@ -30,7 +30,8 @@ pub both-have : (xs ys : List ExtensionParts) → EachHas CanBeWritten xs → Ea
 both-have [] ys h k = k
 both-have (x ∷ xs) ys h k = (h.0, both-have xs ys h.1 k)
 
-each-read : (xs : List ExtensionParts) → EachHas CanBeWritten xs → SpellsEach SpellsExtension xs (extensions_listed xs)
+pub each-read : (xs : List ExtensionParts) → EachHas CanBeWritten xs
+    → SpellsEach SpellsExtension xs (extensions_listed xs)
 each-read [] h = refl
 each-read (x ∷ xs) h = (
   extensions_listed xs,

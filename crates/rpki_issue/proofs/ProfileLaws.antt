@@ -1,7 +1,7 @@
 -- Certificates that are issued have the profile of their kind.
-use Rattle.std.proofs.Common.{◌≡◌, ◌≤◌, ◌||◌, ◌&&◌, not, ℕ, Bool, true, false, List, [], ◌∷◌, ◌++◌, length, refl}
+use Rattle.std.proofs.Common.{◌≡◌, ◌≤◌, ◌||◌, ◌&&◌, not, ℕ, true, false, List, [], ◌∷◌, length, refl}
 use Rattle.std.proofs.Common.{arith, lit<}
-use Rattle.std.proofs.Common.{Bor, Option, Some, None, IsTrue, option_map, map, inl, bytes_eq, subst, sym}
+use Rattle.std.proofs.Common.{Bor, Option, Some, None, IsTrue, option_map, map, inl}
 use Rattle.std.specs.Prelude.{All}
 use Rattle.std.specs.Option.{is_some}
 use Rattle.std.specs.List.{list_all}
@@ -11,9 +11,6 @@ use Rattle.rpki_der.specs.Prelude.{SpellsSome, IsOid, sequence_legal}
 use Rattle.rpki_der.specs.Listed.{EachHas}
 use Rattle.rpki_der.specs.OptionalPart.{OfPart}
 use Rattle.rpki_der.proofs.EncodeLaws.{leaf-legal}
-use Rattle.rpki_text.specs.RsyncText.{rsync_refusal}
-use Rattle.rpki_text.specs.HttpsText.{https_refusal}
-use Rattle.rpki.specs.ExtensionValue.{ExtensionParts, extension_parts}
 use Rattle.rpki.proofs.NamedLaws.{plain-oid}
 use Rattle.rpki_x509.specs.Authority.{authority_key_identifier}
 use Rattle.rpki_resources.specs.declared.resources.IpResources.{IpResources}
@@ -24,26 +21,24 @@ use Rattle.rpki_cert.specs.declared.extension.policy.Overclaim.TheVariants.{Refu
 use Rattle.rpki_cert.specs.declared.extension.access_rule.AccessRule.{AccessRule}
 use Rattle.rpki_cert.specs.declared.extension.access_rule.AccessRule.TheVariants.{EndEntity, Notification}
 use Rattle.rpki_cert.specs.declared.profile.Profile.TheVariants as Profile
-use Rattle.rpki_cert.specs.declared.profile.rule.CertRule.{CertRule}
-use Rattle.rpki_cert.specs.Cert.{TbsParts, find}
+use Rattle.rpki_cert.specs.Cert.{TbsParts}
 use Rattle.rpki_cert.specs.Known.{crl_distribution_points, authority_info_access, subject_info_access}
 use Rattle.rpki_cert.specs.Known.{basic_constraints, extended_key_usage}
 use Rattle.rpki_cert.specs.RuleWords.{SaysSomeUri, SaysManifestBelow, SaysSome, has_numbers, has_addresses}
 use Rattle.rpki_cert.specs.Access.{SpellsDescription, SpellsRsyncAccess, SpellsPoints, SpellsHeldAccess, allows}
-use Rattle.rpki_cert.specs.Access.{named, SaysUri}
-use Rattle.rpki_cert.specs.Access.{first_rsync, ca_issuers, ca_repository, rpki_manifest, rpki_notify, signed_object}
+use Rattle.rpki_cert.specs.Access.{SaysUri}
+use Rattle.rpki_cert.specs.Access.{ca_issuers, ca_repository, rpki_manifest, signed_object}
 use Rattle.rpki_cert.specs.Rule.{Obeys}
 use Rattle.rpki_cert.specs.Profile.{HasProfile, rules_of}
 use Rattle.rpki_issue.specs.declared.kind.Repository.{Repository}
-use Rattle.rpki_issue.specs.declared.kind.Issuance.{Issuance}
 use Rattle.rpki_issue.specs.declared.kind.CertKind.{CertKind}
 use Rattle.rpki_issue.specs.declared.kind.CertKind.TheVariants.{Anchor, Authority, Object, Detached, Router}
 use Rattle.rpki_issue.specs.declared.kind.CertExtensions.{CertExtensions}
-use Rattle.rpki_issue.specs.Contents.{CanPoint, CanTell, CanPublish, points_octets, access_octets, described_octets}
-use Rattle.rpki_issue.specs.Contents.{as_read, notification_access, notification_of, repository_access}
+use Rattle.rpki_issue.specs.Contents.{CanPoint, CanTell, CanPublish, access_octets, described_octets}
+use Rattle.rpki_issue.specs.Contents.{as_read, notification_access, notification_of}
 use Rattle.rpki_issue.specs.Rows.{points_extension, issuers_extension, repository_extension, object_extension}
 use Rattle.rpki_issue.specs.Extensions.{profile_of, practices_of, addresses_of, numbers_of, extensions_of, HasUris}
-use Rattle.rpki_issue.specs.Extensions.{IsReachable, CanHoldIp, CanHoldAs}
+use Rattle.rpki_issue.specs.Extensions.{CanHoldIp, CanHoldAs}
 use Rattle.rpki_issue.specs.Tbs.{Issued, normal_tbs}
 use Rattle.rpki_issue.specs.Issuing.{CanIssue, IsOfKind, OwnsAddresses, IsNotInherited, IsManifestBelow, OwnsResources}
 use Rattle.rpki_issue.proofs.ContentsLaws.{subject-spelled, usage-spelled, policies-spelled, authority-spelled}

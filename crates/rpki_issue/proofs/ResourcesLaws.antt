@@ -1,9 +1,8 @@
 -- The resources of a certificate that is issued, as the rules of profiles speak of them.
-use Rattle.std.proofs.Common.{◌≡◌, ◌≢◌, ◌<◌, ◌^◌, ◌||◌, ◌&&◌, not, ℕ, Bool, true, false, List, [], ◌∷◌, ◌++◌, length}
-use Rattle.std.proofs.Common.{refl, arith, Option, Some, None, IsTrue, option_map, bytes_eq}
+use Rattle.std.proofs.Common.{◌≡◌, ◌<◌, ◌^◌, ◌||◌, ◌&&◌, ℕ, Bool, true, false, List, ◌++◌, length}
+use Rattle.std.proofs.Common.{refl, arith, Option, Some, None, IsTrue, bytes_eq}
 use Rattle.std.specs.Option.{is_some}
 use Rattle.rpki_der.specs.OptionalPart.{OfPart}
-use Rattle.rpki_der.specs.Header.{tlv}
 use Rattle.rpki_der.specs.TagName.{sequence}
 use Rattle.rpki_der.proofs.EncodeLaws.{tlv-at-least}
 use Rattle.rpki.specs.ExtensionValue.{ExtensionParts}
@@ -21,7 +20,7 @@ use Rattle.rpki_resources.specs.Kept.{IsChoiceOf}
 use Rattle.rpki_resources.proofs.ResourcesWritingLaws.{ip-back, as-back}
 use Rattle.rpki_cert.specs.declared.extension.policy.Overclaim.TheVariants.{Refuse}
 use Rattle.rpki_cert.specs.Cert.{find}
-use Rattle.rpki_cert.specs.Known.{ip_addr_blocks, ip_addr_blocks_v2, autonomous_sys_ids, autonomous_sys_ids_v2}
+use Rattle.rpki_cert.specs.Known.{ip_addr_blocks, autonomous_sys_ids}
 use Rattle.rpki_cert.specs.Known.{are_understood}
 use Rattle.rpki_cert.specs.RuleWords.{has_resources, is_of_version}
 use Rattle.rpki_cert.specs.ResourceExtensions.{IsWellFormed, SaysThat, addresses_of, numbers_of, is_own}

@@ -4,7 +4,7 @@ use Rattle.std.proofs.Common.{lit<, length-append, Option}
 use Rattle.rpki_der.specs.Prelude.{oid, boolean, octet_string, tlv, IsOid}
 use Rattle.rpki_der.proofs.EncodeLaws.{tlv_at_most}
 use Rattle.rpki.specs.Extension.{critical_octets, extension_contents}
-use Rattle.rpki.specs.ExtensionValue.{ExtensionParts, extension_parts, CanBeWritten}
+use Rattle.rpki.specs.ExtensionValue.{extension_parts, CanBeWritten}
 use Rattle.rpki.proofs.NamedLaws.{plain-oid}
 use Rattle.rpki_x509.specs.Authority.{authority_key_identifier}
 use Rattle.rpki_cert.specs.declared.extension.key_usage.KeyUsage.{KeyUsage}
@@ -23,7 +23,7 @@ use Rattle.rpki_issue.proofs.ContentsLaws.{constraints-few, usage-few, purposes-
 use Rattle.rpki_issue.proofs.ContentsLaws.{policies-few, points-few, access-few, described, repository-described}
 use Rattle.rpki_issue.proofs.ContentsLaws.{repository-three}
 
-critical-few : (critical : Bool) → length (critical_octets critical) ≤ 11
+pub critical-few : (critical : Bool) → length (critical_octets critical) ≤ 11
 critical-few true = tlv_at_most boolean false (255 ∷ [])
 critical-few false = omega arith
 

@@ -3,8 +3,8 @@ use Rattle.std.proofs.Common.{◌≡◌, ◌≤◌, ◌<◌, ◌^◌, ℕ, Bool,
 use Rattle.std.proofs.Common.{arith, subst, ◌∙◌, Some, None, Option, length-append, map, append-nil}
 use Rattle.std.specs.Str.{IsAscii}
 use Rattle.rpki_der.specs.Text.{IsIa5Text}
-use Rattle.rpki_der.specs.Prelude.{TagName, sequence, oid, context_6, tlv, IsOid, IsOidOf, SpellsLeaf, SpellsSome}
-use Rattle.rpki_der.specs.Prelude.{SpellsEach, Then, Accepts, Spells, SpellsContents, sequence_legal}
+use Rattle.rpki_der.specs.Prelude.{TagName, sequence, oid, context_6, tlv, IsOidOf, SpellsLeaf, SpellsSome}
+use Rattle.rpki_der.specs.Prelude.{SpellsEach, Then, Accepts, Spells, sequence_legal}
 use Rattle.rpki_der.specs.Listed.{EachHas}
 use Rattle.rpki_der.proofs.ComposedLaws.{spelled-whole}
 use Rattle.rpki_der.proofs.EncodeLaws.{tlv-some, tlv-same, tlv-legal, tlv-at-least, leaf-legal}
@@ -22,10 +22,10 @@ use Rattle.rpki_cert.specs.Known.{Says}
 use Rattle.rpki_cert.specs.RuleWords.{SaysSomeUri}
 use Rattle.rpki_cert.proofs.GeneralNameLaws.{name-uri}
 use Rattle.rpki_cert.proofs.OneLaws.{leaf-first}
-use Rattle.rpki_issue.specs.Contents.{CanPoint, uri_octets, description_contents, description_octets, described_octets}
+use Rattle.rpki_issue.specs.Contents.{uri_octets, description_contents, description_octets, described_octets}
 use Rattle.rpki_issue.specs.Contents.{access_octets, points_octets, as_read}
-use Rattle.rpki_issue.proofs.ContentsLaws.{text-spelled, first-is, inside-few, description-few, uri-few, full-few}
-use Rattle.rpki_issue.proofs.ContentsLaws.{point-name-few, point-few, points-spelled, IsDescribed, each-described}
+use Rattle.rpki_issue.proofs.ContentsLaws.{text-spelled, inside-few, uri-few, full-few}
+use Rattle.rpki_issue.proofs.ContentsLaws.{point-name-few, point-few, points-spelled, IsDescribed}
 use Rattle.rpki_issue.proofs.ContentsLaws.{listed-spelled, described-few}
 
 abbrev Parts : List ℕ × Option (List ℕ) → List ℕ → Type 0

@@ -8,9 +8,7 @@ use Rattle.rpki_resources.specs.declared.resources.IpResources.{IpResources}
 use Rattle.rpki_resources.specs.declared.resources.AsResources.{AsResources}
 use Rattle.rpki_resources.specs.EncodedResources.{ip_octets, as_identifiers_octets, CanWriteIp, CanWriteAs}
 use Rattle.rpki_cert.specs.declared.extension.key_usage.KeyUsage.{KeyUsage}
-use Rattle.rpki_cert.specs.declared.extension.key_usage.KeyUsage.TheVariants as KeyUsage
 use Rattle.rpki_cert.specs.declared.profile.Profile.{Profile}
-use Rattle.rpki_cert.specs.declared.profile.Profile.TheVariants as Profile
 use Rattle.rpki_issue.specs.declared.kind.Issuance.{Issuance}
 use Rattle.rpki_issue.specs.declared.kind.CertKind.{CertKind}
 use Rattle.rpki_issue.specs.declared.kind.CertKind.TheVariants.{Anchor, Authority, Object, Detached, Router}

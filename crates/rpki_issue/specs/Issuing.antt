@@ -1,5 +1,5 @@
 -- What is asked of values, for the certificate that is issued of them to have its profile (RFC 6487 4, RFC 8209 3.1).
-use Rattle.std.specs.Prelude.{◌≡◌, ◌≢◌, ◌<◌, ◌||◌, ℕ, List, length, IsTrue, None, option_map}
+use Rattle.std.specs.Prelude.{◌≡◌, ◌≢◌, ◌<◌, ◌||◌, length, IsTrue, None, option_map}
 use Rattle.std.specs.Option.{is_some}
 use Rattle.rpki_der.specs.OptionalPart.{OfPart}
 use Rattle.rpki_time.specs.Validity.{cut_period}

@@ -11,5 +11,7 @@ pub mod Signing
 pub mod SignedList
 pub mod SignedObjects
 pub mod Signers
+pub mod Requests
+pub mod Locators
 -- Lemmas that an impl cites.
 pub mod TagLaws

@@ -10,8 +10,10 @@ ghost use Rattle.rpki_issue.specs.Issuing.{CanIssue, AreKeys};
 ghost use Rattle.rpki_issue.specs.declared.error.IssueError.{IssueError as Refused};
 ghost use Rattle.rpki_issue.specs.declared.error.IssueError.TheVariants.{OutOfMemory};
 ghost use Rattle.rpki_issue.specs.Signing.{IsPlanRefusal};
+ghost use Rattle.rpki_issue.specs.declared.locator_written.LocatorWriteError.{LocatorWriteError as Unwritten};
 
 use crate::error::IssueError;
+use crate::locator_written::LocatorWriteError;
 
 /// A certificate of values that can be issued has the profile of its kind, names checked too (RFC 6487 4, RFC 8209 3.1,
 /// RFC 8630 2.3, RFC 9323 2).
@@ -29,6 +31,11 @@ pub fn issued_extensions_are_read_back()
 /// Refusals are equal exactly where they are one.
 pub fn equal_refusals_are_one()
     ensures { (p q : Refused) → IsTrue (⟦<IssueError as PartialEq>⟧.eq p q) ↔ (p ≡ q) }
+{}
+
+/// The same of what is refused of a locator.
+pub fn equal_refusals_of_locators_are_one()
+    ensures { (p q : Unwritten) → IsTrue (⟦<LocatorWriteError as PartialEq>⟧.eq p q) ↔ (p ≡ q) }
 {}
 
 /// Nothing of it is refused but if allocation fails, where a length announces it: so it is what can be issued.

@@ -34,7 +34,11 @@ use rpki_resources::{AsResources, IpResources};
 use std::alloc::{AllocError, Global};
 
 /// Adds an extension with this content. Requires that lengths announce its parts.
-fn push<V: Values + Drop>(listed: &mut Vec<u8>, row: Row, content: V) -> Result<(), AllocError>
+pub(crate) fn push<V: Values + Drop>(
+    listed: &mut Vec<u8>,
+    row: Row,
+    content: V,
+) -> Result<(), AllocError>
     requires content { V.is_short content }
     requires all { AreShort (row_parts row (V.encoded content)) }
     ensures { IfOk result (λ _. IsMore listed.old.items listed.new.items (row_parts row (V.encoded content) ∷ [])) }
@@ -92,7 +96,7 @@ fn push_authority(listed: &mut Vec<u8>, kind: &CertKind<'_>) -> Result<(), Alloc
 }
 
 /// Adds the use of the key.
-fn push_usage(listed: &mut Vec<u8>, usage: KeyUsage) -> Result<(), AllocError>
+pub(crate) fn push_usage(listed: &mut Vec<u8>, usage: KeyUsage) -> Result<(), AllocError>
     ensures { IfOk result (λ _. IsMore listed.old.items listed.new.items (usage_extension usage ∷ [])) }
 {
     push(listed, Row::KeyUsage, encode_usage(usage))
@@ -155,7 +159,10 @@ fn push_issuers(listed: &mut Vec<u8>, kind: &CertKind<'_>) -> Result<(), AllocEr
 }
 
 /// Adds where an authority publishes.
-fn push_repository(listed: &mut Vec<u8>, repository: &Repository<'_>) -> Result<(), AllocError>
+pub(crate) fn push_repository(
+    listed: &mut Vec<u8>,
+    repository: &Repository<'_>,
+) -> Result<(), AllocError>
     requires { CanPublish repository.now }
     ensures { IfOk result (λ _. IsMore listed.old.items listed.new.items (repository_extension repository.now ∷ [])) }
 {

@@ -4,10 +4,12 @@ ghost use Rattle.std.specs.Prelude.{IfOk, IfErr};
 ghost use Rattle.rpki.specs.Checkers.{checkers_of};
 ghost use Rattle.rpki_issue.specs.Signers.{IsSignedCert, IsSignedList, IsSignedObject, IsSignerRefusal};
 ghost use Rattle.rpki_issue.specs.Signers.{IsObjectSignerRefusal};
+ghost use Rattle.rpki_issue.specs.Requests.{IsSignedRequest, IsRequestSignerRefusal};
 
 use crate::error::IssueError;
 use crate::unsigned_cert::UnsignedCert;
 use crate::unsigned_crl::UnsignedCrl;
+use crate::unsigned_csr::UnsignedCsr;
 use crate::unsigned_object::UnsignedObject;
 use bytes::Bytes;
 use rpki::crypto::{Provider, PublicKey};
@@ -100,6 +102,29 @@ impl<'a> UnsignedObject<'a> {
     {
         match signer.sign(self.message()) {
             Ok(signature) => match self.signed(alloc, provider, certificate, signature) {
+                Ok(made) => Ok(made),
+                Err(e) => Err(SigningError::Refused(e)),
+            },
+            Err(e) => Err(SigningError::Signer(e)),
+        }
+    }
+}
+
+impl<'a> UnsignedCsr<'a> {
+    /// The request, with a signature by the signer: [UnsignedCsr::signed] of what it returns.
+    ///
+    /// The errors are the signer's, and those of [UnsignedCsr::signed].
+    pub fn signed_with<S: Signer, P: Provider>(
+        self,
+        alloc: Global,
+        provider: &P,
+        signer: &mut S,
+    ) -> Result<Captured, SigningError<S::Error>>
+        ensures ok { IfOk result (λ c. IsSignedRequest (checkers_of P.Provider provider.now) self.entry c) }
+        ensures err { IfErr result (λ e. IsRequestSignerRefusal (checkers_of P.Provider provider.now) self.entry e) }
+    {
+        match signer.sign(self.message()) {
+            Ok(signature) => match self.signed(alloc, provider, signature) {
                 Ok(made) => Ok(made),
                 Err(e) => Err(SigningError::Refused(e)),
             },

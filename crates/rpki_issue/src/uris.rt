@@ -33,7 +33,7 @@ fn is_reachable(issuance: &Issuance<'_>) -> bool
 }
 
 /// Whether readers accept where an authority publishes.
-fn can_publish(repository: &Repository<'_>) -> bool
+pub(crate) fn can_publish(repository: &Repository<'_>) -> bool
     ensures { IsTrue result ↔ CanPublish repository.now }
 {
     can_point(repository.base)

@@ -57,7 +57,7 @@ fn put_named(octets: &mut Vec<u8>, builder: &TbsCertBuilder<'_>) -> Result<(), A
 }
 
 /// Adds the subject's key.
-fn put_key(octets: &mut Vec<u8>, key: &PublicKey) -> Result<(), IssueError>
+pub(crate) fn put_key(octets: &mut Vec<u8>, key: &PublicKey) -> Result<(), IssueError>
     ensures more { IfOk result (λ _. octets.new.items ≡ octets.old.items ++ key_octets key.now) }
     ensures key { IfOk result (λ _. SpellsKey key.now (key_octets key.now)) }
     ensures err { IfErr result (λ e. IsKeyedRefusal (length (key_octets key.now) < 2 ^ 32) e) }

@@ -1,4 +1,4 @@
-use Rattle.std.proofs.Common.{◌<◌, ◌^◌, length, arith, lit<, subst, sym, option_map}
+use Rattle.std.proofs.Common.{◌<◌, ◌^◌, length, arith, lit<, subst, sym}
 use Rattle.rpki_x509.proofs.WrittenLaws.{appended}
 use Rattle.rpki_issue.proofs.ContentsLaws.{policies-spelled, policy-few, policies-inner}
 use Rattle.rpki_issue.proofs.contents.encode_policies.Goals as goal

@@ -1,4 +1,4 @@
-use Rattle.std.proofs.Common.{◌<◌, ◌^◌, ℕ, List, [], ◌∷◌, true, length, arith, subst, sym, ap, refl}
+use Rattle.std.proofs.Common.{◌<◌, ◌^◌, ℕ, List, ◌∷◌, true, length, arith, subst, sym, ap}
 use Rattle.rpki_der.specs.Prelude.{sequence, tlv}
 use Rattle.rpki_x509.proofs.WrittenLaws.{appended}
 use Rattle.rpki_cert.specs.Access.{ca_repository, rpki_manifest}

@@ -1,9 +1,9 @@
-use Rattle.std.proofs.Common.{◌≡◌, ◌<◌, ◌^◌, true, length, ap, sym, subst, ◌∙◌, refl}
+use Rattle.std.proofs.Common.{◌<◌, ◌^◌, length, ap, sym, subst, ◌∙◌, refl}
 use Rattle.rpki_time.specs.Time.{IsTimeYear}
 use Rattle.rpki.specs.Prelude.{SpellsNameOctets}
 use Rattle.rpki_x509.specs.TagLaws.{number-few}
 use Rattle.rpki_x509.proofs.WrittenLaws.{appended}
-use Rattle.rpki_issue.specs.Tbs.{issued_of, extensions_octets}
+use Rattle.rpki_issue.specs.Tbs.{issued_of}
 use Rattle.rpki_issue.proofs.TbsLaws.{key-short, list-short, each-short, tbs-spelled}
 use Rattle.rpki_issue.proofs.tbs.TbsCertBuilder.encode.Goals as goal
 
