@@ -1,4 +1,5 @@
--- Authorities, trust anchors and revocation lists that are handed out (RFC 5280 6.3.3, RFC 6487 7.2, RFC 8630 2).
+-- Authorities, routers, trust anchors and revocation lists that are handed out (RFC 5280 6.3.3, RFC 6487 7.2, RFC 8209
+-- 3, RFC 8630 2).
 use Rattle.std.specs.Prelude.{◌≡◌, ◌+◌, ◌↔◌, ℕ, List, Some}
 use Rattle.jiff.specs.Types.{DateTime}
 use Rattle.rpki_der.specs.Prelude.{IsWholeFault}
@@ -7,20 +8,21 @@ use Rattle.rpki.specs.Provider.{Checkers}
 use Rattle.rpki.specs.Checkers.{Models, checkers_of}
 use Rattle.rpki.specs.declared.repository.error.ValidationError.{ValidationError}
 use Rattle.rpki.specs.PublicKey.{KeyParts}
-use Rattle.rpki_cert.specs.Cert.{SpellsCert}
+use Rattle.rpki_cert.specs.Cert.{CertParts, SpellsCert}
 use Rattle.rpki_cert.specs.CertFault.{IsCertFault}
-use Rattle.rpki_cert.specs.declared.profile.Profile.TheVariants.{Ca}
+use Rattle.rpki_cert.specs.declared.profile.Profile.TheVariants.{Ca, Router}
 use Rattle.rpki_crl.specs.Crl.{crl}
 use Rattle.rpki_issue.specs.Signing.{ToSign, IsIssuedCert, IsSigningRefusal}
 use Rattle.rpki_issue.specs.SignedList.{ListToSign, IsIssuedList}
 use Rattle.rpki_valid.specs.declared.staleness.Staleness.TheVariants.{Refused}
 use Rattle.rpki_valid.specs.CrlIssued.{InForce, HasListedPath, CountsAt, IsRefusedList}
 use Rattle.rpki_valid.specs.ResourceSet.{AreWithin}
+use Rattle.rpki_valid.specs.declared.resource.set.ResourceSet.{ResourceSet}
 use Rattle.rpki_valid.specs.Revocation.{least_asked}
 use Rattle.rpki_valid.specs.Verified.{Authority, Verified, Terms, verified_by, IsVerifiedBy, IsRootWith}
-use Rattle.rpki_valid.specs.Verified.{IsRefusedAuthority, IsRefusedRoot}
+use Rattle.rpki_valid.specs.Verified.{IsRefusedAuthority, IsRefusedLink, IsRefusedRoot}
 use Rattle.rpki_checked.specs.declared.error.CheckError.{CheckError}
-use Rattle.rpki_checked.specs.Checked.{IsUnfound, IsCheckRefusal}
+use Rattle.rpki_checked.specs.Checked.{AreOnly, IsUnfound, IsCheckRefusal}
 
 -- ---- what is below an authority
 
@@ -53,6 +55,26 @@ abbrev pub IsAuthorityRefusal : {X : Type 0} → Models X → InForce X → ToSi
 IsAuthorityRefusal models c made value =
     IsCertRefusal (checkers_of models c.issuer.provider) c.issuer.cert.tbs.key made value
     (IsNoAuthority models c)
+
+-- The octets are the certificate of a router, which is verified by the list at its moment, has a path up to the trust
+-- anchor, and holds these resources, within those of the authority (RFC 8209 3.1, 3.3).
+pub record IsRouterBelow {X : Type 0} (models : Models X) (c : InForce X) (whole : List ℕ)
+    (held : ResourceSet) : Type 0 where
+  pub cert : CertParts
+  pub one : AreOnly SpellsCert whole cert
+  pub verified : IsVerifiedBy Router (Some c.list) (verified_by models c.issuer) c.at cert held
+  pub path : HasListedPath models Router c cert held
+  pub within : AreWithin held c.issuer.resources
+
+-- the octets couldn't be read, or are a certificate of no such router, with the error of that
+abbrev pub IsNoRouter : {X : Type 0} → Models X → InForce X → List ℕ → ValidationError → Type 0
+IsNoRouter models c =
+    IsUnfound SpellsCert (IsWholeFault SpellsCert IsCertFault)
+    (IsRefusedLink Router (Some c.list) (verified_by models c.issuer) c.at)
+
+abbrev pub IsRouterRefusal : {X : Type 0} → Models X → InForce X → ToSign → List ℕ → CheckError → Type 0
+IsRouterRefusal models c made value =
+    IsCertRefusal (checkers_of models c.issuer.provider) c.issuer.cert.tbs.key made value (IsNoRouter models c)
 
 -- ---- what nothing is above
 

@@ -4,8 +4,8 @@
 //!
 //! [sign_roa] and its like check an object against the resources that its certificate lists, and need no issuer;
 //! [issue_roa] and its like verify it by the issuer's list that counts, up to the trust anchor. [issue_authority] does
-//! so for the certificate of an authority, [issue_list] for a revocation list, and [issue_anchor] for a trust anchor,
-//! which nothing is above.
+//! so for the certificate of an authority, [issue_router] for that of a router, [issue_list] for a revocation list, and
+//! [issue_anchor] for a trust anchor, which nothing is above.
 #![tactic(auto)]
 
 mod aspa;
@@ -18,7 +18,7 @@ mod read;
 mod roa;
 
 pub use aspa::{issue_aspa, sign_aspa};
-pub use cert::{issue_anchor, issue_authority};
+pub use cert::{issue_anchor, issue_authority, issue_router};
 pub use error::CheckError;
 pub use list::issue_list;
 pub use manifest::{issue_manifest, sign_manifest};
