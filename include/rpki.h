@@ -154,11 +154,12 @@ enum {
     RPKI_INVALID_PADDING = 43,     /* padding is missing */
 
     /* Of the calls on authorities, beside 62 and 63. */
-    RPKI_TOO_DEEP = 44,    /* the path has RPKI_MOST_STEPS steps already */
-    RPKI_NO_LIST = 45,     /* the authority has no revocation list yet: rpki_authority_list gives it one */
-    RPKI_SAME_NAMES = 46,  /* a manifest names two of its files alike (RFC 9286 4.2.1) */
-    RPKI_OTHER_LIST = 47,  /* a manifest lists another revocation list than the authority's, none, or several */
-    RPKI_NO_MANIFEST = 48, /* the authority has no manifest yet: rpki_authority_manifest gives it one */
+    RPKI_TOO_DEEP = 44,       /* the path has RPKI_MOST_STEPS steps already */
+    RPKI_NO_LIST = 45,        /* the authority has no revocation list yet: rpki_authority_list gives it one */
+    RPKI_SAME_NAMES = 46,     /* a manifest names two of its files alike (RFC 9286 4.2.1) */
+    RPKI_OTHER_LIST = 47,     /* a manifest lists another revocation list than the authority's, none, or several */
+    RPKI_NO_MANIFEST = 48,    /* the authority has no manifest yet: rpki_authority_manifest gives it one */
+    RPKI_OTHER_LIST_URI = 49, /* a manifest's certificate names another list than the manifest (RFC 6487 4.8.6) */
 
     /* Of rpki_validity_at: why a period doesn't hold at a moment. */
     RPKI_TOO_NEW = 50, /* the period begins after the moment */
@@ -1438,8 +1439,8 @@ rpki_status rpki_as_block_text(const struct rpki_as_block *block, uint8_t *out, 
  * valid. rpki_rsync_parts_canonical has the host of a URI in lower case, as the names of files have to be.
  *
  * The URIs that certificates have of their issuer's list, of its certificate and of their own object are asked for
- * (RPKI_RULE_REVOCATION_LIST, _ISSUER_CERTIFICATE, _SIGNED_OBJECT; RFC 6487 4.8.6, 4.8.7, 4.8.8.2), but not compared
- * with where these are. rpkivalid compares one of them: a manifest's certificate has to name the manifest's list.
+ * (RPKI_RULE_REVOCATION_LIST, _ISSUER_CERTIFICATE, _SIGNED_OBJECT; RFC 6487 4.8.6, 4.8.7, 4.8.8.2). One is compared
+ * with where that is: a manifest's certificate has to name the manifest's list (RPKI_OTHER_LIST_URI).
  *
  * The small calls look at no more than they say, so an extension that is unknown and critical, that is missing or is
  * too much, is for rpki_certificate_inspect to refuse; two of one identifier each call refuses
@@ -1643,14 +1644,16 @@ rpki_status rpki_authority_providers(const struct rpki_authority *by, const uint
  * nothing that it issues is valid. The key of its certificate has signed it, as rpki_object_verify asks; its
  * certificate is valid below the authority, as rpki_authority_end asks of one with the profile _EE; all resources that
  * it names are the authority's, as rpki_manifest_inherits asks; no two files have the same name; one alone has a name
- * that ends in `.crl`, and that has the digest of the authority's list (RFC 6481 2.2); and the moment of the path is
- * not before this update nor after the next. `room` has `capacity` places, one for each file at least, and is written
- * over. n files take n log n steps. `files` of `out` are the manifest's; whether the others are as it says,
+ * that ends in `.crl`, and that has the digest of the authority's list (RFC 6481 2.2); the moment of the path is not
+ * before this update nor after the next; and its certificate's CRL distribution point is that list (RFC 6487 4.8.6):
+ * the first rsync URI there is that name in the first RPKI_ACCESS_CA_REPOSITORY of the authority, as rpki_rsync_join
+ * joins them and rpki_rsync_parts_equal compares. `room` has `capacity` places, one for each file at least, and is
+ * written over. n files take n log n steps. `files` of `out` are the manifest's; whether the others are as it says,
  * rpki_manifest_file_is asks of each. Takes no memory.
  *
  * The statuses, in this order: those of rpki_authority_origin from rpki_signed_object's up to RPKI_BAD_SIGNATURE;
  * RPKI_NOT_INHERITED; those of rpki_manifest; RPKI_TOO_SMALL: `room` has too few places; RPKI_SAME_NAMES;
- * RPKI_OTHER_LIST; RPKI_CONTENT: the moment is none; RPKI_TOO_NEW; RPKI_TOO_OLD.
+ * RPKI_OTHER_LIST; RPKI_CONTENT: the moment is none; RPKI_TOO_NEW; RPKI_TOO_OLD; RPKI_OTHER_LIST_URI.
  */
 rpki_status rpki_authority_manifest(const struct rpki_authority *by, const uint8_t *octets, size_t size, bool strict,
                                     struct rpki_span *room, size_t capacity, struct rpki_authority *out) RPKI_CHECKED;
@@ -2278,6 +2281,7 @@ static inline const char *rpki_status_text(rpki_status status) {
         case RPKI_SAME_NAMES: return "two files of one name";
         case RPKI_OTHER_LIST: return "manifest lists another revocation list";
         case RPKI_NO_MANIFEST: return "authority has no manifest";
+        case RPKI_OTHER_LIST_URI: return "manifest's certificate names another revocation list";
         case RPKI_PART_CERTIFICATE: return "not a certificate";
         case RPKI_PART_SIGNED: return "malformed signed data";
         case RPKI_PART_ALGORITHM: return "signature algorithm is not the RPKI's";
@@ -2460,6 +2464,7 @@ static inline const char *rpki_status_name(rpki_status status) {
         case RPKI_SAME_NAMES: return "RPKI_SAME_NAMES";
         case RPKI_OTHER_LIST: return "RPKI_OTHER_LIST";
         case RPKI_NO_MANIFEST: return "RPKI_NO_MANIFEST";
+        case RPKI_OTHER_LIST_URI: return "RPKI_OTHER_LIST_URI";
         case RPKI_PART_CERTIFICATE: return "RPKI_PART_CERTIFICATE";
         case RPKI_PART_SIGNED: return "RPKI_PART_SIGNED";
         case RPKI_PART_ALGORITHM: return "RPKI_PART_ALGORITHM";
@@ -2658,6 +2663,7 @@ static inline const char *rpki_rule_text(rpki_status status) {
         case RPKI_NO_LIST: return "RFC 6487 7.2";
         case RPKI_OTHER_LIST: return "RFC 6481 2.2, RFC 9286 4.2.1, 6.5";
         case RPKI_NO_MANIFEST: return "RFC 9286 6.2";
+        case RPKI_OTHER_LIST_URI: return "RFC 6487 4.8.6";
         default: return "";
     }
 }

@@ -79,6 +79,9 @@ impl Walk {
         if lists.len() != 1 {
             return Err("not one revocation list".into());
         }
+        if signer.crl_uri() != Some(&lists[0].0) {
+            return Err("another revocation list is named".into());
+        }
         let mut list = Crl::decode(&lists[0].1)?.validate_at(by, self.now)?;
         list.cache_serials();
         list.verify_not_revoked(&signer)?;

@@ -6,8 +6,8 @@
 -- Where octets go wrong: FaultLaws. The index, in the middle of its writing: FillingLaws.
 -- Parts of parsed URIs, by their places: PlaceLaws.
 -- Parts of certificates, and one that is checked against a profile: CertificateLaws; of revocation lists, signed
---   objects, manifests and attestations: ObjectLaws. The list among a manifest's files: ListingLaws. Tables of serial
---   numbers: SerialTableLaws.
+--   objects, manifests and attestations: ObjectLaws. The list among a manifest's files: ListingLaws; where certificates
+--   say that it is: ListNameLaws, ManifestLaws. Tables of serial numbers: SerialTableLaws.
 -- The entries that octets are: RevokedLaws.
 -- Certificates, lists and objects of which each status is 0, as the layer says it: BelowLaws. Paths of authorities:
 --   PathLaws; the resources of their certificates: HeldLaws, BlocksBackLaws; of objects' certificates: SignerPathLaws;
@@ -29,6 +29,8 @@ pub mod ObjectLaws
 mod ResourceLaws
 mod BelowLaws
 mod ListingLaws
+mod ListNameLaws
+mod ManifestLaws
 mod PolicyLaws
 mod RevokedLaws
 mod OneCertLaws

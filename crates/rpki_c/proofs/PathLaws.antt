@@ -189,6 +189,15 @@ same-manifest strict by s files m =
         moment = m.held.moment;
         now = m.held.now;
       };
+      named = record {
+        issuer = m.named.issuer;
+        above = m.named.above;
+        folder = m.named.folder;
+        publishes = m.named.publishes;
+        place = m.named.place;
+        names = m.named.names;
+        is = m.named.is;
+      };
     }
 
 pub manifest-path : (strict : Bool) (by : Authority) (s : List ℕ) (files : Span) → IsManifestBelow strict by s

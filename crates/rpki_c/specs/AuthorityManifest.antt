@@ -1,6 +1,6 @@
 -- What a status says of a signed object below an authority of a path (RFC 6488 3), and of the authority's manifest.
 use Rattle.std.specs.Prelude.{◌≡◌, ◌≢◌, ◌⊎◌, ◌<◌, ℕ, Bool, true, List, Result, MatchResult, length}
-use Rattle.std.specs.Prelude.{map, filter, codes, nat_eq, [], ◌∷◌}
+use Rattle.std.specs.Prelude.{filter, codes, nat_eq, [], ◌∷◌, Option, Some, None}
 use Rattle.std.specs.List.{ends_with}
 use Rattle.jiff.specs.Types.{DateTime}
 use Rattle.rpki_cert.specs.declared.extension.known_view.KnownView.{KnownView}
@@ -18,14 +18,16 @@ use Rattle.rpki_time.specs.Validity.{HoldsAt}
 use Rattle.rpki_valid.specs.ObjectResources.{AreInherited}
 use Rattle.rpki_valid.specs.ObjectVerified.{IsSignedObject}
 use Rattle.rpki_c.specs.declared.authority.Authority.{Authority}
+use Rattle.rpki_c.specs.declared.authority_manifest.Held.{Held}
 use Rattle.rpki_c.specs.declared.span.Span.{Span}
 use Rattle.rpki_c.specs.Below.{checkers, IsBelow, IsNotBelow}
+use Rattle.rpki_c.specs.ListName.{NamesFile}
 use Rattle.rpki_c.specs.Made.{IsPossible, IsTimeOf}
 use Rattle.rpki_c.specs.Manifest.{IsListing, manifest_part_number}
 use Rattle.rpki_c.specs.Moments.{IsToldOf}
 use Rattle.rpki_c.specs.SignedObject.{object_part_number, IsNoObject, certificate_in, HasSignedContent, IsContentWrong}
 use Rattle.rpki_c.specs.SignedObject.{IsSignerTold, content_type_number}
-use Rattle.rpki_c.specs.Status.{other_type, not_inherited, same_names, other_list, too_small, content}
+use Rattle.rpki_c.specs.Status.{other_type, not_inherited, same_names, other_list, other_list_uri, too_small, content}
 
 -- ---- the object, and its certificate
 
@@ -65,13 +67,20 @@ IsNoObjectBelow type strict by Rest s status =
 abbrev pub is_list : ListedFile → Bool
 is_list file = ends_with nat_eq file.0 (codes ".crl")
 
--- the digests of the files that are lists by their names
-abbrev pub list_digests : List ListedFile → List (List ℕ)
-list_digests files = map (λ file. file.1) (filter is_list files)
+-- the one file that is a list by its name; none, where there is none or more than one (RFC 6481 2.2)
+abbrev pub only : List ListedFile → Option ListedFile
+only [] = None
+only (file ∷ []) = Some file
+only (file ∷ other ∷ files) = None
+
+abbrev pub list_file : List ListedFile → Option ListedFile
+list_file files = only (filter is_list files)
 
 -- one file is a list by its name, and that has this digest (RFC 6481 2.2, RFC 9286 4.2.1)
-abbrev pub ListsOnly : List ListedFile → List ℕ → Type 0
-ListsOnly files digest = list_digests files ≡ digest ∷ []
+pub record ListsOnly (files : List ListedFile) (digest : List ℕ) : Type 0 where
+  pub file : ListedFile
+  pub listed : list_file files ≡ Some file
+  pub same : file.1 ≡ digest
 
 -- the octets are a manifest, no two of whose files have the same name, whose revocation list is the authority's, and
 -- which holds at the moment of the path (RFC 9286 4.2.1, 6.3)
@@ -100,20 +109,29 @@ IsNoManifestHeld by capacity s status =
     ((q : ManifestPart) × (status ≡ manifest_part_number q) × IsManifestWrong s q)
     ⊎ ((x : ManifestParts) × IsListing x s × IsManifestRefused by capacity x status)
 
--- a test of that, which hands out the octets of the files
-abbrev pub TestsManifest : Authority → ℕ → List ℕ → Result Span ℕ → Type 0
-TestsManifest by capacity s r =
-    MatchResult r (λ files. (h : IsManifestHeld by s) × AreFiles h.content.files files.octets.now)
-    (IsNoManifestHeld by capacity s)
+-- the octets of its files, and the name of its list
+pub record IsHeldAs (by : Authority) (s : List ℕ) (x : Held) : Type 0 where
+  pub held : IsManifestHeld by s
+  pub files : AreFiles held.content.files x.files.octets.now
+  pub list : x.list.now ≡ held.list.file.0
 
--- 59: the certificate has resources of its own (RFC 9286 5.1). Else the manifest isn't held.
+-- a test of that, which hands them out
+abbrev pub TestsManifest : Authority → ℕ → List ℕ → Result Held ℕ → Type 0
+TestsManifest by capacity s r = MatchResult r (IsHeldAs by s) (IsNoManifestHeld by capacity s)
+
+-- 59: the certificate has resources of its own (RFC 9286 5.1). Else the manifest isn't held; or it is, and the
+-- certificate doesn't name its list, which is 49 (RFC 6487 4.8.6).
 abbrev pub IsNoManifest : Authority → ℕ → ObjectParts → KnownView → ℕ → Type 0
 IsNoManifest by capacity x known status =
     ((status ≡ not_inherited) × (AreInherited x.cert.tbs.extensions → ⊥))
-    ⊎ (AreInherited x.cert.tbs.extensions × IsNoManifestHeld by capacity x.content.content status)
+    ⊎ (AreInherited x.cert.tbs.extensions
+    × (IsNoManifestHeld by capacity x.content.content status
+    ⊎ ((h : IsManifestHeld by x.content.content) × (status ≡ other_list_uri)
+    × (NamesFile by x.cert h.list.file.0 → ⊥))))
 
 -- The octets are a manifest that is valid below the authority: an end entity has signed it (RFC 6488 3), all of whose
--- resources are the authority's (RFC 9286 5.1).
+-- resources are the authority's (RFC 9286 5.1), and whose certificate names the list that is on the manifest (RFC 6487
+-- 4.8.6).
 pub record IsManifestBelow (strict : Bool) (by : Authority) (s : List ℕ) : Type 0 where
   pub x : ObjectParts
   pub spelled : (signed_object strict).spells (object_fields_of x) s
@@ -122,6 +140,7 @@ pub record IsManifestBelow (strict : Bool) (by : Authority) (s : List ℕ) : Typ
   pub signed : IsSignedBelow by x known
   pub inherited : AreInherited x.cert.tbs.extensions
   pub held : IsManifestHeld by x.content.content
+  pub named : NamesFile by x.cert held.list.file.0
 
 abbrev pub TestsManifestBelow : Bool → Authority → ℕ → List ℕ → Result Span ℕ → Type 0
 TestsManifestBelow strict by capacity s r =

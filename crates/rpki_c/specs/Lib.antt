@@ -40,6 +40,7 @@ pub mod Below
 pub mod Revoked
 pub mod Locator
 pub mod Owned
+pub mod ListName
 pub mod AuthorityManifest
 pub mod Path
 pub mod Authority

@@ -147,6 +147,10 @@ same_names = 46
 abbrev pub other_list : ℕ
 other_list = 47
 
+-- the certificate of a manifest names another revocation list than the manifest lists
+abbrev pub other_list_uri : ℕ
+other_list_uri = 49
+
 -- a certificate is on the revocation list of its issuer
 abbrev pub revoked : ℕ
 revoked = 62

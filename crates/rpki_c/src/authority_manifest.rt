@@ -1,16 +1,18 @@
 //! Manifests below an authority of a path.
 
 ghost use Rattle.std.specs.Prelude.{◌≡◌, ◌↔◌, List, IsTrue, length};
+ghost use Rattle.rpki_der.specs.Prelude.{optional_of};
 ghost use Rattle.rpki_contents.specs.FilesInPlace.{HoldFiles};
 ghost use Rattle.rpki_contents.specs.ListedFile.{ListedFile};
 ghost use Rattle.rpki_contents.specs.ManifestView.{file_in};
-ghost use Rattle.rpki_c.specs.AuthorityManifest.{is_list, ListsOnly, TestsManifest, TestsManifestBelow};
+ghost use Rattle.rpki_c.specs.AuthorityManifest.{is_list, list_file, TestsManifest, TestsManifestBelow};
 ghost use Rattle.rpki_c.specs.AuthorityObject.{IsManifestTold};
 
 use crate::authority::Authority;
 use crate::authority_objects::signed_below;
 use crate::content_type::rpki_content_type;
 use crate::coverage::are_inherited;
+use crate::list_name::names_file;
 use crate::manifest::manifest_part_number;
 use crate::periods::told_of;
 use crate::signed_object::object_part_number;
@@ -35,28 +37,34 @@ fn has_hash(file: &FileView<'_>, digest: &[u8; 32]) -> bool
     file.hash.into_array() == *digest
 }
 
-/// Whether one of the files is a revocation list by its name, and has this digest.
-fn lists_only(files: &FilesView<'_>, digest: &[u8; 32]) -> bool
-    ensures { (xs : List ListedFile) → HoldFiles files.now xs → IsTrue result ↔ ListsOnly xs digest.now }
+/// The one file that is a revocation list by its name; None where there is none, or more than one.
+fn list_file<'a>(files: &FilesView<'a>) -> Option<FileView<'a>>
+    ensures { (xs : List ListedFile) → HoldFiles files.now xs → optional_of file_in result ≡ list_file xs }
 {
     let mut cursor = files.files();
-    let mut found = false;
+    let mut found = None;
     'files: while let Some(file) = cursor.next_file() {
         if is_list(&file) {
-            if found {
-                return false;
+            if found.is_some() {
+                return None;
             }
-            if !has_hash(&file, digest) {
-                return false;
-            }
-            found = true;
+            found = Some(file);
         }
     }
     found
 }
 
+/// What a manifest lists.
+#[derive(Clone, Copy)]
+struct Held<'a> {
+    /// The octets of its files.
+    files: Span<'a>,
+    /// The name of its revocation list.
+    list: &'a [u8],
+}
+
 /// Tests that the octets are a manifest, that no two of its files have the same name, that its revocation list is the
-/// authority's, and that it holds at the moment of the path; hands out the files. The room is written over.
+/// authority's, and that it holds at the moment of the path; hands out what it lists. The room is written over.
 ///
 /// The error is, in this order: as of `rpki_manifest`; `TOO_SMALL`, where the room has fewer places than there are
 /// files; `SAME_NAMES`; `OTHER_LIST`; `CONTENT`, where the years 0 to 9999 have no such time as the moment; `TOO_NEW`;
@@ -65,7 +73,7 @@ fn manifest_held<'a>(
     by: &Authority<'_>,
     octets: &'a [u8],
     room: &mut [&'a [u8]],
-) -> Result<Span<'a>, u8>
+) -> Result<Held<'a>, u8>
     ensures { TestsManifest by.now (length room.old) octets.now result }
 {
     let found = match ManifestView::read(octets) {
@@ -78,7 +86,10 @@ fn manifest_held<'a>(
     if !found.files.names_differ(room) {
         return Err(SAME_NAMES);
     }
-    if !lists_only(&found.files, &by.list_digest) {
+    let Some(list) = list_file(&found.files) else {
+        return Err(OTHER_LIST);
+    };
+    if !has_hash(&list, &by.list_digest) {
         return Err(OTHER_LIST);
     }
     let Some(time) = time_of(&by.moment) else {
@@ -89,7 +100,10 @@ fn manifest_held<'a>(
     if told != 0 {
         return Err(told);
     }
-    Ok(Span::of(found.files.octets()))
+    Ok(Held {
+        files: Span::of(found.files.octets()),
+        list: list.name,
+    })
 }
 
 /// Tests what [rpki_authority_manifest] does; the error is its status.
@@ -115,8 +129,12 @@ fn manifest_below<'a>(
     if !are_inherited(&found.cert.parts.tbs.named.keyed) {
         return Err(NOT_INHERITED);
     }
-    match manifest_held(by, found.content.content.octets, room) {
-        Ok(files) => Ok(files),
+    let held = match manifest_held(by, found.content.content.octets, room) {
+        Ok(held) => held,
+        Err(status) => return Err(status),
+    };
+    match names_file(by, &found.cert.parts, held.list) {
+        Ok(()) => Ok(held.files),
         Err(status) => Err(status),
     }
 }
@@ -125,15 +143,16 @@ fn manifest_below<'a>(
 /// authority (RFC 9286 6.2, 6.3): whether its content is one, which the key of its certificate has signed (RFC 6488 3);
 /// the certificate is that of an end entity, as `rpki_authority_end` asks; all resources that it names are its issuer's
 /// (RFC 9286 5.1); no two of the files have the same name (RFC 9286 4.2.1); one is a revocation list by its name, and
-/// has the digest of the authority's (RFC 6481 2.2); and the moment of the path is not before this update nor after the
-/// next (RFC 9286 6.3). Whether the other files are as it says is not looked at. The room is written over; n files take
-/// n log n steps. If `strict`, as of `rpki_signed_object`.
+/// has the digest of the authority's (RFC 6481 2.2); the moment of the path is not before this update nor after the
+/// next (RFC 9286 6.3); and the certificate's CRL distribution point is that list, by its name where the authority
+/// publishes (RFC 6487 4.8.6). Whether the other files are as it says is not looked at. The room is written over; n
+/// files take n log n steps. If `strict`, as of `rpki_signed_object`.
 ///
 /// The status is 0. Else it is, in this order: as of `rpki_signed_object`; `OTHER_TYPE`, where the content is of
 /// another type, or not of the one that is signed; `OTHER_DIGEST`; as of `rpki_authority_end`; `OTHER_SIGNER`;
 /// `KEY_NOT_ACCEPTED` or `BAD_SIGNATURE`, as of `rpki_verify`; `NOT_INHERITED`; as of `rpki_manifest`; `TOO_SMALL`,
 /// where the room has fewer places than there are files; `SAME_NAMES`; `OTHER_LIST`; `CONTENT`, where the moment is
-/// none; `TOO_NEW`; `TOO_OLD`. Then `out` is unchanged. Nothing is allocated.
+/// none; `TOO_NEW`; `TOO_OLD`; `OTHER_LIST_URI`. Then `out` is unchanged. Nothing is allocated.
 #[unsafe(no_mangle)]
 pub extern "C" fn rpki_authority_manifest<'a>(
     by: &Authority<'a>,

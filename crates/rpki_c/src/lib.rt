@@ -55,6 +55,7 @@ mod key_writing;
 mod keys;
 mod known_cert;
 mod list_issued;
+mod list_name;
 mod locator;
 mod manifest;
 mod manifest_names;

@@ -132,6 +132,9 @@ pub(crate) const SAME_NAMES: u8 = 46;
 /// A manifest lists another revocation list than the authority has, none, or more than one.
 pub(crate) const OTHER_LIST: u8 = 47;
 
+/// The certificate of a manifest names another revocation list than the manifest lists.
+pub(crate) const OTHER_LIST_URI: u8 = 49;
+
 /// A certificate is on the revocation list of its issuer.
 pub(crate) const REVOKED: u8 = 62;
 

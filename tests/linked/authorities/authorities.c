@@ -5,16 +5,14 @@
  *
  * usage: authorities FOLDER
  */
-#define _XOPEN_SOURCE 600 /* for ucontext.h */
-
 #include "../judging.h"
 #include "../memory.h"
 #include "../octets.h"
+#include "../stack.h"
 
 #include <stdio.h>
 #include <stdlib.h>
 #include <string.h>
-#include <ucontext.h>
 
 #include "rpki.h"
 
@@ -28,10 +26,25 @@ enum { MOST_BLOCKS = 128, MOST_OCTETS = 1 << 15 };
 enum call { ANCHOR, LIST, UNDER, END, ORIGIN, PROVIDERS, MANIFEST };
 
 /* The authorities that are asked, each with a manifest: the anchor with its list and without, the one below it
- * likewise, and with another list that it has issued; the one below as deep as may be; and it with a moment that is
- * none, with other octets as its list, and with a block that is inherited. Without a manifest: a zeroed one; the one
- * below with its list. */
-enum by { TOP, BARE_TOP, OWN, BARE_OWN, RELISTED, ZEROED, DEEPEST, TIMELESS, GARBLED, INHERITED, LISTED, AUTHORITIES };
+ * likewise, and with another list that it has issued; the one below with folders of other names, with its folder
+ * elsewhere, and as deep as may be; and it with a moment that is none, with other octets as its list, and with a block
+ * that is inherited. Without a manifest: a zeroed one; the one below with its list. */
+enum by {
+    TOP,
+    BARE_TOP,
+    OWN,
+    BARE_OWN,
+    RELISTED,
+    HOMED,
+    AWAY,
+    ZEROED,
+    DEEPEST,
+    TIMELESS,
+    GARBLED,
+    INHERITED,
+    LISTED,
+    AUTHORITIES
+};
 
 /* A row: what is asked of whom, about which file, and the answer. `number` is a profile, whether reading is strict, how
  * much room there is, or of the anchor the moment. */
@@ -163,6 +176,25 @@ static const struct row rows[] = {
     {MANIFEST, OWN, "second.mft", 3, RPKI_OTHER_LIST},
     {MANIFEST, OWN, "late.mft", 2, RPKI_TOO_NEW},
     {MANIFEST, OWN, "stale.mft", 2, RPKI_TOO_OLD},
+    {MANIFEST, OWN, "list-capitals.mft", 2, RPKI_OK},
+    {MANIFEST, OWN, "list-several.mft", 2, RPKI_OK},
+    {MANIFEST, OWN, "list-renamed.mft", 2, RPKI_OK},
+    {MANIFEST, HOMED, "ee.mft", 2, RPKI_OK},
+    {MANIFEST, HOMED, "list-elsewhere.mft", 2, RPKI_OTHER_LIST_URI},
+    {MANIFEST, AWAY, "list-elsewhere.mft", 2, RPKI_OK},
+    {MANIFEST, AWAY, "ee.mft", 2, RPKI_OTHER_LIST_URI},
+    {MANIFEST, OWN, "list-none.mft", 2, RPKI_RULE_REVOCATION_LIST},
+    {MANIFEST, OWN, "list-named.mft", 2, RPKI_OTHER_LIST_URI},
+    {MANIFEST, OWN, "list-listed.mft", 2, RPKI_OTHER_LIST_URI},
+    {MANIFEST, OWN, "list-behind.mft", 2, RPKI_OTHER_LIST_URI},
+    {MANIFEST, OWN, "list-elsewhere.mft", 2, RPKI_OTHER_LIST_URI},
+    {MANIFEST, OWN, "list-below.mft", 2, RPKI_OTHER_LIST_URI},
+    {MANIFEST, OWN, "list-above.mft", 2, RPKI_OTHER_LIST_URI},
+    {MANIFEST, OWN, "list-folder.mft", 2, RPKI_OTHER_LIST_URI},
+    {MANIFEST, OWN, "list-cased.mft", 2, RPKI_OTHER_LIST_URI},
+    {MANIFEST, OWN, "list-module.mft", 2, RPKI_OTHER_LIST_URI},
+    {MANIFEST, OWN, "list-host.mft", 2, RPKI_OTHER_LIST_URI},
+    {MANIFEST, OWN, "list-port.mft", 2, RPKI_OTHER_LIST_URI},
 };
 
 static const char *folder;
@@ -223,22 +255,7 @@ static rpki_status make_call(void) {
     }
 }
 
-/* The same on a stack of its own, of which it uses no more than rpki.h says of a call. */
-static ucontext_t own, back;
 static void ask(void) { asked.status = make_call(); }
-
-static void ask_on_stack(unsigned line) {
-    enum { WHOLE = 1 << 17, MOST = 1 << 15 };
-    static uint8_t stack[WHOLE];
-    memset(stack, FILL, sizeof stack);
-    if (getcontext(&own) != 0) exit(2);
-    own.uc_stack.ss_sp = stack;
-    own.uc_stack.ss_size = sizeof stack;
-    own.uc_link = &back;
-    makecontext(&own, ask, 0);
-    if (swapcontext(&back, &own) != 0) exit(2);
-    judge(line, "the stack", untouched(stack, WHOLE - MOST));
-}
 
 static bool is_unwritten(void) {
     return untouched(&asked.made, sizeof asked.made) && untouched(&asked.found, sizeof asked.found) &&
@@ -322,7 +339,7 @@ static void judge_row(unsigned line, const struct row *row) {
     if (row->call == ANCHOR && rpki_time_of_seconds(row->number, &asked.moment) != RPKI_OK) exit(2);
     if (row->number == -1) asked.moment.month = 13;
     count_allocations(NONE_REFUSED);
-    ask_on_stack(line);
+    judge_stack(line, ask);
     many = allocations(&freed);
     judge_status(line, row->file, asked.status, row->status);
     judge(line, "what was allocated is freed", freed && (takes_memory || many == 0));
@@ -445,6 +462,8 @@ int main(int count, char **words) {
     authorities[BARE_OWN] = made(BARE_OWN, "ca.cer", NULL, &authorities[TOP]);
     authorities[OWN] = made(OWN, "ca.cer", "ca.crl", &authorities[TOP]);
     authorities[RELISTED] = made(RELISTED, "ca.cer", "again.crl", &authorities[TOP]);
+    authorities[HOMED] = made(HOMED, "ca-homed.cer", "ca.crl", &authorities[TOP]);
+    authorities[AWAY] = made(AWAY, "ca-away.cer", "ca.crl", &authorities[TOP]);
     authorities[DEEPEST] = authorities[TIMELESS] = authorities[GARBLED] = authorities[INHERITED] = authorities[OWN];
     authorities[DEEPEST].depth = RPKI_MOST_STEPS;
     authorities[TIMELESS].moment.month = 13;

@@ -8,7 +8,10 @@ them what a path needs:
     self.cer     the authority's own certificate, by itself; up.cer: one of the anchor's key, by the authority
     twice.mft    a manifest that names two files alike; own.mft: one whose certificate has resources of its own
     unlisted.mft one without a list; other.mft: with another; second.mft: with the list by two names
+    homed, away  the authority with two folders behind one by https, in capitals; with its folder elsewhere
     none         no octets
+
+and manifests whose certificates have these URIs of the list, as LISTS says.
 
 usage: tests/linked/authorities/path.py FOLDER      Needs openssl."""
 import os
@@ -20,9 +23,28 @@ HERE = os.path.dirname(os.path.abspath(__file__))
 sys.path[:0] = [os.path.join(HERE, "..", "deciding"), os.path.join(HERE, "..", "..", "python")]
 
 import files
-from files import FROM, HAS, UNTIL, Maker, bits, entry, lists, name, openssl, payloads, sequence, x509
+from files import BASE, FROM, HAS, UNTIL, Maker, bits, entry, lists, name, openssl, payloads, sequence, x509
 
 GONE = 75
+HOME = BASE + b"/ca/"
+# By the name of the manifest: the name of the list that it lists, and what its certificate says of it.
+LISTS = {
+    "capitals": ("ca.crl", b"RSYNC://RPKI.Example/repo/ca/ca.crl"),
+    "several": ("ca.crl", b"https://rpki.example/repo/ca/cb.crl", HOME + b"ca.crl", HOME + b"cb.crl"),
+    "renamed": ("cb.crl", HOME + b"cb.crl"),
+    "elsewhere": ("ca.crl", BASE + b"/cb/ca.crl"),
+    "none": ("ca.crl",),
+    "named": ("ca.crl", HOME + b"cb.crl"),
+    "listed": ("cb.crl", HOME + b"ca.crl"),
+    "behind": ("ca.crl", HOME + b"cb.crl", HOME + b"ca.crl"),
+    "below": ("ca.crl", HOME + b"in/ca.crl"),
+    "above": ("ca.crl", BASE + b"/ca.crl"),
+    "folder": ("ca.crl", HOME + b"ca.crl/"),
+    "cased": ("ca.crl", BASE + b"/CA/ca.crl"),
+    "module": ("ca.crl", b"rsync://rpki.example/Repo/ca/ca.crl"),
+    "host": ("ca.crl", b"rsync://rpki.example.org/repo/ca/ca.crl"),
+    "port": ("ca.crl", b"rsync://rpki.example:873/repo/ca/ca.crl"),
+}
 
 
 def public(key):
@@ -50,6 +72,15 @@ def of_the_path(make):
                          ("second", [("ca.crl", octets), ("cb.crl", octets)])]:
         named = [payloads.file(*each) for each in [*listed, ("a.roa", b"a")]]
         make.object(f"{word}.mft", payloads.manifest(named, until="20360101000000Z"), ip=None, numbers=None)
+    for word, (listed, *places) in LISTS.items():
+        content = payloads.manifest([payloads.file(listed, octets), payloads.file("a.roa", b"a")],
+                                    until="20360101000000Z")
+        make.object(f"list-{word}.mft", content, ip=None, numbers=None, above=(tuple(places), BASE + b"/ca.cer"))
+    host = b"RSYNC://RPKI.Example/repo/"
+    folders = [b"https://rpki.example/repo/cb/", host + b"ca/", host + b"cb/"]
+    access = [*((x509.REPOSITORY, it) for it in folders), (x509.MANIFEST, host + b"ca/ca.mft")]
+    make.issue("ca-homed.cer", "ca", access=access, **HAS)
+    make.issue("ca-away.cer", "ca", home=b"rpki.example/repo/cb/ca.mft", **HAS)
     make.object("both.roa", payloads.roa(64496, payloads.family(4, [("10.1.0.0/16",)])), **HAS)
     make.object("both.asa", payloads.aspa(64496, [64499]), **HAS)
 

@@ -3,7 +3,7 @@
  * rpki_manifest, rpki_roa, rpki_aspa, rpki_checklist and rpki_tak, and their entries with rpki_manifest_file,
  * rpki_roa_address, rpki_aspa_provider and rpki_checklist_file, asks rpki_manifest_names whether names differ, and
  * compares statuses and what is found with those of rows that rows.py writes, and what rpki_manifest_error and its like
- * write. What a call refuses leaves `out` as it was. No call allocates.
+ * write. What a call refuses leaves `out` as it was. No call allocates, or takes more of the stack than rpki.h says.
  *
  * usage: contents ROWS
  */
@@ -11,6 +11,7 @@
 #include "../memory.h"
 #include "../octets.h"
 #include "../spans.h"
+#include "../stack.h"
 
 #include <stdio.h>
 #include <stdlib.h>
@@ -323,29 +324,42 @@ static bool is_wrong(const char *word, const struct octets *input, unsigned want
     return written == error;
 }
 
+/* What a row asks, and what is found; and what is wrong, whether it is what is wanted. */
+static struct {
+    const char *word;
+    struct octets input;
+    rpki_status status;
+    struct told told;
+    unsigned wanted, error;
+    bool well;
+} asked;
+
+static void make_calls(void) { asked.well = call(asked.word, &asked.input, &asked.status, &asked.told); }
+static void ask_what_is_wrong(void) { asked.well = is_wrong(asked.word, &asked.input, asked.wanted, asked.error); }
+
 /* A row is a word, octets, and the words of what is found, from the status on; or the status and the error. */
 static void row(unsigned line, char *text) {
-    static struct told told;
     char *digits = strchr(text, ' ') + 1, *words = strchr(digits, ' ');
-    struct octets input = octets_spelt(digits);
-    rpki_status status = 255;
-    unsigned wanted;
-    bool well;
     digits[-1] = 0;
     clean = true;
-    told.size = 0;
-    told.text[0] = 0;
-    well = call(text, &input, &status, &told);
+    asked.word = text;
+    asked.input = octets_spelt(digits);
+    asked.status = 255;
+    asked.told.size = 0;
+    asked.told.text[0] = 0;
+    judge_stack(line, make_calls);
+    judge(line, "the entries", asked.well);
     judge(line, "allocates, or writes what it refuses", clean);
-    wanted = (unsigned)strtoul(words, &words, 10);
-    judge(line, "the status", status == wanted);
+    asked.wanted = (unsigned)strtoul(words, &words, 10);
+    judge(line, "the status", asked.status == asked.wanted);
     if (strstr("manifest roa0 roa1 aspa checklist tak", text)) {
-        judge(line, "the error", is_wrong(text, &input, wanted, (unsigned)strtoul(words, NULL, 10)));
+        asked.error = (unsigned)strtoul(words, NULL, 10);
+        judge_stack(line, ask_what_is_wrong);
+        judge(line, "the error", asked.well);
     }
-    judge(line, "the entries", well);
-    judge(line, "what is found", status != RPKI_OK || is_told(told.text, words));
-    if (!strcmp(text, "address4")) other_families(line, &input);
-    free(input.at);
+    judge(line, "what is found", asked.status != RPKI_OK || is_told(asked.told.text, words));
+    if (!strcmp(text, "address4")) other_families(line, &asked.input);
+    free(asked.input.at);
 }
 
 int main(int count, char **words) { return judge_rows(count, words, row); }

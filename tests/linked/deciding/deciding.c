@@ -5,16 +5,14 @@
  *
  * usage: deciding ROWS
  */
-#define _XOPEN_SOURCE 600 /* for ucontext.h */
-
 #include "../judging.h"
 #include "../memory.h"
 #include "../octets.h"
+#include "../stack.h"
 
 #include <stdio.h>
 #include <stdlib.h>
 #include <string.h>
-#include <ucontext.h>
 
 #include "rpki.h"
 
@@ -107,26 +105,6 @@ static void ask(const struct question *q, size_t capacity, struct answer *out) {
     }
 }
 
-/* A function on a stack of its own, of which it uses no more than rpki.h says of a call. */
-static struct {
-    void (*run)(void);
-    ucontext_t own, back;
-} there;
-
-static void on_stack(void (*run)(void)) {
-    enum { WHOLE = 1 << 17, MOST = 1 << 15 };
-    static uint8_t stack[WHOLE];
-    memset(stack, FILL, sizeof stack);
-    there.run = run;
-    if (getcontext(&there.own) != 0) exit(2);
-    there.own.uc_stack.ss_sp = stack;
-    there.own.uc_stack.ss_size = sizeof stack;
-    there.own.uc_link = &there.back;
-    makecontext(&there.own, run, 0);
-    if (swapcontext(&there.back, &there.own) != 0) exit(2);
-    judge(line, "the stack", untouched(stack, WHOLE - MOST));
-}
-
 static bool is_unwritten(const struct answer *answer) {
     return answer->count == UNWRITTEN && untouched(answer->ip, sizeof answer->ip) &&
            untouched(answer->as, sizeof answer->as);
@@ -168,7 +146,7 @@ static void ask_well(const struct question *q, size_t capacity, rpki_status stat
     question.capacity = capacity;
     question.out = &answer;
     count_allocations(NONE_REFUSED);
-    on_stack(ask_there);
+    judge_stack(line, ask_there);
     many = allocations(&freed);
     judge(line, "the status", answer.status == status);
     judge(line, "what was allocated is freed", freed);
@@ -257,7 +235,7 @@ static void ask_without_memory(const char *word, struct question *q, char *rest)
     asked.word = word;
     asked.q = q;
     asked.seconds = seconds;
-    on_stack(ask_one);
+    judge_stack(line, ask_one);
     found = asked.found;
     judge(line, "memory", took_none());
     if (found != status) printf("found %u, wanted %lld: ", found, status);

@@ -54,14 +54,16 @@ class Maker:
                     home=b"rpki.example/repo/ca/ca.mft", access=None, above=(BASE + b"/ca/ca.crl", BASE + b"/ca.cer")):
         """A certificate of one of the five kinds, by this key; `ip` and `numbers` of None are the issuer's, `home` is
         where an authority's manifest is, `access` each method and URI in place of that, and `above` the URIs of the
-        issuer's list and certificate."""
+        issuer's list, of which there may be several or none, and of its certificate."""
         is_authority, key = kind in ("ta", "ca"), key or {"ta": self.top, "ca": self.own}.get(kind, self.end)
         public = self.point if kind == "router" else x509.rsa_key(key.bits)
         own = hashlib.sha1(self.point[-65:]).digest() if kind == "router" else key.identifier
         listed = [extension(x509.SUBJECT_KEY, tlv(4, identifier or own))]
         if kind != "ta":
             listed.append(authority(authority_key or by.identifier))
-            listed.append(extension(x509.REVOCATION, sequence(x509.point(uri(above[0])))))
+            names = above[0] if isinstance(above[0], tuple) else (above[0],)
+            if names:
+                listed.append(extension(x509.REVOCATION, sequence(x509.point(*map(uri, names)))))
             listed.append(extension(x509.AUTHORITY_ACCESS, x509.accesses((x509.CA_ISSUERS, uri(above[1])))))
         if is_authority:
             listed.append(extension(x509.CONSTRAINTS, IS_CA, TRUE))

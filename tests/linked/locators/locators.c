@@ -1,13 +1,14 @@
 /*
  * Reads the texts of the rows, which rows.py writes, as trust anchor locators, and compares statuses, lines, the URIs
  * and the key with theirs. What a call refuses leaves what it writes as it was; each allocation is refused in turn, and
- * no more is held than rpki.h promises.
+ * no more is held, and no more taken of the stack, than rpki.h promises.
  *
  * usage: locators ROWS
  */
 #include "../judging.h"
 #include "../memory.h"
 #include "../octets.h"
+#include "../stack.h"
 
 #include <stdio.h>
 #include <stdlib.h>
@@ -37,15 +38,28 @@ static rpki_status make(enum call call, size_t number, size_t capacity) {
     }
 }
 
-/* The same, with the memory that rpki.h promises; and each allocation refused: then there is none, or the call does
- * without it. */
+/* The call that is asked, and what it returns. */
+static struct {
+    enum call call;
+    size_t number, capacity;
+    rpki_status status;
+} asked;
+
+static void make_asked(void) { asked.status = make(asked.call, asked.number, asked.capacity); }
+
+/* The same, with the memory and the stack that rpki.h promises; and each allocation refused: then there is none, or the
+ * call does without it. */
 static rpki_status ask(unsigned line, enum call call, size_t number, size_t capacity) {
     bool freed, well = true;
     size_t many;
     rpki_status status, refused;
+    asked.call = call;
+    asked.number = number;
+    asked.capacity = capacity;
     count_allocations(NONE_REFUSED);
-    status = make(call, number, capacity);
+    judge_stack(line, make_asked);
     many = allocations(&freed);
+    status = asked.status;
     wanted = out;
     judge(line, "what was allocated is freed", freed);
     judge(line, "the memory that is promised", most_octets() <= 64 * text.size + 1024);

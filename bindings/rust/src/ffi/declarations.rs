@@ -42,6 +42,7 @@ pub(crate) const NO_LIST: Status = 45;
 pub(crate) const SAME_NAMES: Status = 46;
 pub(crate) const OTHER_LIST: Status = 47;
 pub(crate) const NO_MANIFEST: Status = 48;
+pub(crate) const OTHER_LIST_URI: Status = 49;
 pub(crate) const TOO_NEW: Status = 50;
 pub(crate) const TOO_OLD: Status = 51;
 pub(crate) const KEY_NOT_ACCEPTED: Status = 52;

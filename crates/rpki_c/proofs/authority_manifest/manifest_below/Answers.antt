@@ -1,8 +1,9 @@
-use Rattle.std.proofs.Common.{inl, inr, refl, sym, ◌∙◌}
+use Rattle.std.proofs.Common.{inl, inr, length, refl, sym, ◌∙◌}
 use Rattle.std.proofs.lemmas.Bool.{iff_false}
-use Rattle.rpki_contents.specs.FilesInPlace.{AreFiles}
-use Rattle.rpki_c.specs.AuthorityManifest.{IsManifestHeld}
+use Rattle.rpki_c.specs.AuthorityManifest.{IsHeldAs}
 use Rattle.rpki_c.proofs.CertificateLaws.{listed}
+use Rattle.rpki_c.proofs.ListingLaws.{named-list}
+use Rattle.rpki_c.proofs.ManifestLaws.{not-named}
 use Rattle.rpki_c.proofs.authority_manifest.manifest_below.Goals as goal
 
 pub returns-then-rpki_content_type-ne2 : goal.returns-then-rpki_content_type-ne2
@@ -33,13 +34,17 @@ returns-then-not-are_inherited c =
       ),
     )
 
-pub returns-in-Ok-manifest_held : goal.returns-in-Ok-manifest_held
-returns-in-Ok-manifest_held c =
+pub names_file-requires : goal.names_file-requires
+names_file-requires c =
+    let h = c.in-Ok-manifest_held.ensures in
+    rw h.list (named-list h.held.content.files h.held.list.file h.held.list.listed)
+
+pub returns-in-Ok-names_file : goal.returns-in-Ok-names_file
+returns-in-Ok-names_file c =
     let (x, at) = c.in-Ok.ensures.ok in
     let type = rw at.parts.content.content_type.octets at c.rpki_content_type.ensures in
     let said = c.are_inherited.ensures x.cert.tbs.extensions (listed at.parts.cert_parts) in
-    let (held, files) : (h : IsManifestHeld c.args.by.now x.content.content)
-    × AreFiles h.content.files c.in-Ok-manifest_held.files.octets.now =
+    let h : IsHeldAs c.args.by.now x.content.content c.in-Ok-manifest_held.held =
     rw at.parts.content.content.octets at c.in-Ok-manifest_held.ensures in (
       record {
         x = x;
@@ -48,9 +53,29 @@ returns-in-Ok-manifest_held c =
         known = c.in-Ok-signed_below.field-0;
         signed = c.in-Ok-signed_below.ensures c.args.strict c.args.octets.now x at;
         inherited = said.0 c.if-not-are_inherited.false;
-        held = held;
+        held = h.held;
+        named = rw h.list at c.in-Ok-names_file.ensures _ x.cert at.parts.cert_parts;
       },
-      files,
+      h.files,
+    )
+
+pub returns-in-Err-names_file : goal.returns-in-Err-names_file
+returns-in-Err-names_file c =
+    let (x, at) = c.in-Ok.ensures.ok in
+    let type = rw at.parts.content.content_type.octets at c.rpki_content_type.ensures in
+    let signed = c.in-Ok-signed_below.ensures c.args.strict c.args.octets.now x at in
+    let said = c.are_inherited.ensures x.cert.tbs.extensions (listed at.parts.cert_parts) in
+    let h : IsHeldAs c.args.by.now x.content.content c.in-Ok-manifest_held.held =
+    rw at.parts.content.content.octets at c.in-Ok-manifest_held.ensures in
+    let wrong = rw h.list at c.in-Err-names_file.ensures _ x.cert at.parts.cert_parts in
+    inr (
+      x,
+      at.spelled,
+      inr (
+        sym type ∙ c.if-rpki_content_type-ne2.false,
+        not-named c.args.by.now (length c.args.room.now) x c.in-Ok-signed_below.field-0 _ signed
+            (said.0 c.if-not-are_inherited.false) h.held c.in-Err-names_file.status wrong,
+      ),
     )
 
 pub returns-in-Err-manifest_held : goal.returns-in-Err-manifest_held
@@ -65,6 +90,6 @@ returns-in-Err-manifest_held c =
       at.spelled,
       inr (
         sym type ∙ c.if-rpki_content_type-ne2.false,
-        inr (c.in-Ok-signed_below.field-0, signed, inr (said.0 c.if-not-are_inherited.false, wrong)),
+        inr (c.in-Ok-signed_below.field-0, signed, inr (said.0 c.if-not-are_inherited.false, inl wrong)),
       ),
     )
